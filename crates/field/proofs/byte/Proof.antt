@@ -1,0 +1,21 @@
+use native.Mathlib.Omega.{arith}
+use mathlib.Core.Path.{refl}
+use Rattle.field.specs.Numbers.{byte-read, past-read}
+use borrow.Author.Needs.{needs}
+use Rattle.field.proofs.byte.Statement.{statement}
+use Rattle.field.proofs.byte.Tie as tie
+
+shared-slice-read-result : tie.Need-shared-slice-read-result
+shared-slice-read-result c = search needs
+
+cast-result : tie.Need-cast-result
+cast-result c = omega (arith, c .shared-slice-known .given (c .before .before .args .at))
+
+returns : tie.Need-returns
+returns c = byte-read _ _ _ refl (omega (arith, c .shared-slice-known .given (c .before .before .args .at)))
+
+returns-2 : tie.Need-returns-2
+returns-2 c = search past-read
+
+pub byte-spec : {M : Type 1} → statement M
+byte-spec = tie.close (tie.spec shared-slice-read-result cast-result returns returns-2)

@@ -1,0 +1,46 @@
+-- Bytes stored from an offset on: what a writer leaves in its buffer.
+-- Stores one after another are one store of the joined bytes (put-more); a store from the start leaves the bytes and what stood behind them (put-whole).
+use Prim.Native.Nat.{ℕ, zero, suc, _+_, _≤_, _<_}
+use mathlib.Core.Path.{_≡_, refl, sym, ap, _∙_}
+use mathlib.Core.List.{List, [], _∷_, _++_}
+use native.Mathlib.Nat.{add-zero}
+use native.Mathlib.Omega.{arith}
+use lib.ListN.{length, set, drop}
+use lib.Seq.{sets, sets-eq, length-sets}
+
+-- d with the bytes at the offset, and all others as they were
+unfoldable pub put : List ℕ → ℕ → List ℕ → List ℕ
+put d at bytes = sets d at bytes
+
+-- a buffer that begins with the bytes, and is as it was behind them
+unfoldable pub holding : List ℕ → List ℕ → List ℕ
+holding bytes d = bytes ++ drop (length bytes) d
+
+pub put-none : (d : List ℕ) (at : ℕ) → d ≡ put d at []
+unfolding put
+put-none d at = refl
+
+pub put-one : (d : List ℕ) (at byte : ℕ) → set d at byte ≡ put d at (byte ∷ [])
+unfolding put
+put-one d at byte = refl
+
+pub length-put : (d : List ℕ) (at : ℕ) (bytes : List ℕ) → length (put d at bytes) ≡ length d
+unfolding put
+length-put d at bytes = length-sets d at bytes
+
+pub put-more : (d : List ℕ) (at : ℕ) (xs ys : List ℕ) → put (put d at xs) (at + length xs) ys ≡ put d at (xs ++ ys)
+unfolding put
+put-more d at [] ys = ap (λ k. sets d k ys) (add-zero at)
+put-more d at (x ∷ xs) ys =
+    let e : at + suc (length xs) ≡ suc at + length xs = omega arith in
+    ap (λ k. sets (sets (set d at x) (suc at) xs) k ys) e ∙ put-more (set d at x) (suc at) xs ys
+
+pub put-whole : (d bytes : List ℕ) → length bytes ≤ length d → put d 0 bytes ≡ holding bytes d
+unfolding put holding
+put-whole d bytes h =
+    let e : 0 + length bytes ≡ length bytes = omega arith in
+    sets-eq bytes d 0 (omega arith) ∙ ap (λ k. bytes ++ drop k d) e
+
+pub holding-none : (d : List ℕ) → d ≡ holding [] d
+unfolding holding
+holding-none d = refl
