@@ -1,0 +1,61 @@
+-- The rules of the mosaic (01, "The three sets of rules"). Strips are numbered from 1.
+use Prim.Native.Nat.{ℕ, zero, suc, _+_, _-_, _*_, _≤_, _<_}
+use mathlib.Core.Path.{_≡_}
+use mathlib.Core.Bool.{cond}
+use mathlib.Core.List.{List, [], _∷_}
+use lib.ListN.{length, getD}
+use lib.Dec.{leb}
+use Rattle.sheet.specs.Limits.{ceiling}
+use Rattle.sheet.specs.declared.MosaicSection.{MosaicSection}
+use Rattle.rules.specs.Sums.{sumOver, greatestOver}
+use Rattle.rules.specs.declared.Batch.{Batch}
+
+-- "Each station works the strips in order from time 0 without pause": when station k (from 0) is done with the first j strips
+unfoldable pub stationSum : MosaicSection → ℕ → ℕ → ℕ
+stationSum m k j = sumOver j (λ i. getD (m .station) (4 * i + k) 0)
+
+-- "A strip is ready at the greatest, over the stations, of the sum of its own and all earlier station times": strip j
+unfoldable pub ready : MosaicSection → ℕ → ℕ
+ready m j = greatestOver (m .stations) (λ k. stationSum m k j)
+
+-- the bench times of so many strips after the first i
+unfoldable pub benchSum : MosaicSection → ℕ → ℕ → ℕ
+benchSum m i count = sumOver count (λ k. getD (m .bench) (i + k) 0)
+
+-- what stands before the first batch: no strip, finished at 0
+unfoldable pub noBatch : Batch
+noBatch = record { last = 0; start = 0; finish = 0 }
+
+-- batch i of a list, from 0, and the batch before it
+unfoldable pub batchAt : List Batch → ℕ → Batch
+batchAt bs i = getD bs i noBatch
+
+unfoldable pub batchBefore : List Batch → ℕ → Batch
+batchBefore bs zero = noBatch
+batchBefore bs (suc i) = batchAt bs i
+
+-- the strips of batch i: those after the last strip of the batch before, up to its own last strip
+unfoldable pub batchSize : List Batch → ℕ → ℕ
+batchSize bs i = batchAt bs i .last - batchBefore bs i .last
+
+-- a timetable of the mosaic
+pub record MosaicLawful (m : MosaicSection) (bs : List Batch) : Type 0 where
+  -- "Batches are runs of neighbouring strips that cover all in order."
+  pub runs : (i : ℕ) → i < length bs → batchBefore bs i .last < batchAt bs i .last
+  pub covers : batchBefore bs (length bs) .last ≡ m .strips
+  -- "A mount starts no earlier than the last strip of its batch is ready and the batch before has finished."
+  pub waits-strip : (i : ℕ) → i < length bs → ready m (batchAt bs i .last) ≤ batchAt bs i .start
+  pub waits-batch : (i : ℕ) → i < length bs → batchBefore bs i .finish ≤ batchAt bs i .start
+  -- "Finish = start + s + the batch's bench times."
+  pub finishes : (i : ℕ) → i < length bs → batchAt bs i .finish ≡ batchAt bs i .start + m .mount + benchSum m (batchBefore bs i .last) (batchSize bs i)
+  -- "all starts and finishes are whole numbers from 0 to 10,000,000"; no start is above its finish
+  pub within : (i : ℕ) → i < length bs → batchAt bs i .finish ≤ ceiling
+
+-- "A strip is complete when its batch finishes": strip j is of the first batch whose last strip is not before it
+unfoldable pub completion : List Batch → ℕ → ℕ
+completion [] j = 0
+completion (b ∷ bs) j = cond (leb j (b .last)) (b .finish) (completion bs j)
+
+-- "Figure: the sum of completions over strips."
+unfoldable pub mosaicFigure : MosaicSection → List Batch → ℕ
+mosaicFigure m bs = sumOver (m .strips) (λ j. completion bs (j + 1))

@@ -1,0 +1,34 @@
+-- The limits of a sheet and of the buffers (01, "The sheet", "Turned back").
+use Prim.Native.Nat.{ℕ}
+
+abbrev pub mostStations : ℕ
+mostStations = 4
+
+abbrev pub mostDesks : ℕ
+mostDesks = 3
+
+abbrev pub mostTime : ℕ
+mostTime = 10_000
+
+abbrev pub mostStrips : ℕ
+mostStrips = 40
+
+abbrev pub mostStripsOfDesk : ℕ
+mostStripsOfDesk = 6
+
+abbrev pub mostBlocks : ℕ
+mostBlocks = 32
+
+abbrev pub mostBlocksWithoutOrder : ℕ
+mostBlocksWithoutOrder = 8
+
+-- "In an allowed plan all starts and finishes are whole numbers from 0 to 10,000,000."
+abbrev pub ceiling : ℕ
+ceiling = 10_000_000
+
+-- the numbers of 64 bits that the working table must have, and the bytes that the plan buffer must have
+abbrev pub tableLength : ℕ
+tableLength = 6_400
+
+abbrev pub planLength : ℕ
+planLength = 1_095

@@ -1,0 +1,31 @@
+-- What holds of each section of a sheet that was read with number 0 (01, the table of "The sheet"). An absent section has no member.
+use Prim.Native.Nat.{ℕ, _+_, _*_, _≤_, _<_}
+use mathlib.Core.Path.{_≡_}
+use lib.ListN.{length, getD}
+use Rattle.sheet.specs.Limits.{mostStations, mostDesks, mostTime, mostStrips, mostStripsOfDesk}
+use Rattle.sheet.specs.declared.MosaicSection.{MosaicSection}
+use Rattle.sheet.specs.declared.SortingSection.{SortingSection}
+
+pub record MosaicSound (m : MosaicSection) : Type 0 where
+  pub most-stations : m .stations ≤ mostStations
+  pub most-mount : m .mount ≤ mostTime
+  pub most-strips : m .strips ≤ mostStrips
+  pub station-length : length (m .station) ≡ 160
+  pub bench-length : length (m .bench) ≡ 40
+  -- "0 means camera off"
+  pub most-station : (i : ℕ) → getD (m .station) i 0 ≤ mostTime
+  pub most-bench : (j : ℕ) → getD (m .bench) j 0 ≤ mostTime
+  pub least-bench : (j : ℕ) → j < m .strips → 1 ≤ getD (m .bench) j 0
+
+pub record SortingSound (s : SortingSection) : Type 0 where
+  pub most-desks : s .desks ≤ mostDesks
+  pub counts-length : length (s .counts) ≡ 3
+  pub scan-length : length (s .scan) ≡ 18
+  pub desk-length : length (s .desk) ≡ 18
+  -- "up to 6 per desk; a desk may have none"
+  pub most-strips : (d : ℕ) → getD (s .counts) d 0 ≤ mostStripsOfDesk
+  pub no-desk : (d : ℕ) → s .desks ≤ d → getD (s .counts) d 0 ≡ 0
+  pub most-scan : (i : ℕ) → getD (s .scan) i 0 ≤ mostTime
+  pub most-desk : (i : ℕ) → getD (s .desk) i 0 ≤ mostTime
+  pub least-scan : (d k : ℕ) → k < getD (s .counts) d 0 → 1 ≤ getD (s .scan) (6 * d + k) 0
+  pub least-desk : (d k : ℕ) → k < getD (s .counts) d 0 → 1 ≤ getD (s .desk) (6 * d + k) 0

@@ -1,0 +1,42 @@
+// The sheet: its limits, its refusal numbers, and its reader, which gives the number and place of a refusal or the decoded sheet.
+
+pub mod limits;
+pub mod numbers;
+pub mod tags;
+
+// The mosaic section. Station k of strip j, both from 0, stands at 4 j + k.
+pub struct MosaicSection {
+    pub stations: usize,
+    pub mount: u64,
+    pub strips: usize,
+    pub station: [u64; 160],
+    pub bench: [u64; 40],
+}
+
+// The sorting section. Strip k of desk d, both from 0, stands at 6 d + k.
+pub struct SortingSection {
+    pub desks: usize,
+    pub counts: [usize; 3],
+    pub scan: [u64; 18],
+    pub desk: [u64; 18],
+}
+
+// The flight section: first pass, delay and second pass of each block; the order number where one is given, and its field's place.
+pub struct FlightSection {
+    pub blocks: usize,
+    pub first: [u64; 32],
+    pub delay: [u64; 32],
+    pub second: [u64; 32],
+    pub ordered: bool,
+    pub order: u64,
+    pub place: usize,
+}
+
+// A sheet that was read: number 0 and its sections, of which an absent one has no member; or the number and place of its refusal and no section.
+pub struct Sheet {
+    pub number: u64,
+    pub place: usize,
+    pub mosaic: MosaicSection,
+    pub sorting: SortingSection,
+    pub flight: FlightSection,
+}
