@@ -54,7 +54,7 @@ seconds-half x k h = omega (arith, firsts-seconds x k)
 
 -- Longer beginnings have no fewer passes of either kind.
 seconds-grow : (x j d : ℕ) → (seconds x j ≤ seconds x (j + d)) × (seconds x (j + d) ≤ seconds x j + d)
-seconds-grow x j zero = rw add-zero (omega arith, omega arith)
+seconds-grow x j zero = rw (add-zero j) (omega arith, omega arith)
 seconds-grow x j (suc d) = go (seconds-grow x j d)
   where
     go : (seconds x j ≤ seconds x (j + d)) × (seconds x (j + d) ≤ seconds x j + d)

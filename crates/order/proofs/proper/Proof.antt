@@ -1,71 +1,68 @@
+-- `order::proper` meets its contract. The loop's invariant: every beginning below k passes was tried. The measure is what is left of the passes.
+-- Each refusal and the acceptance is a law on plain numbers.
+mod Tests
+use Prim.Native.Nat.{_-_}
+use borrow.Author.Needs.{needs}
+use Rattle.order.proofs.proper.Proof.Tests.{Tried, many-blocks, count-differs, low-count-differs, more-seconds, tried-none, tried-more, tried-all}
 use Rattle.order.proofs.proper.Statement.{statement}
 use Rattle.order.proofs.proper.Tie as tie
-use Rattle.order.proofs.proper.Reads as reads
-use Rattle.order.proofs.proper.Lts as lts
-use Rattle.order.proofs.firsts_before.Reads as firsts-before-reads
-use Rattle.order.proofs.seconds_before.Reads as seconds-before-reads
 
 abbrev Inv-loop : tie.InvT-loop
-Inv-loop n x passes k₀ k = ?
+Inv-loop n x passes k₀ k = Tried x k
 
 abbrev μ-loop : tie.MeasureT-loop
-μ-loop n x passes k₀ k = ?
+μ-loop n x passes k₀ k = passes - k
 
--- src/lib.rt:49:9
 returns : tie.Need-returns Inv-loop μ-loop
-returns c = ?
+returns c = search many-blocks
 
--- src/lib.rt:51:8
 seconds-before-requires : tie.Need-seconds-before-requires Inv-loop μ-loop
-seconds-before-requires c κs = ?
+seconds-before-requires c κs = search needs
 
--- src/lib.rt:52:9
 returns-2 : tie.Need-returns-2 Inv-loop μ-loop
-returns-2 c = ?
+returns-2 c = search count-differs
 
--- src/lib.rt:54:18
 mul-passes : tie.Need-mul-passes Inv-loop μ-loop
-mul-passes c = ?
+mul-passes c = search needs
 
--- src/lib.rt:55:8
 seconds-before-requires-2 : tie.Need-seconds-before-requires-2 Inv-loop μ-loop
-seconds-before-requires-2 c κs = ?
+seconds-before-requires-2 c κs = search needs
 
--- src/lib.rt:56:9
 returns-3 : tie.Need-returns-3 Inv-loop μ-loop
-returns-3 c = ?
+returns-3 c = search low-count-differs
 
--- src/lib.rt:58:5
 loop-holds : tie.Need-loop-holds Inv-loop μ-loop
-loop-holds c = ?
+loop-holds c = search tried-none
 
--- src/lib.rt:59:12
 firsts-before-requires : tie.Need-firsts-before-requires Inv-loop μ-loop
-firsts-before-requires c κs = ?
+firsts-before-requires c κs = search needs
 
--- src/lib.rt:59:34
 seconds-before-requires-3 : tie.Need-seconds-before-requires-3 Inv-loop μ-loop
-seconds-before-requires-3 c κs = ?
+seconds-before-requires-3 c κs = search needs
 
--- src/lib.rt:60:13
 returns-4 : tie.Need-returns-4 Inv-loop μ-loop
-returns-4 c = ?
+returns-4 c = search more-seconds
 
--- src/lib.rt:58:9
 add-k : tie.Need-add-k Inv-loop μ-loop
-add-k c = ?
+add-k c = search needs
 
--- src/lib.rt:58:5
 loop-less : tie.Need-loop-less Inv-loop μ-loop
-loop-less c = ?
+loop-less c = search needs
 
--- src/lib.rt:58:5
 loop-again : tie.Need-loop-again Inv-loop μ-loop
-loop-again c = ?
+loop-again c =
+    tried-more
+    _
+    _
+    _
+    _
+    (c .before .before .before .before .loop .inv)
+    (c .before .before .firsts-before .ensures)
+    (c .before .seconds-before3 .ensures)
+    (c .if4 .left)
 
--- src/lib.rt:45:1
 returns-5 : tie.Need-returns-5 Inv-loop μ-loop
-returns-5 c = ?
+returns-5 c = search tried-all
 
 pub proper-spec : {M : Type 1} → statement M
 proper-spec =

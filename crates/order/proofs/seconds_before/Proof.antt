@@ -1,32 +1,27 @@
+-- `order::seconds_before` meets its contract: the ones of the masked number are the second passes of its beginning,
+-- and those of the whole number are the second passes of every beginning of 64 passes or more.
 use borrow.Author.Needs.{needs}
+use Rattle.order.specs.Ones.{shifted-positive, ones-masked, ones-masked-fits, ones-whole, ones-fits}
 use Rattle.order.proofs.seconds_before.Statement.{statement}
 use Rattle.order.proofs.seconds_before.Tie as tie
-use Rattle.order.proofs.seconds_before.Reads as reads
-use Rattle.order.proofs.seconds_before.Lts as lts
 
--- src/lib.rt:22:31
 shl-result : tie.Need-shl-result
 shl-result c = search needs
 
--- src/lib.rt:22:30
 sub-result : tie.Need-sub-result
-sub-result c = ?
+sub-result c = shifted-positive (c .before .args .k) (c .if1 .taken)
 
--- src/lib.rt:22:9
 cast-result : tie.Need-cast-result
-cast-result c = ?
+cast-result c = record { fits = ones-masked-fits (c .before .args .x) (c .before .args .k) (c .if1 .taken) }
 
--- src/lib.rt:24:9
 cast-result-2 : tie.Need-cast-result-2
-cast-result-2 c = ?
+cast-result-2 c = record { fits = ones-fits (c .before .args .x) (c .before .fits .x .fits) }
 
--- src/lib.rt:18:1
 returns : tie.Need-returns
-returns c = ?
+returns c = ones-masked (c .before .args .x) (c .before .args .k) (c .if1 .taken)
 
--- src/lib.rt:18:1
 returns-2 : tie.Need-returns-2
-returns-2 c = ?
+returns-2 c = ones-whole (c .before .args .x) (c .before .args .k) (c .before .fits .x .fits) (c .if1 .left)
 
 pub seconds-before-spec : {M : Type 1} → statement M
 seconds-before-spec =
