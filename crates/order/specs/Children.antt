@@ -11,8 +11,26 @@ use lib.Pow.{pow-mono, pow-pos}
 use Rattle.order.specs.Order.{bit, seconds, firsts, Proper}
 use Rattle.order.specs.Beginning.{Beginning, Extends}
 use Rattle.order.specs.Seconds.{
-  bit-cases, seconds-zero, seconds-more, seconds-mono, firsts-seconds, firsts-more, firsts-mono, bit-mod, seconds-mod, mod-more, mod-shorter,
-  bit-first, bit-second, mod-second, seconds-before-second, firsts-before-second, seconds-first, firsts-first, seconds-second, firsts-second
+  bit-cases,
+  seconds-zero,
+  seconds-more,
+  seconds-mono,
+  firsts-seconds,
+  firsts-more,
+  firsts-mono,
+  bit-mod,
+  seconds-mod,
+  mod-more,
+  mod-shorter,
+  bit-first,
+  bit-second,
+  mod-second,
+  seconds-before-second,
+  firsts-before-second,
+  seconds-first,
+  firsts-first,
+  seconds-second,
+  firsts-second,
 }
 
 double : (k : ℕ) → 2 ^ (k + 1) ≡ 2 * 2 ^ k

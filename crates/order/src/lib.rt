@@ -5,6 +5,7 @@ ghost use Rattle.order.specs.Order.{bit, seconds, firsts, isProper};
 
 // The bits of an order number, and the blocks whose passes fill them.
 const BITS: u64 = 64;
+
 const BLOCKS: u64 = 32;
 
 // The pass at position k, from 0: 1 for a second pass, 0 for a first pass.

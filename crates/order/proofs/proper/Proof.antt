@@ -2,6 +2,7 @@
 -- Each refusal and the acceptance is a law on plain numbers.
 mod Tests
 use Prim.Native.Nat.{_-_}
+use native.Mathlib.Omega.{arith}
 use borrow.Author.Needs.{needs}
 use Rattle.order.proofs.proper.Proof.Tests.{Tried, many-blocks, count-differs, low-count-differs, more-seconds, tried-none, tried-more, tried-all}
 use Rattle.order.proofs.proper.Statement.{statement}
@@ -14,13 +15,13 @@ abbrev μ-loop : tie.MeasureT-loop
 μ-loop n x passes k₀ k = passes - k
 
 returns : tie.Need-returns Inv-loop μ-loop
-returns c = search many-blocks
+returns c = search (many-blocks, arith)
 
 seconds-before-requires : tie.Need-seconds-before-requires Inv-loop μ-loop
 seconds-before-requires c κs = search needs
 
 returns-2 : tie.Need-returns-2 Inv-loop μ-loop
-returns-2 c = search count-differs
+returns-2 c = search (count-differs, arith)
 
 mul-passes : tie.Need-mul-passes Inv-loop μ-loop
 mul-passes c = search needs
@@ -29,7 +30,7 @@ seconds-before-requires-2 : tie.Need-seconds-before-requires-2 Inv-loop μ-loop
 seconds-before-requires-2 c κs = search needs
 
 returns-3 : tie.Need-returns-3 Inv-loop μ-loop
-returns-3 c = search low-count-differs
+returns-3 c = search (low-count-differs, arith)
 
 loop-holds : tie.Need-loop-holds Inv-loop μ-loop
 loop-holds c = search tried-none
@@ -41,7 +42,7 @@ seconds-before-requires-3 : tie.Need-seconds-before-requires-3 Inv-loop μ-loop
 seconds-before-requires-3 c κs = search needs
 
 returns-4 : tie.Need-returns-4 Inv-loop μ-loop
-returns-4 c = search more-seconds
+returns-4 c = search (more-seconds, arith)
 
 add-k : tie.Need-add-k Inv-loop μ-loop
 add-k c = search needs
@@ -62,7 +63,7 @@ loop-again c =
     (c .if4 .left)
 
 returns-5 : tie.Need-returns-5 Inv-loop μ-loop
-returns-5 c = search tried-all
+returns-5 c = search (tried-all, arith)
 
 pub proper-spec : {M : Type 1} → statement M
 proper-spec =
