@@ -1,0 +1,7 @@
+pub mod Order
+pub mod Beginning
+pub mod Seconds
+pub mod Ones
+pub mod Decided
+pub mod Children
+pub mod Examples
