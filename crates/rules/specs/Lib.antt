@@ -2,3 +2,4 @@
 pub mod Sums
 pub mod Mosaic
 pub mod Sorting
+pub mod Flight

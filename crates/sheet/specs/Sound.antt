@@ -1,10 +1,13 @@
 -- What holds of each section of a sheet that was read with number 0 (01, the table of "The sheet"). An absent section has no member.
 use Prim.Native.Nat.{ℕ, _+_, _*_, _≤_, _<_}
 use mathlib.Core.Path.{_≡_}
+use mathlib.Core.Bool.{true, false}
 use lib.ListN.{length, getD}
-use Rattle.sheet.specs.Limits.{mostStations, mostDesks, mostTime, mostStrips, mostStripsOfDesk}
+use Rattle.sheet.specs.Limits.{mostStations, mostDesks, mostTime, mostStrips, mostStripsOfDesk, mostBlocks, mostBlocksWithoutOrder}
+use Rattle.order.specs.Order.{Proper}
 use Rattle.sheet.specs.declared.MosaicSection.{MosaicSection}
 use Rattle.sheet.specs.declared.SortingSection.{SortingSection}
+use Rattle.sheet.specs.declared.FlightSection.{FlightSection}
 
 pub record MosaicSound (m : MosaicSection) : Type 0 where
   pub most-stations : m .stations ≤ mostStations
@@ -29,3 +32,17 @@ pub record SortingSound (s : SortingSection) : Type 0 where
   pub most-desk : (i : ℕ) → getD (s .desk) i 0 ≤ mostTime
   pub least-scan : (d k : ℕ) → k < getD (s .counts) d 0 → 1 ≤ getD (s .scan) (6 * d + k) 0
   pub least-desk : (d k : ℕ) → k < getD (s .counts) d 0 → 1 ≤ getD (s .desk) (6 * d + k) 0
+
+pub record FlightSound (f : FlightSection) : Type 0 where
+  pub most-blocks : f .blocks ≤ mostBlocks
+  pub first-length : length (f .first) ≡ 32
+  pub delay-length : length (f .delay) ≡ 32
+  pub second-length : length (f .second) ≡ 32
+  pub most-first : (i : ℕ) → getD (f .first) i 0 ≤ mostTime
+  pub most-delay : (i : ℕ) → getD (f .delay) i 0 ≤ mostTime
+  pub most-second : (i : ℕ) → getD (f .second) i 0 ≤ mostTime
+  pub least-first : (i : ℕ) → i < f .blocks → 1 ≤ getD (f .first) i 0
+  pub least-second : (i : ℕ) → i < f .blocks → 1 ≤ getD (f .second) i 0
+  pub given : f .ordered ≡ true → Proper (f .blocks) (f .order)
+  -- "Without it there may be at most 8 blocks."
+  pub free : f .ordered ≡ false → f .blocks ≤ mostBlocksWithoutOrder

@@ -1,0 +1,56 @@
+-- The rules of the flight (01, "The three sets of rules", and "The sheet" for the order number).
+use Prim.Native.Nat.{ℕ, _+_, _-_, _*_, _≤_, _<_}
+use mathlib.Core.Path.{_≡_}
+use mathlib.Core.Bool.{true, cond}
+use mathlib.Core.List.{List}
+use lib.ListN.{length, getD}
+use lib.Dec.{ltb, eqb}
+use Rattle.order.specs.Order.{bit, seconds, firsts, Proper}
+use Rattle.sheet.specs.Limits.{ceiling}
+use Rattle.sheet.specs.declared.FlightSection.{FlightSection}
+use Rattle.rules.specs.Sums.{greatestOver}
+use Rattle.rules.specs.declared.Passes.{Passes}
+
+-- the starts of block i, from 0
+unfoldable pub noPasses : Passes
+noPasses = record { first = 0; second = 0 }
+
+unfoldable pub passesAt : List Passes → ℕ → Passes
+passesAt ps i = getD ps i noPasses
+
+-- The passes of n blocks are numbered: the first pass of block i is pass i, its second pass is pass n + i.
+unfoldable pub passStart : FlightSection → List Passes → ℕ → ℕ
+passStart f ps p = cond (ltb p (f .blocks)) (passesAt ps p .first) (passesAt ps (p - f .blocks) .second)
+
+unfoldable pub passTime : FlightSection → ℕ → ℕ
+passTime f p = cond (ltb p (f .blocks)) (getD (f .first) p 0) (getD (f .second) (p - f .blocks) 0)
+
+unfoldable pub passEnd : FlightSection → List Passes → ℕ → ℕ
+passEnd f ps p = passStart f ps p + passTime f p
+
+-- a timetable of the flight
+pub record FlightLawful (f : FlightSection) (ps : List Passes) : Type 0 where
+  pub every-block : length ps ≡ f .blocks
+  -- "A second pass starts exactly l after its first ends."
+  pub exact-delay : (i : ℕ) → i < f .blocks → passesAt ps i .second ≡ passesAt ps i .first + getD (f .first) i 0 + getD (f .delay) i 0
+  -- "No two passes overlap; one may start the second another ends."
+  pub apart : (p q : ℕ) → p < 2 * f .blocks → q < 2 * f .blocks → (p ≡ q → ⊥) → (passEnd f ps p ≤ passStart f ps q) ⊎ (passEnd f ps q ≤ passStart f ps p)
+  -- "all starts and finishes are whole numbers from 0 to 10,000,000"
+  pub within : (p : ℕ) → p < 2 * f .blocks → passEnd f ps p ≤ ceiling
+
+-- the pass that an order number has at position k: "a 1 is a second pass, a 0 a first pass. .. First passes take the blocks in sheet order, and so do second passes."
+unfoldable pub passAt : FlightSection → ℕ → ℕ → ℕ
+passAt f order k = cond (eqb (bit order k) 1) (f .blocks + seconds order k) (firsts order k)
+
+-- "a flight timetable keeps an order where its passes, taken by start, come in that order"
+pub record Keeps (f : FlightSection) (order : ℕ) (ps : List Passes) : Type 0 where
+  pub by-start : (j k : ℕ) → j < k → k < 2 * f .blocks → passStart f ps (passAt f order j) < passStart f ps (passAt f order k)
+
+-- "A given order must be kept; otherwise any proper order may be chosen."
+pub record OrderAllowed (f : FlightSection) (order : ℕ) : Type 0 where
+  pub proper : Proper (f .blocks) order
+  pub as-given : f .ordered ≡ true → order ≡ f .order
+
+-- "Figure: the end of the last pass."
+unfoldable pub flightFigure : FlightSection → List Passes → ℕ
+flightFigure f ps = greatestOver (2 * f .blocks) (λ p. passEnd f ps p)
