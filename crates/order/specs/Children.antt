@@ -21,6 +21,7 @@ use Rattle.order.specs.Seconds.{
   bit-mod,
   seconds-mod,
   mod-more,
+  pow-more,
   mod-shorter,
   bit-first,
   bit-second,
@@ -32,9 +33,6 @@ use Rattle.order.specs.Seconds.{
   seconds-second,
   firsts-second,
 }
-
-double : (k : ℕ) → 2 ^ (k + 1) ≡ 2 * 2 ^ k
-double k = rw (add-one k) (omega (arith, pow-suc 2 k))
 
 -- What holds of every beginning up to k and of that of k + 1 passes.
 up-to-more : (x k : ℕ) → ((j : ℕ) → j ≤ k → seconds x j ≤ firsts x j) → seconds x (k + 1) ≤ firsts x (k + 1)
@@ -62,7 +60,7 @@ module _ {n k x : ℕ} (b : Beginning n k x) where
   pub first-child : firsts x k < n → Beginning n (k + 1) x
   first-child l = record {
     within = omega (arith, firsts-seconds x k, b .beginnings k (omega arith));
-    no-higher = omega (arith, double k);
+    no-higher = omega (arith, pow-more k);
     first-passes = omega (arith, firsts-first x k (b .no-higher));
     beginnings = up-to-more x k (b .beginnings) (omega (arith, seconds-first x k (b .no-higher), firsts-first x k (b .no-higher), b .beginnings k (omega arith)));
   }
@@ -71,7 +69,7 @@ module _ {n k x : ℕ} (b : Beginning n k x) where
   pub second-child : seconds x k < firsts x k → Beginning n (k + 1) (x + 2 ^ k)
   second-child l = record {
     within = omega (arith, firsts-seconds x k);
-    no-higher = omega (arith, double k);
+    no-higher = omega (arith, pow-more k);
     first-passes = omega (arith, firsts-second x k (b .no-higher));
     beginnings = up-to-more (x + 2 ^ k) k before (omega (arith, seconds-second x k (b .no-higher), firsts-second x k (b .no-higher)));
   }

@@ -3,7 +3,7 @@
 use mathlib.Core.Path.{_≡_, refl, sym, ap, ap₂, _∙_}
 use mathlib.Core.Logic.{_⊎_, inl, inr}
 use Prim.Native.Nat.{ℕ, zero, suc, _+_, _-_, _*_, _/_, _%_, _^_, _≤_, _<_}
-use native.Mathlib.Nat.{mod-lt, lt-of-lt-of-le, mod-eq-of-lt, div-eq-of-lt, add-comm, add-zero, add-suc, zero-mul}
+use native.Mathlib.Nat.{mod-lt, lt-of-lt-of-le, mod-eq-of-lt, div-eq-of-lt, add-comm, add-zero, add-suc, zero-mul, pow-suc}
 use native.Mathlib.Numerals.{add-one}
 use native.Mathlib.Omega.{arith}
 use lib.Pow.{field, high, low, mod-mod-pow, mod-pow-add, pow-pos, pow-mono}
@@ -90,6 +90,9 @@ seconds-mod w k (suc j) l =
 
 pub mod-more : (w k : ℕ) → w % 2 ^ (k + 1) ≡ bit w k * 2 ^ k + w % 2 ^ k
 mod-more w k = ap (λ (j : ℕ). w % 2 ^ j) (add-comm k 1) ∙ mod-pow-add w 1 k
+
+pub pow-more : (k : ℕ) → 2 ^ (k + 1) ≡ 2 * 2 ^ k
+pow-more k = rw (add-one k) (omega (arith, pow-suc 2 k))
 
 pub mod-shorter : (w k j : ℕ) → j ≤ k → w % 2 ^ k % 2 ^ j ≡ w % 2 ^ j
 mod-shorter w k j l = ap (λ (m : ℕ). w % 2 ^ m % 2 ^ j) (sym e) ∙ mod-mod-pow w (k - j) j
