@@ -4,5 +4,6 @@ pub mod Seconds
 pub mod Ones
 pub mod Decided
 pub mod Word
+pub mod Blocks
 pub mod Children
 pub mod Examples

@@ -5,7 +5,7 @@ use native.Mathlib.Nat.{mod-lt, mod-one, mod-eq-of-lt, lt-of-lt-of-le, one-mul}
 use native.Mathlib.Numerals.{add-one}
 use native.Mathlib.Omega.{arith}
 use lib.Count.{ones, ones-cat, ones-le}
-use lib.Bits.{bitAnd, and-mask, mask-lt}
+use lib.Bits.{bitAnd, and-mask}
 use lib.Pow.{pow-lt, pow-mono, pow-pos}
 use Rattle.order.specs.Order.{bit, seconds}
 use Rattle.order.specs.Seconds.{bit-lt, seconds-zero, seconds-suc, seconds-le, mod-more, pow-more}

@@ -5,6 +5,7 @@ use mathlib.Core.Logic.{_⊎_, inl, inr}
 use Prim.Native.Nat.{ℕ, zero, suc, _+_, _-_, _*_, _/_, _%_, _^_, _≤_, _<_}
 use native.Mathlib.Nat.{mod-lt, lt-of-lt-of-le, mod-eq-of-lt, div-eq-of-lt, add-comm, add-zero, add-suc, zero-mul, pow-suc}
 use native.Mathlib.Numerals.{add-one}
+use native.Mathlib.Decide.{ℕ-discrete}
 use native.Mathlib.Omega.{arith}
 use lib.Pow.{field, high, low, mod-mod-pow, mod-pow-add, pow-pos, pow-mono}
 use Rattle.order.specs.Order.{bit, seconds, firsts}
@@ -51,6 +52,21 @@ half-seconds x k h = omega (arith, firsts-seconds x k)
 
 pub seconds-half : (x k : ℕ) → 2 * seconds x k ≤ k → seconds x k ≤ firsts x k
 seconds-half x k h = omega (arith, firsts-seconds x k)
+
+-- Beginnings with no more second than first passes: that of no pass, and one pass more.
+pub no-pass : (x j : ℕ) → j < 1 → seconds x j ≤ firsts x j
+no-pass x j l = rw (none, seconds-zero) (omega arith)
+  where
+    none : j ≡ 0
+    none = omega arith
+
+pub one-pass-more : (x k : ℕ) → ((j : ℕ) → j ≤ k → seconds x j ≤ firsts x j) → seconds x (k + 1) ≤ firsts x (k + 1)
+    → (j : ℕ) → j ≤ k + 1 → seconds x j ≤ firsts x j
+one-pass-more x k f last j l = go (ℕ-discrete j (k + 1))
+  where
+    go : Dec (j ≡ k + 1) → seconds x j ≤ firsts x j
+    go (yes w) = rw w last
+    go (no ne) = f j (omega arith)
 
 -- Longer beginnings have no fewer passes of either kind.
 seconds-grow : (x j d : ℕ) → (seconds x j ≤ seconds x (j + d)) × (seconds x (j + d) ≤ seconds x j + d)

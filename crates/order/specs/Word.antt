@@ -6,7 +6,7 @@ use native.Mathlib.Nat.{lt-of-lt-of-le}
 use native.Mathlib.Decide.{decLt}
 use native.Mathlib.Omega.{arith}
 use lib.Pow.{pow-mono}
-use Rattle.order.specs.Order.{seconds, firsts, Proper}
+use Rattle.order.specs.Order.{seconds, Proper}
 use Rattle.order.specs.Seconds.{seconds-above, firsts-seconds}
 
 pub proper-fits : {n x : ℕ} → Proper n x → n ≤ 32 → x < 2 ^ 64

@@ -6,8 +6,8 @@ use Prim.Native.Nat.{ℕ, _+_, _-_, _*_, _^_, _≤_, _<_}
 use native.Mathlib.Decide.{decLt}
 use native.Mathlib.Omega.{arith}
 use borrow.Author.Count.{below-more}
-use Rattle.order.specs.Order.{seconds, firsts, Proper, isProper}
-use Rattle.order.specs.Seconds.{seconds-zero, seconds-flat, firsts-seconds}
+use Rattle.order.specs.Order.{seconds, firsts, isProper}
+use Rattle.order.specs.Seconds.{no-pass, seconds-flat, firsts-seconds}
 use Rattle.order.specs.Decided.{true-proper}
 
 -- No beginning below k passes has more second than first passes.
@@ -15,10 +15,7 @@ pub record Tried (x k : ℕ) : Type 0 where
   pub tried : (j : ℕ) → j < k → seconds x j ≤ firsts x j
 
 pub tried-none : (x : ℕ) → Tried x 1
-tried-none x = record { tried = λ j l. none j (omega arith) }
-  where
-    none : (j : ℕ) → j ≡ 0 → seconds x j ≤ firsts x j
-    none j e = rw (e, seconds-zero) (omega arith)
+tried-none x = record { tried = no-pass x }
 
 pub tried-more : (x k f s : ℕ) → Tried x k → f ≡ firsts x k → s ≡ seconds x k → s ≤ f → Tried x (k + 1)
 tried-more x k f s t a b h = record { tried = below-more (λ j. seconds x j ≤ firsts x j) k (t .tried) (omega arith) }
