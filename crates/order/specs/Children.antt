@@ -1,49 +1,16 @@
 -- Laws for a search over pass orders: a beginning of k passes has up to two children, x (a first pass next) and x + 2 ^ k (a second pass next),
 -- a beginning of 2n passes is a proper order, and every proper order goes on through exactly one possible child of each of its beginnings.
-use mathlib.Core.Path.{_≡_, refl, sym, ap, _∙_}
+use mathlib.Core.Path.{_≡_, sym, ap, _∙_}
 use mathlib.Core.Logic.{_⊎_, inl, inr}
-use Prim.Native.Nat.{ℕ, zero, suc, _+_, _-_, _*_, _%_, _^_, _≤_, _<_}
-use native.Mathlib.Nat.{lt-of-lt-of-le, mod-lt, mod-one, mod-eq-of-lt, zero-mul, one-mul, pow-suc}
-use native.Mathlib.Numerals.{add-one}
-use native.Mathlib.Decide.{decLt, ℕ-discrete}
+use Prim.Native.Nat.{ℕ, _+_, _*_, _%_, _^_, _≤_, _<_}
+use native.Mathlib.Nat.{lt-of-lt-of-le, mod-lt, mod-one, mod-eq-of-lt, zero-mul, one-mul}
+use native.Mathlib.Decide.{decLt}
 use native.Mathlib.Omega.{arith}
 use lib.Pow.{pow-mono, pow-pos}
 use Rattle.order.specs.Order.{bit, seconds, firsts, Proper}
-use Rattle.order.specs.Beginning.{Beginning, Extends}
-use Rattle.order.specs.Seconds.{
-  bit-cases,
-  seconds-zero,
-  seconds-more,
-  seconds-mono,
-  firsts-seconds,
-  firsts-more,
-  firsts-mono,
-  bit-mod,
-  seconds-mod,
-  mod-more,
-  mod-shorter,
-  bit-first,
-  bit-second,
-  mod-second,
-  seconds-before-second,
-  firsts-before-second,
-  seconds-first,
-  firsts-first,
-  seconds-second,
-  firsts-second,
-}
-
-double : (k : ℕ) → 2 ^ (k + 1) ≡ 2 * 2 ^ k
-double k = rw (add-one k) (omega (arith, pow-suc 2 k))
-
--- What holds of every beginning up to k and of that of k + 1 passes.
-up-to-more : (x k : ℕ) → ((j : ℕ) → j ≤ k → seconds x j ≤ firsts x j) → seconds x (k + 1) ≤ firsts x (k + 1)
-    → (j : ℕ) → j ≤ k + 1 → seconds x j ≤ firsts x j
-up-to-more x k f last j l = go (ℕ-discrete j (k + 1))
-  where
-    go : Dec (j ≡ k + 1) → seconds x j ≤ firsts x j
-    go (yes w) = rw w last
-    go (no ne) = f j (omega arith)
+use Rattle.order.specs.Beginning.{Beginning, Extends, Through, by-first, by-second}
+use Rattle.order.specs.Blocks.{proper-firsts, proper-first, proper-second}
+use Rattle.order.specs.Seconds.{bit-cases, no-pass, one-pass-more, firsts-seconds, bit-mod, seconds-mod, mod-more, pow-more, mod-shorter, mod-second, seconds-before-second, firsts-before-second, seconds-first, firsts-first, seconds-second, firsts-second}
 
 -- The root of the search.
 pub beginning-empty : (n : ℕ) → Beginning n 0 0
@@ -51,29 +18,26 @@ beginning-empty n = record {
   within = omega arith;
   no-higher = omega arith;
   first-passes = omega (arith, firsts-seconds 0 0);
-  beginnings = λ j l. none j (omega arith);
+  beginnings = λ j l. no-pass 0 j (omega arith);
 }
-  where
-    none : (j : ℕ) → j ≡ 0 → seconds 0 j ≤ firsts 0 j
-    none j e = rw (e, seconds-zero) (omega arith)
 
 module _ {n k x : ℕ} (b : Beginning n k x) where
   -- A first pass next.
   pub first-child : firsts x k < n → Beginning n (k + 1) x
   first-child l = record {
     within = omega (arith, firsts-seconds x k, b .beginnings k (omega arith));
-    no-higher = omega (arith, double k);
+    no-higher = omega (arith, pow-more k);
     first-passes = omega (arith, firsts-first x k (b .no-higher));
-    beginnings = up-to-more x k (b .beginnings) (omega (arith, seconds-first x k (b .no-higher), firsts-first x k (b .no-higher), b .beginnings k (omega arith)));
+    beginnings = one-pass-more x k (b .beginnings) (omega (arith, seconds-first x k (b .no-higher), firsts-first x k (b .no-higher), b .beginnings k (omega arith)));
   }
 
   -- A second pass next.
   pub second-child : seconds x k < firsts x k → Beginning n (k + 1) (x + 2 ^ k)
   second-child l = record {
     within = omega (arith, firsts-seconds x k);
-    no-higher = omega (arith, double k);
+    no-higher = omega (arith, pow-more k);
     first-passes = omega (arith, firsts-second x k (b .no-higher));
-    beginnings = up-to-more (x + 2 ^ k) k before (omega (arith, seconds-second x k (b .no-higher), firsts-second x k (b .no-higher)));
+    beginnings = one-pass-more (x + 2 ^ k) k before (omega (arith, seconds-second x k (b .no-higher), firsts-second x k (b .no-higher)));
   }
     where
       before : (j : ℕ) → j ≤ k → seconds (x + 2 ^ k) j ≤ firsts (x + 2 ^ k) j
@@ -132,7 +96,7 @@ pub proper-beginning : {n w k x : ℕ} → Proper n w → k ≤ 2 * n → Extend
 proper-beginning {n} {w} {k} {x} p l e = record {
   within = l;
   no-higher = rw (e .begins) at (mod-lt w (pow-pos k));
-  first-passes = omega (arith, extends-firsts e k (omega arith), firsts-mono w k (2 * n) l, firsts-seconds w (2 * n), p .exactly);
+  first-passes = rw (extends-firsts e k (omega arith)) at (proper-firsts p k l);
   beginnings = λ j q. rw (extends-seconds e j q, extends-firsts e j q) at (p .beginnings j (omega arith));
 }
 
@@ -157,20 +121,13 @@ second-parent w k x h e = rw (mod-second x k h) at (extends-shorter e k (omega a
 pub one-child : (w k x : ℕ) → Extends w (k + 1) x → Extends w (k + 1) (x + 2 ^ k) → ⊥
 one-child w k x a b = omega (arith, a .begins, b .begins, pow-pos k)
 
--- The child through which a proper order goes on.
-pub data Through (n w k x : ℕ) : Type 0 where
-  by-first : firsts x k < n → Extends w (k + 1) x → Through n w k x
-  by-second : seconds x k < firsts x k → Extends w (k + 1) (x + 2 ^ k) → Through n w k x
-
+-- A proper order goes on through a possible child of each of its beginnings.
 pub through-child : {n w k x : ℕ} → Proper n w → k < 2 * n → Extends w k x → Through n w k x
 through-child {n} {w} {k} {x} p l e = go (bit-cases w k)
   where
     go : (bit w k ≡ 0) ⊎ (bit w k ≡ 1) → Through n w k x
-    go (inl z) = by-first room (extends-first e z)
-      where
-        room : firsts x k < n
-        room = omega (arith, z, firsts-more w k, firsts-mono w (k + 1) (2 * n) (omega arith), firsts-seconds w (2 * n), p .exactly, extends-firsts e k (omega arith))
-    go (inr z) = by-second room (extends-second e z)
-      where
-        room : seconds x k < firsts x k
-        room = omega (arith, z, seconds-more w k, firsts-more w k, p .beginnings (k + 1) (omega arith), extends-seconds e k (omega arith), extends-firsts e k (omega arith))
+    go (inl z) = by-first (rw (extends-firsts e k (omega arith)) at (proper-first p k l z)) (extends-first e z)
+    go (inr z) =
+        by-second
+        (rw (extends-seconds e k (omega arith), extends-firsts e k (omega arith)) at (proper-second p k l z))
+        (extends-second e z)

@@ -1,13 +1,13 @@
 -- The test `isProper` decides `Proper`: each of its three parts decides one field.
 use mathlib.Core.Path.{_≡_, refl, sym, _∙_}
 use mathlib.Core.Bool.{Bool, true, false, _&&_, true≢false}
-use Prim.Native.Nat.{ℕ, zero, suc, _+_, _*_, _^_, _≤_, _<_}
-use native.Mathlib.Decide.{ℕ-discrete}
+use Prim.Native.Nat.{ℕ, zero, suc, _*_, _^_, _≤_}
+use native.Mathlib.Numerals.{add-one}
 use native.Mathlib.Omega.{arith}
 use lib.Dec.{ltb, leb, eqb}
 use borrow.Author.Tests.{lt-ltb, le-leb, eq-eqb, ltb-true, leb-true, eqb-true}
 use Rattle.order.specs.Order.{seconds, firsts, Proper, neverMoreSeconds, isProper, Decides}
-use Rattle.order.specs.Seconds.{seconds-zero}
+use Rattle.order.specs.Seconds.{no-pass, one-pass-more}
 
 both : (a b : Bool) → a && b ≡ true → (a ≡ true) × (b ≡ true)
 both true b e = (refl, e)
@@ -15,18 +15,11 @@ both false b e = absurd (true≢false (sym e))
 
 never-true : (x k : ℕ) → neverMoreSeconds x k ≡ true → (j : ℕ) → j ≤ k → seconds x j ≤ firsts x j
 unfolding neverMoreSeconds
-never-true x zero e j l = rw (none, seconds-zero) (omega arith)
-  where
-    none : j ≡ 0
-    none = omega arith
-never-true x (suc k) e j l = go (ℕ-discrete j (suc k)) (never-true x k (parts .1) j)
+never-true x zero e j l = no-pass x j (omega arith)
+never-true x (suc k) e j l = one-pass-more x k (never-true x k (parts .1)) (rw (add-one k) (leb-true _ _ (parts .0))) j (omega arith)
   where
     parts : (leb (seconds x (suc k)) (firsts x (suc k)) ≡ true) × (neverMoreSeconds x k ≡ true)
     parts = both _ _ e
-
-    go : Dec (j ≡ suc k) → (j ≤ k → seconds x j ≤ firsts x j) → seconds x j ≤ firsts x j
-    go (yes w) f = rw w (leb-true _ _ (parts .0))
-    go (no ne) f = f (omega arith)
 
 never-holds : (x k : ℕ) → ((j : ℕ) → j ≤ k → seconds x j ≤ firsts x j) → neverMoreSeconds x k ≡ true
 unfolding neverMoreSeconds

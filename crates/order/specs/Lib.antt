@@ -3,5 +3,7 @@ pub mod Beginning
 pub mod Seconds
 pub mod Ones
 pub mod Decided
+pub mod Word
+pub mod Blocks
 pub mod Children
 pub mod Examples

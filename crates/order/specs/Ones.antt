@@ -5,10 +5,10 @@ use native.Mathlib.Nat.{mod-lt, mod-one, mod-eq-of-lt, lt-of-lt-of-le, one-mul}
 use native.Mathlib.Numerals.{add-one}
 use native.Mathlib.Omega.{arith}
 use lib.Count.{ones, ones-cat, ones-le}
-use lib.Bits.{bitAnd, and-mask, mask-lt}
+use lib.Bits.{bitAnd, and-mask}
 use lib.Pow.{pow-lt, pow-mono, pow-pos}
 use Rattle.order.specs.Order.{bit, seconds}
-use Rattle.order.specs.Seconds.{bit-lt, seconds-zero, seconds-suc, seconds-le, mod-more, bit-above}
+use Rattle.order.specs.Seconds.{bit-lt, seconds-zero, seconds-suc, seconds-le, mod-more, pow-more}
 
 ones-bit : (b : ℕ) → b < 2 → ones b ≡ b
 unfolding ones
@@ -51,7 +51,4 @@ ones-fits x h = omega (arith, ones-le 64 x h)
 
 -- The code's `x + (1 << k)`.
 pub second-fits : (x k : ℕ) → k < 64 → x < 2 ^ k → x + (1 * 2 ^ k) % 2 ^ 64 < 2 ^ 64
-second-fits x k h l = rw (shifted-one k h) (omega (arith, double, pow-mono {i = k + 1} {j = 64} (omega arith)))
-  where
-    double : 2 ^ (k + 1) ≡ 2 * 2 ^ k
-    double = rw (add-one k) (omega (arith, native.Mathlib.Nat.pow-suc 2 k))
+second-fits x k h l = rw (shifted-one k h) (omega (arith, pow-more k, pow-mono {i = k + 1} {j = 64} (omega arith)))

@@ -3,8 +3,9 @@
 use mathlib.Core.Path.{_≡_, refl, sym, ap, ap₂, _∙_}
 use mathlib.Core.Logic.{_⊎_, inl, inr}
 use Prim.Native.Nat.{ℕ, zero, suc, _+_, _-_, _*_, _/_, _%_, _^_, _≤_, _<_}
-use native.Mathlib.Nat.{mod-lt, lt-of-lt-of-le, mod-eq-of-lt, div-eq-of-lt, add-comm, add-zero, add-suc, zero-mul}
+use native.Mathlib.Nat.{mod-lt, lt-of-lt-of-le, mod-eq-of-lt, div-eq-of-lt, add-comm, add-zero, add-suc, zero-mul, pow-suc}
 use native.Mathlib.Numerals.{add-one}
+use native.Mathlib.Decide.{ℕ-discrete}
 use native.Mathlib.Omega.{arith}
 use lib.Pow.{field, high, low, mod-mod-pow, mod-pow-add, pow-pos, pow-mono}
 use Rattle.order.specs.Order.{bit, seconds, firsts}
@@ -52,6 +53,21 @@ half-seconds x k h = omega (arith, firsts-seconds x k)
 pub seconds-half : (x k : ℕ) → 2 * seconds x k ≤ k → seconds x k ≤ firsts x k
 seconds-half x k h = omega (arith, firsts-seconds x k)
 
+-- Beginnings with no more second than first passes: that of no pass, and one pass more.
+pub no-pass : (x j : ℕ) → j < 1 → seconds x j ≤ firsts x j
+no-pass x j l = rw (none, seconds-zero) (omega arith)
+  where
+    none : j ≡ 0
+    none = omega arith
+
+pub one-pass-more : (x k : ℕ) → ((j : ℕ) → j ≤ k → seconds x j ≤ firsts x j) → seconds x (k + 1) ≤ firsts x (k + 1)
+    → (j : ℕ) → j ≤ k + 1 → seconds x j ≤ firsts x j
+one-pass-more x k f last j l = go (ℕ-discrete j (k + 1))
+  where
+    go : Dec (j ≡ k + 1) → seconds x j ≤ firsts x j
+    go (yes w) = rw w last
+    go (no ne) = f j (omega arith)
+
 -- Longer beginnings have no fewer passes of either kind.
 seconds-grow : (x j d : ℕ) → (seconds x j ≤ seconds x (j + d)) × (seconds x (j + d) ≤ seconds x j + d)
 seconds-grow x j zero = rw (add-zero j) (omega arith, omega arith)
@@ -90,6 +106,9 @@ seconds-mod w k (suc j) l =
 
 pub mod-more : (w k : ℕ) → w % 2 ^ (k + 1) ≡ bit w k * 2 ^ k + w % 2 ^ k
 mod-more w k = ap (λ (j : ℕ). w % 2 ^ j) (add-comm k 1) ∙ mod-pow-add w 1 k
+
+pub pow-more : (k : ℕ) → 2 ^ (k + 1) ≡ 2 * 2 ^ k
+pow-more k = rw (add-one k) (omega (arith, pow-suc 2 k))
 
 pub mod-shorter : (w k j : ℕ) → j ≤ k → w % 2 ^ k % 2 ^ j ≡ w % 2 ^ j
 mod-shorter w k j l = ap (λ (m : ℕ). w % 2 ^ m % 2 ^ j) (sym e) ∙ mod-mod-pow w (k - j) j

@@ -19,11 +19,10 @@ pub fn pass_at(x: u64, k: u64) -> u64
 pub fn seconds_before(x: u64, k: u64) -> u64
     ensures { λ r. ⌜ r ≡ seconds x k ⌝ }
 {
-    if k < BITS {
-        u64::count_ones(x & ((1 << k) - 1)) as u64
-    } else {
-        u64::count_ones(x) as u64
+    if BITS <= k {
+        return u64::count_ones(x) as u64;
     }
+    u64::count_ones(x & ((1 << k) - 1)) as u64
 }
 
 // The first passes among the first k passes.

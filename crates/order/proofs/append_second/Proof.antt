@@ -1,6 +1,4 @@
 -- `order::append_second` meets its contract: the shift is 2 ^ k, and the sum is below 2 ^ (k + 1).
-use mathlib.Core.Path.{_≡_}
-use Prim.Native.Nat.{_+_}
 use borrow.Author.Needs.{needs}
 use Rattle.order.specs.Ones.{shifted-one, second-fits}
 use Rattle.order.proofs.append_second.Statement.{statement}
