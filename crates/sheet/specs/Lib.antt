@@ -2,4 +2,10 @@
 pub mod Limits
 pub mod Refusals
 pub mod Tags
+pub mod Checks
+pub mod Decode
+pub mod Read
 pub mod Sound
+pub mod CheckLaws
+pub mod NumberLaws
+pub mod Kept

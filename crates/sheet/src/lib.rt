@@ -1,5 +1,6 @@
 // The sheet: its limits, its refusal numbers, and its reader, which gives the number and place of a refusal or the decoded sheet.
 
+pub mod checks;
 pub mod limits;
 pub mod numbers;
 pub mod tags;
@@ -36,6 +37,17 @@ pub struct FlightSection {
 pub struct Sheet {
     pub number: u64,
     pub place: usize,
+    pub mosaic: MosaicSection,
+    pub sorting: SortingSection,
+    pub flight: FlightSection,
+}
+
+// How far a sheet is read: the next field's place, the section that stands open, its head's place and its members, and what is decoded.
+pub struct Reading {
+    pub at: usize,
+    pub section: u64,
+    pub head: usize,
+    pub members: usize,
     pub mosaic: MosaicSection,
     pub sorting: SortingSection,
     pub flight: FlightSection,

@@ -1,0 +1,11 @@
+-- What the reader keeps to as it goes: where a field lies, and what holds of the sections read so far.
+use Prim.Native.Nat.{ℕ, _+_, _≤_}
+use mathlib.Core.List.{List}
+use lib.ListN.{length}
+use Rattle.sheet.specs.Limits.{mostStations}
+use Rattle.sheet.specs.declared.Reading.{Reading}
+
+-- a whole field of a content length stands where the reading is
+pub record FieldPre (s : List ℕ) (st : Reading) (len : ℕ) : Type 0 where
+  pub within : st .at + 3 + len ≤ length s
+  pub stations : st .mosaic .stations ≤ mostStations
