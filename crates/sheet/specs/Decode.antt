@@ -25,9 +25,9 @@ noSorting = record { desks = 0; counts = zeros 3; scan = zeros 18; desk = zeros 
 unfoldable pub noFlight : FlightSection
 noFlight = record { blocks = 0; first = zeros 32; delay = zeros 32; second = zeros 32; ordered = false; order = 0; place = 0 }
 
--- the mosaic with its head, and with one strip more
-unfoldable pub withMosaicHead : List ℕ → ℕ → MosaicSection → MosaicSection
-withMosaicHead s c m = record { stations = numberAt s c 1; mount = numberAt s (c + 1) 2; strips = m .strips; station = m .station; bench = m .bench }
+-- a mosaic of a head alone, and with one strip more
+unfoldable pub withMosaicHead : List ℕ → ℕ → MosaicSection
+withMosaicHead s c = record { stations = numberAt s c 1; mount = numberAt s (c + 1) 2; strips = 0; station = zeros 160; bench = zeros 40 }
 
 unfoldable pub withStationTimes : List ℕ → ℕ → ℕ → ℕ → List ℕ → List ℕ
 withStationTimes s c base zero times = times
@@ -43,9 +43,9 @@ withMosaicStrip s c m =
       ; bench = set (m .bench) (m .strips) (numberAt s (c + 2 * m .stations) 2)
       }
 
--- the sorting with its head, and with one strip more
-unfoldable pub withSortingHead : List ℕ → ℕ → SortingSection → SortingSection
-withSortingHead s c t = record { desks = numberAt s c 1; counts = t .counts; scan = t .scan; desk = t .desk }
+-- a sorting of a head alone, and with one strip more
+unfoldable pub withSortingHead : List ℕ → ℕ → SortingSection
+withSortingHead s c = record { desks = numberAt s c 1; counts = zeros 3; scan = zeros 18; desk = zeros 18 }
 
 -- strip k of desk d, both from 0
 unfoldable pub withStripAt : List ℕ → ℕ → SortingSection → ℕ → ℕ → SortingSection
@@ -77,12 +77,12 @@ unfoldable pub withOrder : List ℕ → ℕ → ℕ → FlightSection → Flight
 withOrder s c at f =
     record { blocks = f .blocks; first = f .first; delay = f .delay; second = f .second; ordered = true; order = numberAt s c 8; place = at }
 
--- each section after a field
+-- each section after a field; a section begins with its head
 unfoldable pub nextMosaic : List ℕ → ℕ → ℕ → MosaicSection → MosaicSection
-nextMosaic s c tag m = cond (eqb tag mosaicHeadTag) (withMosaicHead s c m) (cond (eqb tag mosaicStripTag) (withMosaicStrip s c m) m)
+nextMosaic s c tag m = cond (eqb tag mosaicHeadTag) (withMosaicHead s c) (cond (eqb tag mosaicStripTag) (withMosaicStrip s c m) m)
 
 unfoldable pub nextSorting : List ℕ → ℕ → ℕ → SortingSection → SortingSection
-nextSorting s c tag t = cond (eqb tag sortingHeadTag) (withSortingHead s c t) (cond (eqb tag sortingStripTag) (withSortingStrip s c t) t)
+nextSorting s c tag t = cond (eqb tag sortingHeadTag) (withSortingHead s c) (cond (eqb tag sortingStripTag) (withSortingStrip s c t) t)
 
 unfoldable pub nextFlight : List ℕ → ℕ → ℕ → ℕ → FlightSection → FlightSection
 nextFlight s c tag at f = cond (eqb tag flightBlockTag) (withBlock s c f) (cond (eqb tag flightOrderTag) (withOrder s c at f) f)
@@ -100,13 +100,17 @@ nextSection tag section =
 unfoldable pub nextMembers : ℕ → ℕ → ℕ
 nextMembers tag members = cond (endsSection tag) 0 (cond (eqb tag flightOrderTag) members (members + 1))
 
+-- the place of the section's head
+unfoldable pub nextHead : ℕ → ℕ → ℕ → ℕ
+nextHead tag head at = cond (endsSection tag) at head
+
 -- the reading after a whole field of a tag and a content length
 unfoldable pub nextReading : List ℕ → Reading → ℕ → ℕ → Reading
 nextReading s st tag len =
     record
       { at = st .at + 3 + len
       ; section = nextSection tag (st .section)
-      ; head = cond (endsSection tag) (st .at) (st .head)
+      ; head = nextHead tag (st .head) (st .at)
       ; members = nextMembers tag (st .members)
       ; mosaic = nextMosaic s (st .at + 3) tag (st .mosaic)
       ; sorting = nextSorting s (st .at + 3) tag (st .sorting)

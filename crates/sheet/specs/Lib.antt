@@ -8,4 +8,5 @@ pub mod Read
 pub mod Sound
 pub mod CheckLaws
 pub mod NumberLaws
+pub mod DecodeLaws
 pub mod Kept

@@ -1,6 +1,7 @@
 // The sheet: its limits, its refusal numbers, and its reader, which gives the number and place of a refusal or the decoded sheet.
 
 pub mod checks;
+pub mod decode;
 pub mod limits;
 pub mod numbers;
 pub mod tags;
