@@ -9,4 +9,7 @@ pub mod Sound
 pub mod CheckLaws
 pub mod NumberLaws
 pub mod DecodeLaws
+pub mod Stores
+pub mod Passed
+pub mod SectionLaws
 pub mod Kept
