@@ -12,4 +12,6 @@ pub mod DecodeLaws
 pub mod Stores
 pub mod Passed
 pub mod SectionLaws
+pub mod Invariant
+pub mod Progress
 pub mod Kept
