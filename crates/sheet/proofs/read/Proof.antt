@@ -1,88 +1,66 @@
+use Prim.Native.Nat.{_-_}
+use lib.ListN.{length}
+use borrow.Author.Needs.{needs}
+use Rattle.sheet.specs.Progress.{Progress, progress-start, progress-end, progress-cut, progress-refused, progress-pre, progress-next, progress-less, field-pre}
 use Rattle.sheet.proofs.read.Statement.{statement}
 use Rattle.sheet.proofs.read.Tie as tie
-use Rattle.sheet.proofs.read.Reads as reads
-use Rattle.sheet.proofs.read.Lts as lts
-use Rattle.field.proofs.field_at.Reads as field-at-reads
-use Rattle.sheet.proofs.checks.field_number.Reads as field-number-reads
-use Rattle.sheet.proofs.checks.place_of.Reads as place-of-reads
-use Rattle.sheet.proofs.decode.next_reading.Reads as next-reading-reads
-use Rattle.sheet.proofs.decode.refuse.Reads as refuse-reads
-use Rattle.sheet.proofs.decode.start.Reads as start-reads
-use Rattle.sheet.proofs.finish.Reads as finish-reads
 
 abbrev Inv-loop : tie.InvT-loop
-Inv-loop s st₀ st = ?
+Inv-loop s st₀ st = Progress s st
 
 abbrev μ-loop : tie.MeasureT-loop
-μ-loop s st₀ st = ?
+μ-loop s st₀ st = length s - st .at
 
--- src/lib.rt:80:9
 start-requires : tie.Need-start-requires Inv-loop μ-loop
-start-requires c κs = ?
+start-requires c κs = search needs
 
--- src/lib.rt:81:5
 loop-holds : tie.Need-loop-holds Inv-loop μ-loop
-loop-holds c = ?
+loop-holds c = search progress-start
 
--- src/lib.rt:83:15
 field-at-requires : tie.Need-field-at-requires Inv-loop μ-loop
-field-at-requires c κs = ?
+field-at-requires c κs = search needs
 
--- src/lib.rt:84:27
 enum-told : tie.Need-enum-told Inv-loop μ-loop
-enum-told c = ?
+enum-told c = search needs
 
--- src/lib.rt:84:27
 finish-requires : tie.Need-finish-requires Inv-loop μ-loop
-finish-requires c κs = ?
+finish-requires c κs = search needs
 
--- src/lib.rt:84:27
 returns : tie.Need-returns Inv-loop μ-loop
-returns c = ?
+returns c = search progress-end
 
--- src/lib.rt:85:27
 enum-told-2 : tie.Need-enum-told-2 Inv-loop μ-loop
-enum-told-2 c = ?
+enum-told-2 c = search needs
 
--- src/lib.rt:85:27
 refuse-requires : tie.Need-refuse-requires Inv-loop μ-loop
-refuse-requires c κs = ?
+refuse-requires c κs = search needs
 
--- src/lib.rt:85:27
 returns-2 : tie.Need-returns-2 Inv-loop μ-loop
-returns-2 c = ?
+returns-2 c = search progress-cut
 
--- src/lib.rt:86:26
 enum-known-tag : tie.Need-enum-known-tag Inv-loop μ-loop
-enum-known-tag c = ?
+enum-known-tag c = search needs
 
--- src/lib.rt:87:21
 field-number-requires : tie.Need-field-number-requires Inv-loop μ-loop
-field-number-requires c κs = ?
+field-number-requires c κs = search field-pre
 
--- src/lib.rt:89:43
 place-of-requires : tie.Need-place-of-requires Inv-loop μ-loop
-place-of-requires c κs = ?
+place-of-requires c κs = search needs
 
--- src/lib.rt:89:21
 refuse-requires-2 : tie.Need-refuse-requires-2 Inv-loop μ-loop
-refuse-requires-2 c κs = ?
+refuse-requires-2 c κs = search needs
 
--- src/lib.rt:89:21
 returns-3 : tie.Need-returns-3 Inv-loop μ-loop
-returns-3 c = ?
+returns-3 c = search progress-refused
 
--- src/lib.rt:91:17
 next-reading-requires : tie.Need-next-reading-requires Inv-loop μ-loop
-next-reading-requires c κs = ?
+next-reading-requires c κs = search progress-pre
 
--- src/lib.rt:81:5
 loop-less : tie.Need-loop-less Inv-loop μ-loop
-loop-less c = ?
+loop-less c = search progress-less
 
--- src/lib.rt:81:5
 loop-again : tie.Need-loop-again Inv-loop μ-loop
-loop-again c = ?
+loop-again c = search progress-next
 
 pub read-spec : {M : Type 1} → statement M
 read-spec =
