@@ -13,12 +13,12 @@ use Rattle.sheet.specs.Limits.{mostBlocks, mostDesks, mostStrips, mostSt
 use Rattle.sheet.specs.Tags.{mosaicHeadTag, mosaicStripTag, sortingHeadTag, sortingStripTag, flightHeadTag, flightBlockTag, flightOrderTag}
 use Rattle.sheet.specs.Checks.{noSection, inMosaic, inSorting, inFlight, afterOrder, endsSection, permitted, inRange, hasRoom, stripsOfDesk, orderProper, sortingStripInRange}
 use Rattle.sheet.specs.Decode.{zeros, noMosaic, noSorting, noFlight, withMosaicHead, withMosaicStrip, withSortingHead, withStripAt, withSortingStrip, withBlock, withOrder, nextMosaic, nextSorting, nextFlight, nextSection, nextHead, nextMembers, nextReading, startReading}
-use Rattle.sheet.specs.Sound.{MosaicSound, SortingSound, FlightWithin}
+use Rattle.sheet.specs.Sound.{MosaicSound, SortingSound, FlightWithin, stripsInAll}
 use Rattle.sheet.specs.Stores.{zeros-at, set-here, set-there}
 use Rattle.sheet.specs.Passed.{Passed, Next, next-of, is-between}
 use Rattle.sheet.specs.Kept.{NextPre}
 use Rattle.sheet.specs.Passed.Next.{mosaic-head, mosaic-strip, sorting-head, sorting-strip, flight-head, flight-block, flight-order}
-use Rattle.sheet.specs.SectionLaws.{no-mosaic-sound, no-sorting-sound, no-flight-sound, mosaic-head-sound, mosaic-strip-sound, sorting-head-sound, sorting-strip-sound, block-sound, order-sound}
+use Rattle.sheet.specs.SectionLaws.{no-mosaic-sound, no-sorting-sound, no-flight-sound, mosaic-head-sound, mosaic-strip-sound, sorting-head-sound, sorting-strip-sound, sorting-strip-more, block-sound, order-sound}
 use Rattle.sheet.specs.declared.SortingSection.{SortingSection}
 use Rattle.sheet.specs.declared.Reading.{Reading}
 
@@ -29,10 +29,12 @@ pub record Kept (s : List ℕ) (st : Reading) : Type 0 where
   pub mosaic : MosaicSound (st .mosaic)
   pub sorting : SortingSound (st .sorting)
   pub flight : FlightWithin mostBlocks (st .flight)
+  pub in-none : st .section ≡ noSection → st .members ≡ 0
   pub in-mosaic : st .section ≡ inMosaic → st .members ≡ st .mosaic .strips
+  pub in-sorting : st .section ≡ inSorting → st .members ≡ stripsInAll (st .sorting)
   pub before-flight : st .section < inFlight → (st .flight .blocks ≡ 0) × (st .flight .ordered ≡ false)
   pub in-flight : st .section ≡ inFlight → (st .members ≡ st .flight .blocks) × (st .flight .ordered ≡ false)
-  pub after-order : st .section ≡ afterOrder → st .flight .ordered ≡ true
+  pub after-order : st .section ≡ afterOrder → (st .members ≡ st .flight .blocks) × (st .flight .ordered ≡ true)
 
 pub kept-start : (s : List ℕ) → Kept s startReading
 unfolding startReading noFlight
@@ -44,7 +46,9 @@ kept-start s =
       ; mosaic = no-mosaic-sound
       ; sorting = no-sorting-sound
       ; flight = no-flight-sound
+      ; in-none = λ _. refl
       ; in-mosaic = λ e. absurd (omega arith)
+      ; in-sorting = λ e. absurd (omega arith)
       ; before-flight = λ h. (refl, refl)
       ; in-flight = λ e. absurd (omega arith)
       ; after-order = λ e. absurd (omega arith)
@@ -61,7 +65,9 @@ module _ (s : List ℕ) (st : Reading) (len : ℕ) (k : Kept s st) (w : st .at +
         ; mosaic = mosaic-head-sound s (st .at + 3) (p .range-ok)
         ; sorting = k .sorting
         ; flight = k .flight
+        ; in-none = λ q. absurd (omega arith)
         ; in-mosaic = λ _. refl
+        ; in-sorting = λ q. absurd (omega arith)
         ; before-flight = λ _. k .before-flight (omega arith)
         ; in-flight = λ e. absurd (omega arith)
         ; after-order = λ e. absurd (omega arith)
@@ -80,11 +86,17 @@ module _ (s : List ℕ) (st : Reading) (len : ℕ) (k : Kept s st) (w : st .at +
         ; mosaic = mosaic-strip-sound s (st .at + 3) (st .mosaic) (k .mosaic) (omega arith) (p .range-ok)
         ; sorting = k .sorting
         ; flight = k .flight
+        ; in-none = λ q. absurd (omega arith)
         ; in-mosaic = λ _. ap (λ n. n + 1) m
+        ; in-sorting = λ q. absurd (omega arith)
         ; before-flight = λ h. k .before-flight h
         ; in-flight = λ q. absurd (omega arith)
         ; after-order = λ q. absurd (omega arith)
         }
+
+  none-yet : (c : ℕ) → stripsInAll (withSortingHead s c) ≡ 0
+  unfolding stripsInAll withSortingHead
+  none-yet c = omega (arith, zeros-at 3 0, zeros-at 3 1, zeros-at 3 2)
 
   kept-sorting-head : Passed s st sortingHeadTag len → st .section < inSorting → Kept s (nextReading s st sortingHeadTag len)
   unfolding nextReading nextSection nextHead nextMembers nextMosaic nextSorting nextFlight endsSection inRange
@@ -96,7 +108,9 @@ module _ (s : List ℕ) (st : Reading) (len : ℕ) (k : Kept s st) (w : st .at +
         ; mosaic = k .mosaic
         ; sorting = sorting-head-sound s (st .at + 3) (p .range-ok)
         ; flight = k .flight
+        ; in-none = λ q. absurd (omega arith)
         ; in-mosaic = λ q. absurd (omega arith)
+        ; in-sorting = λ _. sym (none-yet (st .at + 3))
         ; before-flight = λ _. k .before-flight (omega arith)
         ; in-flight = λ q. absurd (omega arith)
         ; after-order = λ q. absurd (omega arith)
@@ -113,7 +127,9 @@ module _ (s : List ℕ) (st : Reading) (len : ℕ) (k : Kept s st) (w : st .at +
         ; mosaic = k .mosaic
         ; sorting = sorting-strip-sound s (st .at + 3) (st .sorting) (k .sorting) (p .range-ok) (ltb-true _ _ (p .room-ok))
         ; flight = k .flight
+        ; in-none = λ q. absurd (omega arith)
         ; in-mosaic = λ q. absurd (omega arith)
+        ; in-sorting = λ _. ap (λ n. n + 1) (k .in-sorting e) ∙ sym (sorting-strip-more s (st .at + 3) (st .sorting) (k .sorting) (p .range-ok))
         ; before-flight = λ h. k .before-flight h
         ; in-flight = λ q. absurd (omega arith)
         ; after-order = λ q. absurd (omega arith)
@@ -130,7 +146,9 @@ module _ (s : List ℕ) (st : Reading) (len : ℕ) (k : Kept s st) (w : st .at +
         ; mosaic = k .mosaic
         ; sorting = k .sorting
         ; flight = k .flight
+        ; in-none = λ q. absurd (omega arith)
         ; in-mosaic = λ q. absurd (omega arith)
+        ; in-sorting = λ q. absurd (omega arith)
         ; before-flight = λ q. absurd (omega arith)
         ; in-flight = λ _. (sym (b .0), b .1)
         ; after-order = λ q. absurd (omega arith)
@@ -149,7 +167,9 @@ module _ (s : List ℕ) (st : Reading) (len : ℕ) (k : Kept s st) (w : st .at +
         ; mosaic = k .mosaic
         ; sorting = k .sorting
         ; flight = block-sound s (st .at + 3) (st .flight) (k .flight) (b .1) (omega (arith, b .0)) (p .range-ok)
+        ; in-none = λ q. absurd (omega arith)
         ; in-mosaic = λ q. absurd (omega arith)
+        ; in-sorting = λ q. absurd (omega arith)
         ; before-flight = λ q. absurd (omega arith)
         ; in-flight = λ _. (ap (λ n. n + 1) (b .0), b .1)
         ; after-order = λ q. absurd (omega arith)
@@ -167,10 +187,12 @@ module _ (s : List ℕ) (st : Reading) (len : ℕ) (k : Kept s st) (w : st .at +
         ; mosaic = k .mosaic
         ; sorting = k .sorting
         ; flight = order-sound s (st .at + 3) (st .at) (st .flight) (k .flight) (rw (b .0) at (p .order-ok))
+        ; in-none = λ q. absurd (omega arith)
         ; in-mosaic = λ q. absurd (omega arith)
+        ; in-sorting = λ q. absurd (omega arith)
         ; before-flight = λ q. absurd (omega arith)
         ; in-flight = λ q. absurd (omega arith)
-        ; after-order = λ _. refl
+        ; after-order = λ _. (b .0, refl)
         }
 
 -- a field that passes its checks keeps what holds

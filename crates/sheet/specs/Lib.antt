@@ -6,6 +6,7 @@ pub mod Checks
 pub mod Decode
 pub mod Read
 pub mod Sound
+pub mod Table
 pub mod CheckLaws
 pub mod NumberLaws
 pub mod DecodeLaws
@@ -14,4 +15,5 @@ pub mod Passed
 pub mod SectionLaws
 pub mod Invariant
 pub mod Progress
+pub mod Theorems
 pub mod Kept

@@ -15,7 +15,7 @@ use Rattle.order.specs.Decided.{proper-true}
 use Rattle.sheet.specs.Limits.{mostStations, mostDesks, mostTime, mostStrips, mostStripsOfDesk, mostBlocks}
 use Rattle.sheet.specs.Checks.{mosaicHeadInRange, stationTimesInRange, mosaicStripInRange, sortingStripInRange, flightBlockInRange, between, stripsOfDesk}
 use Rattle.sheet.specs.Decode.{zeros, noMosaic, noSorting, noFlight, withMosaicHead, withStationTimes, withMosaicStrip, withSortingHead, withStripAt, withSortingStrip, withBlock, withOrder}
-use Rattle.sheet.specs.Sound.{MosaicSound, SortingSound, FlightWithin}
+use Rattle.sheet.specs.Sound.{MosaicSound, SortingSound, FlightWithin, stripsInAll}
 use Rattle.sheet.specs.Stores.{length-zeros, zeros-at, set-here, set-there, set-most, set-least}
 use Rattle.sheet.specs.Passed.{is-between}
 use Rattle.sheet.specs.declared.MosaicSection.{MosaicSection}
@@ -152,6 +152,23 @@ sorting-strip-sound s c t h e room =
     let q = both _ _ (p .1) in
     let b = is-between 1 (numberAt s c 1) (t .desks) (p .0) in
     strip-at-sound s c t (numberAt s c 1 - 1) _ h (omega arith) refl room (q .0) (q .1)
+
+-- and there is one strip more in all
+desk-cases : (l : List ℕ) (d k : ℕ) → length l ≡ 3 → d < 3 → getD l d 0 ≡ k → getD (set l d (k + 1)) 0 0 + getD (set l d (k + 1)) 1 0 + getD (set l d (k + 1)) 2 0 ≡ getD l 0 0 + getD l 1 0 + getD l 2 0 + 1
+desk-cases l zero k long h e =
+    omega (arith, set-here l 0 0 (k + 1) (omega arith) refl, set-there l 0 1 (k + 1) (λ q. omega arith), set-there l 0 2 (k + 1) (λ q. omega arith))
+desk-cases l (suc zero) k long h e =
+    omega (arith, set-there l 1 0 (k + 1) (λ q. omega arith), set-here l 1 1 (k + 1) (omega arith) refl, set-there l 1 2 (k + 1) (λ q. omega arith))
+desk-cases l (suc (suc zero)) k long h e =
+    omega (arith, set-there l 2 0 (k + 1) (λ q. omega arith), set-there l 2 1 (k + 1) (λ q. omega arith), set-here l 2 2 (k + 1) (omega arith) refl)
+desk-cases l (suc (suc (suc d))) k long h e = absurd (omega arith)
+
+pub sorting-strip-more : (s : List ℕ) (c : ℕ) (t : SortingSection) → SortingSound t → sortingStripInRange (t .desks) (numberAt s c 1) (numberAt s (c + 1) 2) (numberAt s (c + 3) 2) ≡ true → stripsInAll (withSortingStrip s c t) ≡ stripsInAll t + 1
+unfolding sortingStripInRange withSortingStrip withStripAt stripsOfDesk stripsInAll
+sorting-strip-more s c t h e =
+    let b = is-between 1 (numberAt s c 1) (t .desks) (both _ _ e .0) in
+    let d = h .most-desks in
+    desk-cases (t .counts) (numberAt s c 1 - 1) _ (h .counts-length) (omega arith) refl
 
 -- the flight
 

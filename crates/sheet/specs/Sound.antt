@@ -8,6 +8,7 @@ use Rattle.order.specs.Order.{Proper}
 use Rattle.sheet.specs.declared.MosaicSection.{MosaicSection}
 use Rattle.sheet.specs.declared.SortingSection.{SortingSection}
 use Rattle.sheet.specs.declared.FlightSection.{FlightSection}
+use Rattle.sheet.specs.declared.Sheet.{Sheet}
 
 pub record MosaicSound (m : MosaicSection) : Type 0 where
   pub most-stations : m .stations ≤ mostStations
@@ -50,3 +51,14 @@ pub record FlightWithin (mostFree : ℕ) (f : FlightSection) : Type 0 where
 -- "Without it there may be at most 8 blocks."
 abbrev pub FlightSound : FlightSection → Type 0
 FlightSound f = FlightWithin mostBlocksWithoutOrder f
+
+-- the strips of all desks
+unfoldable pub stripsInAll : SortingSection → ℕ
+stripsInAll t = getD (t .counts) 0 0 + getD (t .counts) 1 0 + getD (t .counts) 2 0
+
+-- "One to three sections stand .., each with one member or more": a sound sheet has a member, and its sections are sound
+pub record SheetSound (s : Sheet) : Type 0 where
+  pub mosaic : MosaicSound (s .mosaic)
+  pub sorting : SortingSound (s .sorting)
+  pub flight : FlightSound (s .flight)
+  pub some-member : 1 ≤ s .mosaic .strips + stripsInAll (s .sorting) + s .flight .blocks
