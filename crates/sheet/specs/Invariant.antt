@@ -16,7 +16,6 @@ use Rattle.sheet.specs.Decode.{zeros, noMosaic, noSorting, noFlight, wit
 use Rattle.sheet.specs.Sound.{MosaicSound, SortingSound, FlightWithin, stripsInAll}
 use Rattle.sheet.specs.Stores.{zeros-at, set-here, set-there}
 use Rattle.sheet.specs.Passed.{Passed, Next, next-of, is-between}
-use Rattle.sheet.specs.Kept.{NextPre}
 use Rattle.sheet.specs.Passed.Next.{mosaic-head, mosaic-strip, sorting-head, sorting-strip, flight-head, flight-block, flight-order}
 use Rattle.sheet.specs.SectionLaws.{no-mosaic-sound, no-sorting-sound, no-flight-sound, mosaic-head-sound, mosaic-strip-sound, sorting-head-sound, sorting-strip-sound, sorting-strip-more, block-sound, order-sound}
 use Rattle.sheet.specs.declared.SortingSection.{SortingSection}
@@ -211,39 +210,3 @@ module _ (s : List ℕ) (st : Reading) (tag len : ℕ) (k : Kept s st) (w : st .
 
   pub kept-next : Kept s (nextReading s st tag len)
   kept-next = kept-case (next-of tag (st .section) (st .members) (p .tag-ok))
-
-  -- and has room for what it adds
-  strip-fits : tag ≡ mosaicStripTag → st .mosaic .strips < mostStrips
-  unfolding permitted hasRoom
-  strip-fits e =
-      let h : st .section ≡ inMosaic = eqb-true (st .section) inMosaic (rw e at (p .tag-ok)) in
-      let r : st .members < mostStrips = ltb-true (st .members) mostStrips (rw e at (p .room-ok)) in
-      omega (arith, k .in-mosaic h)
-
-  desk-fits : tag ≡ sortingStripTag → numberAt s (st .at + 3) 1 ≤ mostDesks
-  unfolding inRange sortingStripInRange
-  desk-fits e =
-      let b = is-between 1 (numberAt s (st .at + 3) 1) (st .sorting .desks) (both _ _ (rw e at (p .range-ok)) .0) in
-      let d = k .sorting .most-desks in
-      omega arith
-
-  desk-strip-fits : tag ≡ sortingStripTag → stripsOfDesk (st .sorting .counts) (numberAt s (st .at + 3) 1) < mostStripsOfDesk
-  unfolding hasRoom
-  desk-strip-fits e = ltb-true _ _ (rw e at (p .room-ok))
-
-  block-fits : tag ≡ flightBlockTag → st .flight .blocks < mostBlocks
-  unfolding permitted hasRoom
-  block-fits e =
-      let h : st .section ≡ inFlight = eqb-true (st .section) inFlight (rw e at (p .tag-ok)) in
-      let r : st .members < mostBlocks = ltb-true (st .members) mostBlocks (rw e at (p .room-ok)) in
-      omega (arith, k .in-flight h .0)
-
-  pub next-pre : length s * 1 < 2 ^ 63 → NextPre s st tag len
-  next-pre big =
-      record
-        { within = w
-        ; few-members = k .few-members
-        ; mosaic = record { content = omega arith; stations-fit = k .mosaic .most-stations; strip-fits = strip-fits }
-        ; sorting = record { content = omega arith; desk-fits = desk-fits; strip-fits = desk-strip-fits }
-        ; flight = record { content = omega arith; block-fits = block-fits }
-        }

@@ -1,4 +1,4 @@
--- What a sheet is, and what reading one gives.
+-- What a sheet is, and what reading one gives: definitions first, then the theorems, then the laws that lead to them.
 pub mod Limits
 pub mod Refusals
 pub mod Tags
@@ -7,13 +7,9 @@ pub mod Decode
 pub mod Read
 pub mod Sound
 pub mod Table
-pub mod CheckLaws
-pub mod NumberLaws
-pub mod DecodeLaws
+pub mod Theorems
 pub mod Stores
 pub mod Passed
 pub mod SectionLaws
 pub mod Invariant
 pub mod Progress
-pub mod Theorems
-pub mod Kept

@@ -14,9 +14,8 @@ use Rattle.field.specs.declared.Field.the-variants.{End, Cut, Whole}
 use Rattle.sheet.specs.Refusals.{fieldCut}
 use Rattle.sheet.specs.Decode.{nextReading, startReading}
 use Rattle.sheet.specs.Read.{fieldNumber, endNumber, placeOf, refused, accepted, atEnd, readFrom, readSheet}
-use Rattle.sheet.specs.Kept.{FieldPre, NextPre}
 use Rattle.sheet.specs.Passed.{passes}
-use Rattle.sheet.specs.Invariant.{Kept, kept-start, kept-next, next-pre}
+use Rattle.sheet.specs.Invariant.{Kept, kept-start, kept-next}
 use Rattle.sheet.specs.declared.Reading.{Reading}
 use Rattle.sheet.specs.declared.Sheet.{Sheet}
 
@@ -66,9 +65,6 @@ module _ (s : List ℕ) (st : Reading) (p : Progress s st) where
       within : st .at + 3 + len ≤ length s
       within = whole-at s (st .at) tag len (sym ef ∙ e) .within
 
-      pub field-pre : FieldPre s st len
-      field-pre = record { within = within; stations = p .kept .mosaic .most-stations }
-
       pub progress-refused : (number place : ℕ) (r : Sheet) → number ≡ fieldNumber s st tag len → (number ≡ 0 → ⊥) → place ≡ placeOf number (st .head) (st .at) → r ≡ refused number place → r ≡ readSheet s
       progress-refused number place r en hn ep h =
           h
@@ -76,9 +72,6 @@ module _ (s : List ℕ) (st : Reading) (p : Progress s st) where
           ∙ ap (λ n. refused n (placeOf n (st .head) (st .at))) en
           ∙ sym (turn-refused (p .turns - 1) s st tag len (sym ef ∙ e) (λ z. hn (en ∙ z)))
           ∙ opened
-
-      pub progress-pre : (number : ℕ) → number ≡ fieldNumber s st tag len → number ≡ 0 → length s * 1 < 2 ^ 63 → NextPre s st tag len
-      progress-pre number en hn big = next-pre s st tag len (p .kept) within (passes s st tag len (sym en ∙ hn)) big
 
       ahead : nextReading s st tag len .at ≡ st .at + 3 + len
       unfolding nextReading

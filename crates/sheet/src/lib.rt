@@ -1,17 +1,8 @@
-// The sheet: its limits, its refusal numbers, and its reader, which gives the number and place of a refusal or the decoded sheet.
+// The sheet: its limits, its tags, its refusal numbers, and what reading one gives.
 
-use checks::{end_number, field_number, place_of};
-use decode::{accept, next_reading, refuse, start};
-use field::{Field, field_at};
-use numbers::FIELD_CUT;
-
-ghost use mathlib.Core.Path.{_≡_};
-ghost use Rattle.sheet.specs.Read.{endNumber, atEnd, readSheet};
-
-pub mod checks;
-pub mod decode;
 pub mod limits;
 pub mod numbers;
+pub mod sections;
 pub mod tags;
 
 // The mosaic section. Station k of strip j, both from 0, stands at 4 j + k.
@@ -60,36 +51,4 @@ pub struct Reading {
     pub mosaic: MosaicSection,
     pub sorting: SortingSection,
     pub flight: FlightSection,
-}
-
-// The answer at the end of the sheet.
-fn finish(st: Reading) -> Sheet
-    ensures { λ r. ⌜ r ≡ atEnd st (endNumber (st .section) (st .members)) ⌝ }
-{
-    let number = end_number(st.section, st.members);
-    if number != 0 {
-        return refuse(number, st.head);
-    }
-    accept(st)
-}
-
-// Reads a sheet: the number and place of its refusal, or 0, 0 and its sections.
-pub fn read(s: &[u8]) -> Sheet
-    ensures { λ r. ⌜ r ≡ readSheet (now (s .entry)) ⌝ }
-{
-    let mut st = start();
-    loop {
-        let at = st.at;
-        match field_at(s, at) {
-            Field::End => return finish(st),
-            Field::Cut => return refuse(FIELD_CUT, at),
-            Field::Whole(tag, length) => {
-                let number = field_number(s, st, tag, length);
-                if number != 0 {
-                    return refuse(number, place_of(number, st.head, at));
-                }
-                st = next_reading(s, st, tag, length);
-            }
-        }
-    }
 }
