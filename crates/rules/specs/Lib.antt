@@ -3,3 +3,5 @@ pub mod Sums
 pub mod Mosaic
 pub mod Sorting
 pub mod Flight
+pub mod Plan
+pub mod Running

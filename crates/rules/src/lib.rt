@@ -20,3 +20,10 @@ pub struct Passes {
     pub first: u64,
     pub second: u64,
 }
+
+// How far a sorting has come: the strips each desk has had, from when it is free, and from when the scanner is.
+pub struct Desks {
+    pub done: [u64; 3],
+    pub free: [u64; 3],
+    pub scanner: u64,
+}
