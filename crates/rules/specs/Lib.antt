@@ -5,3 +5,4 @@ pub mod Sorting
 pub mod Flight
 pub mod Plan
 pub mod Running
+pub mod PlanRead
