@@ -1,0 +1,4 @@
+-- What the judge answers.
+pub mod Follows
+pub mod Layout
+pub mod Judged
