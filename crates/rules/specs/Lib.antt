@@ -6,3 +6,4 @@ pub mod Flight
 pub mod Plan
 pub mod Running
 pub mod PlanRead
+pub mod FunctionLaws

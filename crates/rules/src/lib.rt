@@ -1,4 +1,8 @@
-// The rules of the three sections: what a plan's members are. The definitions stand in specs/.
+// The rules of the three sections: what a plan's members are, and what the rules take from a section. The definitions stand in specs/.
+
+pub mod flight;
+pub mod mosaic;
+pub mod sorting;
 
 // A batch of the mosaic: the number of its last strip, the start of its mount, its finish.
 pub struct Batch {
