@@ -18,7 +18,7 @@ use Rattle.rules.specs.Running.{freeDesks, afterJob}
 use Rattle.rules.specs.declared.Batch.{Batch}
 use Rattle.rules.specs.declared.Job.{Job}
 use Rattle.rules.specs.declared.Passes.{Passes}
-use Rattle.judge.specs.Follows.{batchFollows, jobFollows, blockFollows, allDone, flightHead}
+use Rattle.judge_rules.specs.Follows.{batchFollows, jobFollows, blockFollows, allDone, flightHead}
 use Rattle.judge.specs.Layout.{mosaicPart, sortingPart, flightPart}
 use Rattle.judge.specs.declared.Part.{Part}
 use Rattle.judge.specs.declared.Progress.{Progress}
@@ -77,7 +77,7 @@ passesOf plan head members = membersFrom passesFrom 11 plan (head + 15) members
 unfoldable pub headFollows : Sheet → List ℕ → ℕ → Part → Progress → Bool
 headFollows s plan section part st =
     cond (eqb section 1) (eqb (st .before .last) (s .mosaic .strips))
-    (cond (eqb section 2) (allDone (s .sorting) (st .desks .done) (s .sorting .desks))
+    (cond (eqb section 2) (allDone (s .sorting .counts) (st .desks .done) (s .sorting .desks))
     (flightHead (s .flight) (part .members) (orderFrom plan (part .head)) (passesOf plan (part .head) (part .members))))
 
 -- the figure that the rules give

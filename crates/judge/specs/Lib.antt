@@ -1,4 +1,3 @@
 -- What the judge answers.
-pub mod Follows
 pub mod Layout
 pub mod Judged
