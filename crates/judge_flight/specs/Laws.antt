@@ -192,6 +192,9 @@ module _ (f : FlightSection) (plan : List ℕ) (at p value : ℕ) (t : LatestSoF
       all = let w = t .within in omega arith
 
 -- the head of the flight
+pub order-asked : (f : FlightSection) (order at : ℕ) (x : Bool) → x ≡ isProper (f .blocks) order → not x ≡ false → HeadAsked f at → OrderAsked f order at
+order-asked f order at x ex hx a = record { sound = a .sound; room = a .room; proper = proper-true (f .blocks) order (sym ex ∙ not-false x hx) }
+
 given-right : (o e : Bool) → o ≡ true → e ≡ true → (not o || e) ≡ true
 given-right o e g h = rw (g, h)
 
@@ -218,9 +221,6 @@ module _ (f : FlightSection) (members order : ℕ) (plan : List ℕ) (at : ℕ) 
     proper-wrong h = rw (eq-eqb _ _ em, ← ex, not-true x h)
 
     module _ (hx : not x ≡ false) where
-      pub order-asked : HeadAsked f at → OrderAsked f order at
-      order-asked a = record { sound = a .sound; room = a .room; proper = proper-true (f .blocks) order (sym ex ∙ not-false x hx) }
-
       pub given-wrong : f .ordered ≡ true → (order ≡ f .order → ⊥) → false ≡ flightHead f members order (passesOf plan at members)
       unfolding flightHead
       given-wrong g h = third-wrong _ _ _ _ (eq-eqb _ _ em) (sym ex ∙ not-false x hx) (given-other (f .ordered) (eqb order (f .order)) g (ne-eqb _ _ h))

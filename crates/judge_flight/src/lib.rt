@@ -78,6 +78,7 @@ pub fn flight_head(f: FlightSection, members: usize, order: u64, plan: &[u8], at
         if order != f.order {
             return false;
         }
+        return passes_in_order(f, order, plan, at);
     }
     passes_in_order(f, order, plan, at)
 }

@@ -1,36 +1,41 @@
+use Rattle.judge_flight.specs.Laws.{members-wrong, proper-wrong, order-asked, given-wrong, head-given, head-free}
 use borrow.Author.Needs.{needs}
 use Rattle.judge_flight.proofs.flight_head.Statement.{statement}
 use Rattle.judge_flight.proofs.flight_head.Tie as tie
-use Rattle.judge_flight.proofs.flight_head.Reads as reads
-use Rattle.judge_flight.proofs.flight_head.Lts as lts
-use Rattle.judge_flight.proofs.passes_in_order.Reads as passes-in-order-reads
-use Rattle.order.proofs.proper.Reads as proper-reads
 
--- src/lib.rt:72:9
 returns : tie.Need-returns
-returns c = ?
+returns c = search members-wrong
 
--- src/lib.rt:74:9
 proper-requires : tie.Need-proper-requires
 proper-requires c κs = search needs
 
--- src/lib.rt:75:9
 returns-2 : tie.Need-returns-2
-returns-2 c = ?
+returns-2 c = search proper-wrong
 
--- src/lib.rt:79:13
 returns-3 : tie.Need-returns-3
-returns-3 c = ?
+returns-3 c = search given-wrong
 
--- src/lib.rt:82:5
 passes-in-order-requires : tie.Need-passes-in-order-requires
-passes-in-order-requires c κs = ?
+passes-in-order-requires c κs = search order-asked
 
--- src/lib.rt:67:1
 returns-4 : tie.Need-returns-4
-returns-4 c = ?
+returns-4 c = search head-given
+
+passes-in-order-requires-2 : tie.Need-passes-in-order-requires-2
+passes-in-order-requires-2 c κs = order-asked _ _ _ _ (c .before .before .proper .ensures) (c .before .if2 .left) (c .before .before .before .before .before .before .pre)
+
+returns-5 : tie.Need-returns-5
+returns-5 c = search head-free
 
 pub flight-head-spec : {M : Type 1} → statement M
 flight-head-spec =
     tie.close
-    (tie.spec returns proper-requires returns-2 returns-3 passes-in-order-requires returns-4)
+    (tie.spec
+    returns
+    proper-requires
+    returns-2
+    returns-3
+    passes-in-order-requires
+    returns-4
+    passes-in-order-requires-2
+    returns-5)
