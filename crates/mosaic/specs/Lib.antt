@@ -1,0 +1,4 @@
+-- The mosaic planner: the least figure, the batching taken, the theorems against the rules, and what the tables hold.
+pub mod Least
+pub mod Chosen
+pub mod Worked
