@@ -2,3 +2,5 @@
 pub mod Least
 pub mod Chosen
 pub mod Worked
+pub mod Index
+pub mod Laws

@@ -1,0 +1,7 @@
+-- Laws behind the theorems and the tables.
+pub mod Recursion
+pub mod Sums
+pub mod Rules
+pub mod Structure
+pub mod Figure
+pub mod LowerBound
