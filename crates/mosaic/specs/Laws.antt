@@ -5,3 +5,5 @@ pub mod Rules
 pub mod Structure
 pub mod Figure
 pub mod LowerBound
+pub mod Attained
+pub mod Earliest
