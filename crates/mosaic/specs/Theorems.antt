@@ -16,10 +16,10 @@ use Rattle.mosaic.specs.Least.{leastFigure, instanceOf, leastFrom}
 use Rattle.mosaic.specs.Chosen.{chosenBatches, chosenFrom}
 use Rattle.mosaic.specs.Plan.{lasts}
 use Rattle.mosaic.specs.Index.{leastAt, chosenAt}
-use Rattle.mosaic.specs.Laws.Structure.{lawful-after, after-lawful}
+use Rattle.mosaic.specs.Laws.Structure.{lawful-after, after-lawful, count-within}
 use Rattle.mosaic.specs.Laws.Figure.{rest-whole}
 use Rattle.mosaic.specs.Laws.LowerBound.{lower-after}
-use Rattle.mosaic.specs.Laws.Attained.{Attains, FinishBy, latest, attains-at}
+use Rattle.mosaic.specs.Laws.Attained.{Attains, FinishBy, latest, attains-at, figure-most}
 use Rattle.mosaic.specs.Laws.Earliest.{earliest}
 
 -- the recursion from the first strip on, by index
@@ -62,3 +62,11 @@ module _ (m : MosaicSection) (S : MosaicSound m) where
   pub mosaic-finishes : (i : ℕ) → i < length (chosenBatches m) → batchAt (chosenBatches m) i .finish ≤ mostStrips * mostTime + mostStrips * (2 * mostTime)
   unfolding batchAt
   mosaic-finishes i h = omega (arith, finish-at (latest (m .strips)) (chosenBatches m) (attained .finishes) i h, S .most-strips)
+
+  -- 48,000,000 at most, which four bytes hold
+  pub mosaic-figure-most : leastFigure m ≤ mostStrips * (mostStrips * mostTime + mostStrips * (2 * mostTime))
+  mosaic-figure-most = rw (least-is m) (figure-most S)
+
+  pub mosaic-count : length (chosenBatches m) ≤ m .strips
+  unfolding noBatch
+  mosaic-count = omega (arith, count-within m noBatch (chosenBatches m) (attained .lawful noBatch refl refl))

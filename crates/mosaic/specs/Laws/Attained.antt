@@ -14,7 +14,7 @@ use Rattle.rules.specs.Mosaic.{ready, benchSum}
 use Rattle.mosaic.specs.Least.{mountStart, benchStart, finishOf, instanceOf}
 use Rattle.mosaic.specs.Chosen.{batchOf}
 use Rattle.mosaic.specs.Index.{leastAt, openAt, closedAt, chosenAt, chosenOpenAt}
-use Rattle.mosaic.specs.Laws.Recursion.{least-end, least-open, open-last, open-more, chosen-end, chosen-open, chosen-last, chosen-close, chosen-extend}
+use Rattle.mosaic.specs.Laws.Recursion.{least-end, least-one, least-open, open-last, open-more, chosen-end, chosen-open, chosen-last, chosen-close, chosen-extend}
 use Rattle.mosaic.specs.Laws.Rules.{weight-count, bench-most, ready-most}
 use Rattle.mosaic.specs.Laws.Structure.{BatchLawful, LawfulAfter}
 use Rattle.mosaic.specs.Laws.Figure.{restFigure, rest-cons, rest-end}
@@ -113,4 +113,17 @@ module _ {m : MosaicSection} (S : MosaicSound m) where
       elim (decLt i (m .strips)) [
         yes y ↦ same (least-open x i free y) (chosen-open x i free y) (attains-open (m .strips - (i + 1)) i (i + 1) free (omega arith) (omega arith) l)
         | no y ↦ same (least-end x i free (omega arith)) (chosen-end x i free (omega arith)) (attains-none i free (omega arith))
+      ]
+
+  -- the figure of one batch of all strips is a bound
+  pub figure-most : leastAt (instanceOf m) 0 0 ≤ mostStrips * latest mostStrips
+  unfolding instanceOf
+  figure-most =
+      let x = instanceOf m in
+      elim (decLt 0 (m .strips)) [
+        yes y ↦
+          let w : x .weight 0 (m .strips) ≤ mostStrips = omega (arith, weight-count m 0 (m .strips - 0), S .most-strips) in
+          let f : finishOf x 0 0 (m .strips) ≤ latest mostStrips = omega (arith, finish-most 0 (m .strips) 0 y (omega arith) (omega arith), S .most-strips) in
+          omega (arith, least-one x 0 0 y, mul-le-mul w f)
+        | no y ↦ omega (arith, least-end x 0 0 (omega arith))
       ]

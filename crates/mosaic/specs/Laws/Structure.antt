@@ -26,6 +26,12 @@ unfolding LawfulAfter
 last-within m b [] L = omega arith
 last-within m b (c ∷ bs) L = omega (arith, last-within m c bs (L .1), L .0 .runs)
 
+-- no more batches than strips
+pub count-within : (m : MosaicSection) (b : Batch) (bs : List Batch) → LawfulAfter m b bs → b .last + length bs ≤ m .strips
+unfolding LawfulAfter
+count-within m b [] L = omega arith
+count-within m b (c ∷ bs) L = omega (arith, count-within m c bs (L .1), L .0 .runs)
+
 module _ (m : MosaicSection) where
   collect : (bs : List Batch) (b : Batch) → ((i : ℕ) → i < length bs → BatchLawful m (getD (b ∷ bs) i noBatch) (getD bs i noBatch))
       → getD (b ∷ bs) (length bs) noBatch .last ≡ m .strips → LawfulAfter m b bs
