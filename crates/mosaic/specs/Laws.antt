@@ -7,3 +7,4 @@ pub mod Figure
 pub mod LowerBound
 pub mod Attained
 pub mod Earliest
+pub mod Alike

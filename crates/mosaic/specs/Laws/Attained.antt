@@ -53,7 +53,7 @@ module _ {m : MosaicSection} (S : MosaicSound m) where
     finish-most : finishOf (instanceOf m) free i q ≤ latest q
     unfolding instanceOf finishOf benchStart mountStart
     finish-most =
-        omega (arith, bench-most S i (q - i), ready-most S q k, S .most-mount)
+        omega (arith, bench-most S i (q - i), ready-most S q (omega (arith, S .most-strips)), S .most-mount)
 
     pub attains-batch : (figure : ℕ) (bs : List Batch) → Attains m q (finishOf (instanceOf m) free i q) figure bs
         → Attains m i free ((q - i) * finishOf (instanceOf m) free i q + figure) (batchOf (instanceOf m) free i q ∷ bs)

@@ -34,11 +34,11 @@ module _ {m : MosaicSection} (S : MosaicSound m) where
   unfolding benchSum
   bench-most i count = sum-most count mostTime (λ k. getD (m .bench) (i + k) 0) (λ k. S .most-bench (i + k))
 
-  station-most : (k q : ℕ) → q ≤ m .strips → stationSum m k q ≤ mostStrips * mostTime
+  station-most : (k q : ℕ) → q ≤ mostStrips → stationSum m k q ≤ mostStrips * mostTime
   unfolding stationSum
   station-most k q h =
-      omega (arith, sum-most q mostTime (λ i. getD (m .station) (4 * i + k) 0) (λ i. S .most-station (4 * i + k)), S .most-strips)
+      omega (arith, sum-most q mostTime (λ i. getD (m .station) (4 * i + k) 0) (λ i. S .most-station (4 * i + k)))
 
-  pub ready-most : (q : ℕ) → q ≤ m .strips → ready m q ≤ mostStrips * mostTime
+  pub ready-most : (q : ℕ) → q ≤ mostStrips → ready m q ≤ mostStrips * mostTime
   unfolding ready
   ready-most q h = greatest-most (m .stations) (mostStrips * mostTime) (λ k. stationSum m k q) (λ k. station-most k q h)

@@ -32,3 +32,8 @@ pub greatest-most : (n c : ℕ) (f : ℕ → ℕ) → ((k : ℕ) → f k ≤ c) 
 unfolding greatestOver
 greatest-most zero c f h = omega arith
 greatest-most (suc n) c f h = omega (arith, greatest-most n c f h, h n)
+
+pub greatest-same : (n : ℕ) (f g : ℕ → ℕ) → ((k : ℕ) → k < n → f k ≡ g k) → greatestOver n f ≡ greatestOver n g
+unfolding greatestOver
+greatest-same zero f g h = refl
+greatest-same (suc n) f g h = omega (arith, greatest-same n f g (λ k l. h k (omega arith)), h n (omega arith))
