@@ -3,7 +3,7 @@
 -- late: figures of the batches that wait for their last strip, batch i, q at 41 i + q.
 use mathlib.Core.Path.{_≡_}
 use mathlib.Core.Bool.{Bool, true, false}
-use mathlib.Core.List.{List, [], _∷_}
+use mathlib.Core.List.{List, [], _∷_, _++_}
 use Prim.Native.Nat.{ℕ, _+_, _*_, _-_, _≤_, _<_, _^_}
 use lib.ListN.{length, getD}
 use Rattle.sheet.specs.Sound.{MosaicSound}
@@ -121,6 +121,24 @@ pub record First (rs sums : List ℕ) (s n free i q : ℕ) : Type 0 where
   pub taken : chosenAt (instanceIn rs sums s n) i free
       ≡ batchOf (instanceIn rs sums s n) free i q ∷ chosenAt (instanceIn rs sums s n) q (finishOf (instanceIn rs sums s n) free i q)
   pub least : leastAt (instanceIn rs sums s n) i free ≡ closedAt (instanceIn rs sums s n) (benchStart s free (getD rs (q - 1) 0)) i q
+
+-- the lengths of a plan's arrays
+pub record Sized (plan : MosaicPlan) : Type 0 where
+  pub last : length (plan .last) ≡ 40
+  pub start : length (plan .start) ≡ 40
+  pub finish : length (plan .finish) ≡ 40
+
+-- what `add_batch` asks, and does
+pub record AddPre (plan : MosaicPlan) (count finish : ℕ) : Type 0 where
+  pub sized : Sized plan
+  pub few : plan .batches < 40
+  pub fits : plan .figure + count * finish < 2 ^ 64
+
+pub record Added (plan : MosaicPlan) (count last start finish : ℕ) (more : MosaicPlan) : Type 0 where
+  pub sized : Sized more
+  pub figure : more .figure ≡ plan .figure + count * finish
+  pub one-more : more .batches ≡ plan .batches + 1
+  pub batches : batchesOf more ≡ batchesOf plan ++ (record { last = last; start = start; finish = finish } ∷ [])
 
 -- what `choose_batches` asks, and does
 pub record BatchesPre (rs sums late row : List ℕ) (s n : ℕ) : Type 0 where

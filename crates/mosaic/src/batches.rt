@@ -1,5 +1,5 @@
 // The batches taken, read out of the tables from the first strip on.
-ghost use Rattle.mosaic.specs.Tables.{FromPre, First, BatchesPre, BatchesTaken};
+ghost use Rattle.mosaic.specs.Tables.{FromPre, First, AddPre, Added, BatchesPre, BatchesTaken};
 
 use crate::MosaicPlan;
 use crate::ready::later;
@@ -25,30 +25,37 @@ fn choose_batch(rs: &[u64], sums: &[u64], late: &[u64], row: &[u64], s: u64, n: 
     taken
 }
 
+// The plan with one batch more, of `count` strips.
+fn add_batch(plan: MosaicPlan, count: u64, last: u64, start: u64, finish: u64) -> MosaicPlan
+    requires { ⌜ AddPre plan count finish ⌝ }
+    ensures { λ more. ⌜ Added plan count last start finish more ⌝ }
+{
+    let b = plan.batches;
+    let mut more = plan;
+    more.last[b] = last;
+    more.start[b] = start;
+    more.finish[b] = finish;
+    more.batches = b + 1;
+    more.figure = plan.figure + count * finish;
+    more
+}
+
 // The batches taken, each mount as early as can be, and the sum of completions.
 pub fn choose_batches(rs: &[u64], sums: &[u64], late: &[u64], row: &mut [u64], s: u64, n: usize) -> MosaicPlan
     requires { ⌜ BatchesPre (now rs) (now sums) (now late) (now row) s n ⌝ }
-    ensures { λ p. ⌜ BatchesTaken (now (rs .entry)) (now (sums .entry)) s n p ⌝ }
+    ensures { λ plan. ⌜ BatchesTaken (now (rs .entry)) (now (sums .entry)) s n plan ⌝ }
 {
-    let mut last = [0u64; 40];
-    let mut start = [0u64; 40];
-    let mut finish = [0u64; 40];
-    let mut figure = 0;
-    let mut b = 0;
+    let mut plan = MosaicPlan { figure: 0, batches: 0, last: [0; 40], start: [0; 40], finish: [0; 40] };
     let mut i = 0;
     let mut free = 0;
     while i < n {
         fill_block(rs, sums, late, row, s, n, free + s, i, i + 1);
         let q = choose_batch(rs, sums, late, &*row, s, n, free, i);
-        let mounted = later(free, rs[q - 1]);
-        let finished = mounted + s + (sums[q] - sums[i]);
-        last[b] = q as u64;
-        start[b] = mounted;
-        finish[b] = finished;
-        figure += ((q - i) as u64) * finished;
-        b += 1;
+        let start = later(free, rs[q - 1]);
+        let finish = start + s + (sums[q] - sums[i]);
+        plan = add_batch(plan, (q - i) as u64, q as u64, start, finish);
         i = q;
-        free = finished;
+        free = finish;
     }
-    MosaicPlan { figure, batches: b, last, start, finish }
+    plan
 }

@@ -1,141 +1,108 @@
-use native.Mathlib.Omega.{arith}
 use mathlib.Core.Path.{refl}
 use Prim.Native.Nat.{_-_}
+use native.Mathlib.Omega.{arith}
 use borrow.Author.Needs.{needs}
-use Rattle.mosaic.proofs.BatchLaws.{PlanSoFar, plan-start, plan-begin, plan-block, plan-from, plan-last, plan-mounted, plan-sub, plan-finished, plan-product, plan-figure, plan-step, plan-end}
+use Rattle.mosaic.proofs.BatchLaws.{PlanSoFar, plan-start, plan-begin, plan-block, plan-from, plan-last, plan-mounted, plan-sub, plan-finish, plan-add, plan-step, plan-end}
 use Rattle.mosaic.proofs.batches.choose_batches.Statement.{statement}
 use Rattle.mosaic.proofs.batches.choose_batches.Tie as tie
 use Rattle.mosaic.proofs.batches.choose_batches.Reads as reads
 use Rattle.mosaic.proofs.batches.choose_batches.Lts as lts
+use Rattle.mosaic.proofs.batches.add_batch.Reads as add-batch-reads
 use Rattle.mosaic.proofs.batches.choose_batch.Reads as choose-batch-reads
 use Rattle.mosaic.proofs.ready.later.Reads as later-reads
 use Rattle.mosaic.proofs.tables.fill_block.Reads as fill-block-reads
 
 abbrev Inv-loop : tie.InvT-loop
-Inv-loop rs sums late row₀ s n last₀ start₀ finish₀ figure₀ b₀ i₀ free₀ row last start finish figure b i free =
-    PlanSoFar rs sums row₀ row s n last start finish figure b i free
+Inv-loop rs sums late row₀ s n plan₀ i₀ free₀ row plan i free = PlanSoFar rs sums row₀ row s n plan i free
 
 abbrev μ-loop : tie.MeasureT-loop
-μ-loop rs sums late row₀ s n last₀ start₀ finish₀ figure₀ b₀ i₀ free₀ row last start finish figure b i free =
-    n - i
+μ-loop rs sums late row₀ s n plan₀ i₀ free₀ row plan i free = n - i
 
--- src/batches.rt:40:5
+-- src/batches.rt:51:5
 loop-holds : tie.Need-loop-holds Inv-loop μ-loop
-loop-holds c = search plan-start
+loop-holds c = plan-start (c .before .before .before .before .pre) _ _ _ refl refl refl
 
--- src/batches.rt:41:47
+-- src/batches.rt:52:47
 add-fill-block : tie.Need-add-fill-block Inv-loop μ-loop
 add-fill-block c = search plan-begin
 
--- src/batches.rt:41:60
+-- src/batches.rt:52:60
 add-fill-block-2 : tie.Need-add-fill-block-2 Inv-loop μ-loop
 add-fill-block-2 c = search needs
 
--- src/batches.rt:41:9
+-- src/batches.rt:52:9
 fill-block-requires : tie.Need-fill-block-requires Inv-loop μ-loop
 fill-block-requires c κs = search plan-block
 
--- src/batches.rt:42:13
+-- src/batches.rt:53:13
 choose-batch-requires : tie.Need-choose-batch-requires Inv-loop μ-loop
 choose-batch-requires c κs = search plan-from
 
--- src/batches.rt:43:38
+-- src/batches.rt:54:36
 sub-later : tie.Need-sub-later Inv-loop μ-loop
 sub-later c = search needs
 
--- src/batches.rt:43:35
+-- src/batches.rt:54:33
 mul-later : tie.Need-mul-later Inv-loop μ-loop
 mul-later c = search needs
 
--- src/batches.rt:43:35
+-- src/batches.rt:54:33
 shared-slice-read-later : tie.Need-shared-slice-read-later Inv-loop μ-loop
 shared-slice-read-later c = search plan-last
 
--- src/batches.rt:43:13
+-- src/batches.rt:54:13
 later-requires : tie.Need-later-requires Inv-loop μ-loop
 later-requires c κs = search needs
 
--- src/batches.rt:44:24
-add-finished : tie.Need-add-finished Inv-loop μ-loop
-add-finished c = omega (arith, plan-mounted (c .before .before .before .before .before .before .before .before .before .before .before .before .before .before .pre) (c .before .before .before .before .before .before .before .before .before .loop .inv) (c .before .before .before .before .before .before .before .before .loop-test .taken) (c .before .before .choose-batch .ensures) (c .later .ensures))
+-- src/batches.rt:55:22
+add-finish : tie.Need-add-finish Inv-loop μ-loop
+add-finish c = omega (arith, plan-mounted (c .before .before .before .before .before .before .before .before .before .before .before .before .before .before .pre) (c .before .before .before .before .before .before .before .before .before .loop .inv) (c .before .before .before .before .before .before .before .before .loop-test .taken) (c .before .before .choose-batch .ensures) (c .later .ensures))
 
--- src/batches.rt:44:39
-mul-finished : tie.Need-mul-finished Inv-loop μ-loop
-mul-finished c = search needs
-
--- src/batches.rt:44:39
-shared-slice-read-finished : tie.Need-shared-slice-read-finished Inv-loop μ-loop
-shared-slice-read-finished c = search needs
-
--- src/batches.rt:44:49
-mul-finished-2 : tie.Need-mul-finished-2 Inv-loop μ-loop
-mul-finished-2 c = search needs
-
--- src/batches.rt:44:49
-shared-slice-read-finished-2 : tie.Need-shared-slice-read-finished-2 Inv-loop μ-loop
-shared-slice-read-finished-2 c = search needs
-
--- src/batches.rt:44:39
-sub-finished : tie.Need-sub-finished Inv-loop μ-loop
-sub-finished c = search plan-sub
-
--- src/batches.rt:44:24
-add-finished-2 : tie.Need-add-finished-2 Inv-loop μ-loop
-add-finished-2 c = search plan-finished
-
--- src/batches.rt:45:9
-mul-last : tie.Need-mul-last Inv-loop μ-loop
-mul-last c = search needs
-
--- src/batches.rt:45:9
-array-write-last : tie.Need-array-write-last Inv-loop μ-loop
-array-write-last c = search needs
-
--- src/batches.rt:46:9
-mul-start : tie.Need-mul-start Inv-loop μ-loop
-mul-start c = search needs
-
--- src/batches.rt:46:9
-array-write-start : tie.Need-array-write-start Inv-loop μ-loop
-array-write-start c = search needs
-
--- src/batches.rt:47:9
+-- src/batches.rt:55:35
 mul-finish : tie.Need-mul-finish Inv-loop μ-loop
 mul-finish c = search needs
 
--- src/batches.rt:47:9
-array-write-finish : tie.Need-array-write-finish Inv-loop μ-loop
-array-write-finish c = search needs
+-- src/batches.rt:55:35
+shared-slice-read-finish : tie.Need-shared-slice-read-finish Inv-loop μ-loop
+shared-slice-read-finish c = search needs
 
--- src/batches.rt:48:21
-sub-figure : tie.Need-sub-figure Inv-loop μ-loop
-sub-figure c = search needs
+-- src/batches.rt:55:45
+mul-finish-2 : tie.Need-mul-finish-2 Inv-loop μ-loop
+mul-finish-2 c = search needs
 
--- src/batches.rt:48:19
-mul-figure : tie.Need-mul-figure Inv-loop μ-loop
-mul-figure c = omega (arith, plan-product (c .before .before .before .before .before .before .before .before .before .before .before .before .before .before .before .before .pre) (c .before .before .before .before .before .before .before .before .before .before .before .loop .inv) (c .before .before .before .before .before .before .before .before .before .before .loop-test .taken) (c .before .before .before .before .choose-batch .ensures) (c .before .before .later .ensures))
+-- src/batches.rt:55:45
+shared-slice-read-finish-2 : tie.Need-shared-slice-read-finish-2 Inv-loop μ-loop
+shared-slice-read-finish-2 c = search needs
 
--- src/batches.rt:48:9
-add-figure : tie.Need-add-figure Inv-loop μ-loop
-add-figure c = omega (arith, plan-figure (c .before .before .before .before .before .before .before .before .before .before .before .before .before .before .before .before .pre) (c .before .before .before .before .before .before .before .before .before .before .before .loop .inv) (c .before .before .before .before .before .before .before .before .before .before .loop-test .taken) (c .before .before .before .before .choose-batch .ensures) (c .before .before .later .ensures))
+-- src/batches.rt:55:35
+sub-finish : tie.Need-sub-finish Inv-loop μ-loop
+sub-finish c = search plan-sub
 
--- src/batches.rt:49:9
-add-b : tie.Need-add-b Inv-loop μ-loop
-add-b c = search needs
+-- src/batches.rt:55:22
+add-finish-2 : tie.Need-add-finish-2 Inv-loop μ-loop
+add-finish-2 c = search plan-finish
 
--- src/batches.rt:40:5
+-- src/batches.rt:56:33
+sub-add-batch : tie.Need-sub-add-batch Inv-loop μ-loop
+sub-add-batch c = search needs
+
+-- src/batches.rt:56:9
+add-batch-requires : tie.Need-add-batch-requires Inv-loop μ-loop
+add-batch-requires c κs = search plan-add
+
+-- src/batches.rt:51:5
 loop-less : tie.Need-loop-less Inv-loop μ-loop
 loop-less c = search needs
 
--- src/batches.rt:40:5
+-- src/batches.rt:51:5
 loop-again : tie.Need-loop-again Inv-loop μ-loop
 loop-again c = search plan-step
 
--- src/batches.rt:29:1
+-- src/batches.rt:44:1
 same-length : tie.Need-same-length Inv-loop μ-loop
 same-length c = search needs
 
--- src/batches.rt:29:1
+-- src/batches.rt:44:1
 returns : tie.Need-returns Inv-loop μ-loop
 returns c = search plan-end
 
@@ -154,23 +121,15 @@ choose-batches-spec =
     mul-later
     shared-slice-read-later
     later-requires
-    add-finished
-    mul-finished
-    shared-slice-read-finished
-    mul-finished-2
-    shared-slice-read-finished-2
-    sub-finished
-    add-finished-2
-    mul-last
-    array-write-last
-    mul-start
-    array-write-start
+    add-finish
     mul-finish
-    array-write-finish
-    sub-figure
-    mul-figure
-    add-figure
-    add-b
+    shared-slice-read-finish
+    mul-finish-2
+    shared-slice-read-finish-2
+    sub-finish
+    add-finish-2
+    sub-add-batch
+    add-batch-requires
     loop-less
     loop-again
     same-length
