@@ -8,9 +8,9 @@ use native.Mathlib.Decide.{decLt}
 use native.Mathlib.Omega.{arith}
 use lib.ListN.{length, getD}
 use Rattle.mosaic.specs.Least.{Instance, benchStart, finishOf}
-use Rattle.mosaic.specs.Index.{leastAt, openAt, closedAt}
+use Rattle.mosaic.specs.Index.{lateStart, leastAt, openAt, closedAt}
 use Rattle.mosaic.specs.Tables.{instanceIn, Input, InTime, FromPre, CandidatePre}
-use Rattle.mosaic.specs.Laws.Recursion.{lateStart, start-max, least-end, least-one, least-open, open-last, open-more}
+use Rattle.mosaic.specs.Laws.Recursion.{start-max, least-end, least-one, least-open, open-last, open-more}
 
 -- one batch of all strips left bounds the least figure
 finish-most : {rs sums : List ℕ} {s n : ℕ} → Input rs sums s n → (i t : ℕ) → t ≤ 2 ^ 44 → finishOf (instanceIn rs sums s n) t i n ≤ 2 ^ 45

@@ -8,9 +8,9 @@ use native.Mathlib.Decide.{decLt}
 use native.Mathlib.Omega.{arith}
 use lib.ListN.{length, getD, set, length-set}
 use lib.Seq.{getD-set-same, getD-set-other}
-use Rattle.mosaic.specs.Index.{leastAt, closedAt}
+use Rattle.mosaic.specs.Index.{lateStart, leastAt, closedAt}
 use Rattle.mosaic.specs.Tables.{instanceIn, Input, RowIs, LateFrom, BlockPre, AfterPre, LatePre}
-use Rattle.mosaic.specs.Laws.Recursion.{lateStart, late-max}
+use Rattle.mosaic.specs.Laws.Recursion.{late-max}
 use Rattle.mosaic.proofs.CandidateLaws.{least-most}
 
 -- the batches of the strips after i up to q are done

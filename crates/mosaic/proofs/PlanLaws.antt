@@ -10,11 +10,13 @@ use Rattle.sheet.specs.declared.MosaicSection.{MosaicSection}
 use Rattle.rules.specs.declared.Batch.{Batch}
 use Rattle.rules.specs.Mosaic.{ready, benchSum}
 use Rattle.mosaic.specs.Least.{instanceOf}
+use Rattle.mosaic.specs.Chosen.{chosenBatches}
 use Rattle.mosaic.specs.Plan.{batchesIn, batchesOf, Planned}
 use Rattle.mosaic.specs.Tables.{instanceIn, Input, LateFrom, LatePre, BatchesPre, BatchesTaken, ReadyTimes, BenchSums}
 use Rattle.mosaic.specs.Laws.Rules.{bench-upto, bench-most, ready-most, weight-count}
 use Rattle.mosaic.specs.Laws.Alike.{Alike, least-same, chosen-same}
-use Rattle.mosaic.specs.Theorems.{least-is, chosen-is}
+use Rattle.mosaic.specs.Laws.Whole.{least-is, chosen-is}
+use Rattle.mosaic.specs.Theorems.{mosaic-count}
 use Rattle.mosaic.specs.declared.MosaicPlan.{MosaicPlan}
 
 count-is : (n : ℕ) (last start finish : List ℕ) → length (batchesIn n last start finish) ≡ n
@@ -70,8 +72,10 @@ module _ {m : MosaicSection} (S : MosaicSound m) {rs sums : List ℕ} (R : Ready
   pub planned : {p : MosaicPlan} → BatchesTaken rs sums (m .mount) (m .strips) p → Planned m p
   unfolding batchesOf
   planned {p} T =
-      let e = T .batches ∙ sym (chosen-is m ∙ chosen-same alike 0 0) in record {
+      let e = T .batches ∙ sym (chosen-is m ∙ chosen-same alike 0 0) in
+      let c : p .batches ≡ length (chosenBatches m) = sym (count-is (p .batches) (p .last) (p .start) (p .finish)) ∙ ap length e in record {
         figure = T .figure ∙ sym (least-is m ∙ least-same alike 0 0);
         batches = e;
-        count = sym (count-is (p .batches) (p .last) (p .start) (p .finish)) ∙ ap length e;
+        count = c;
+        few = omega (arith, c, mosaic-count m S, S .most-strips);
       }

@@ -5,6 +5,10 @@ use Rattle.rules.specs.declared.Batch.{Batch}
 use Rattle.mosaic.specs.Least.{Instance, leastOpen, leastFrom}
 use Rattle.mosaic.specs.Chosen.{chosenOpen, chosenFrom}
 
+-- when the bench work of a batch begins that waits for its last strip
+unfoldable pub lateStart : ℕ → ℕ → ℕ
+lateStart mount ready = ready + mount
+
 -- the least figure of the strips after i, the machine free at `free`: with no batch open; with an open batch up to q
 unfoldable pub leastAt : Instance → ℕ → ℕ → ℕ
 leastAt x i free = leastFrom x (x .strips - i) i free

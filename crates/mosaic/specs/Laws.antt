@@ -8,3 +8,5 @@ pub mod LowerBound
 pub mod Attained
 pub mod Earliest
 pub mod Alike
+pub mod Whole
+pub mod Present

@@ -1,8 +1,9 @@
 -- The plan that the program returns, and what it promises.
-use Prim.Native.Nat.{ℕ, zero, suc}
+use Prim.Native.Nat.{ℕ, zero, suc, _≤_}
 use mathlib.Core.Path.{_≡_}
 use mathlib.Core.List.{List, [], _∷_, _++_}
 use lib.ListN.{length, getD}
+use Rattle.sheet.specs.Limits.{mostStrips}
 use Rattle.sheet.specs.declared.MosaicSection.{MosaicSection}
 use Rattle.rules.specs.declared.Batch.{Batch}
 use Rattle.mosaic.specs.Least.{leastFigure}
@@ -27,3 +28,4 @@ pub record Planned (m : MosaicSection) (p : MosaicPlan) : Type 0 where
   pub figure : p .figure ≡ leastFigure m
   pub batches : batchesOf p ≡ chosenBatches m
   pub count : p .batches ≡ length (chosenBatches m)
+  pub few : p .batches ≤ mostStrips

@@ -12,9 +12,8 @@ use Rattle.rules.specs.declared.Batch.{Batch}
 use Rattle.rules.specs.Mosaic.{ready, benchSum}
 use Rattle.mosaic.specs.Least.{Instance, benchStart, finishOf}
 use Rattle.mosaic.specs.Chosen.{batchOf}
-use Rattle.mosaic.specs.Index.{leastAt, closedAt, chosenAt}
+use Rattle.mosaic.specs.Index.{lateStart, leastAt, closedAt, chosenAt}
 use Rattle.mosaic.specs.Plan.{batchesOf}
-use Rattle.mosaic.specs.Laws.Recursion.{lateStart}
 use Rattle.mosaic.specs.declared.MosaicPlan.{MosaicPlan}
 
 -- the instance that the slices give
@@ -80,11 +79,6 @@ pub record RowPre (rs sums late row : List ℕ) (s n begin i lo : ℕ) : Type 0 
   pub most-begin : begin ≤ 2 ^ 42
   pub from : i ≤ lo
   pub inside : lo < n
-
--- a row that is as it was but for the entries lo .. hi - 1
-pub record Same (row₀ row₁ : List ℕ) (lo hi : ℕ) : Type 0 where
-  pub len : length row₁ ≡ length row₀
-  pub above : (p : ℕ) → hi ≤ p → getD row₁ p 0 ≡ getD row₀ p 0
 
 pub record RowPost (rs sums row₀ row₁ : List ℕ) (s n begin i lo : ℕ) : Type 0 where
   pub row : RowIs rs sums row₁ s n begin i lo

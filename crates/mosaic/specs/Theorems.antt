@@ -3,50 +3,31 @@
 use mathlib.Core.Path.{_≡_, refl, ap, _∙_, sym}
 use mathlib.Core.List.{List, [], _∷_}
 use Prim.Native.Nat.{ℕ, zero, suc, _+_, _*_, _-_, _≤_, _<_, max}
-use native.Mathlib.Nat.{mul-le-mul}
-use native.Mathlib.Decide.{decLt}
 use native.Mathlib.Omega.{arith}
-use lib.ListN.{length, getD}
+use lib.ListN.{length}
 use Rattle.sheet.specs.Limits.{mostTime, mostStrips}
 use Rattle.sheet.specs.Sound.{MosaicSound}
 use Rattle.sheet.specs.declared.MosaicSection.{MosaicSection}
 use Rattle.rules.specs.declared.Batch.{Batch}
 use Rattle.rules.specs.Mosaic.{noBatch, batchAt, MosaicLawful, mosaicFigure}
-use Rattle.mosaic.specs.Least.{leastFigure, instanceOf, leastFrom}
-use Rattle.mosaic.specs.Chosen.{chosenBatches, chosenFrom}
+use Rattle.mosaic.specs.Least.{leastFigure}
+use Rattle.mosaic.specs.Chosen.{chosenBatches}
 use Rattle.mosaic.specs.Plan.{lasts}
-use Rattle.mosaic.specs.Index.{leastAt, chosenAt}
 use Rattle.mosaic.specs.Laws.Structure.{lawful-after, after-lawful, count-within}
 use Rattle.mosaic.specs.Laws.Figure.{rest-whole}
 use Rattle.mosaic.specs.Laws.LowerBound.{lower-after}
-use Rattle.mosaic.specs.Laws.Attained.{Attains, FinishBy, latest, attains-at, figure-most}
+use Rattle.mosaic.specs.Laws.Attained.{latest, figure-most}
+use Rattle.mosaic.specs.Laws.Whole.{least-is, attained, finish-at}
+use Rattle.mosaic.specs.Laws.Present.{present}
 use Rattle.mosaic.specs.Laws.Earliest.{earliest}
 
--- the recursion from the first strip on, by index
-pub least-is : (m : MosaicSection) → leastFigure m ≡ leastAt (instanceOf m) 0 0
-unfolding leastFigure leastAt instanceOf
-least-is m = ap (λ (n : ℕ). leastFrom (instanceOf m) n 0 0) (omega arith)
-
-pub chosen-is : (m : MosaicSection) → chosenBatches m ≡ chosenAt (instanceOf m) 0 0
-unfolding chosenBatches chosenAt instanceOf
-chosen-is m = ap (λ (n : ℕ). chosenFrom (instanceOf m) n 0 0) (omega arith)
-
-finish-at : (c : ℕ) (bs : List Batch) → FinishBy c bs → (i : ℕ) → i < length bs → getD bs i noBatch .finish ≤ c
-unfolding FinishBy
-finish-at c [] F i h = absurd (omega arith)
-finish-at c (b ∷ bs) F zero h = F .0
-finish-at c (b ∷ bs) F (suc i) h = finish-at c bs (F .1) i (omega arith)
-
 module _ (m : MosaicSection) (S : MosaicSound m) where
-  attained : Attains m 0 0 (leastFigure m) (chosenBatches m)
-  attained = rw (least-is m, chosen-is m) (attains-at S 0 0 (omega arith) (omega arith))
-
   pub mosaic-lawful : MosaicLawful m (chosenBatches m)
   unfolding noBatch
-  mosaic-lawful = after-lawful m (chosenBatches m) (attained .lawful noBatch refl refl)
+  mosaic-lawful = after-lawful m (chosenBatches m) (attained m S .lawful noBatch refl refl)
 
   pub mosaic-figure : mosaicFigure m (chosenBatches m) ≡ leastFigure m
-  mosaic-figure = rest-whole m (chosenBatches m) ∙ attained .figure-is
+  mosaic-figure = rest-whole m (chosenBatches m) ∙ attained m S .figure-is
 
   pub mosaic-least : (bs : List Batch) → MosaicLawful m bs → leastFigure m ≤ mosaicFigure m bs
   unfolding noBatch
@@ -56,12 +37,12 @@ module _ (m : MosaicSection) (S : MosaicSound m) where
       → (i : ℕ) → i < length bs → batchAt (chosenBatches m) i .start ≤ batchAt bs i .start
   unfolding noBatch batchAt
   mosaic-earliest bs L e =
-      earliest m (chosenBatches m) bs noBatch noBatch (attained .early) (attained .lawful noBatch refl refl) (lawful-after m bs L) refl (omega arith) e
+      earliest m (chosenBatches m) bs noBatch noBatch (attained m S .early) (attained m S .lawful noBatch refl refl) (lawful-after m bs L) refl (omega arith) e
 
   -- 1,200,000 at most, below the ceiling of 10,000,000
   pub mosaic-finishes : (i : ℕ) → i < length (chosenBatches m) → batchAt (chosenBatches m) i .finish ≤ mostStrips * mostTime + mostStrips * (2 * mostTime)
   unfolding batchAt
-  mosaic-finishes i h = omega (arith, finish-at (latest (m .strips)) (chosenBatches m) (attained .finishes) i h, S .most-strips)
+  mosaic-finishes i h = omega (arith, finish-at (latest (m .strips)) (chosenBatches m) (attained m S .finishes) i h, S .most-strips)
 
   -- 48,000,000 at most, which four bytes hold
   pub mosaic-figure-most : leastFigure m ≤ mostStrips * (mostStrips * mostTime + mostStrips * (2 * mostTime))
@@ -69,4 +50,8 @@ module _ (m : MosaicSection) (S : MosaicSound m) where
 
   pub mosaic-count : length (chosenBatches m) ≤ m .strips
   unfolding noBatch
-  mosaic-count = omega (arith, count-within m noBatch (chosenBatches m) (attained .lawful noBatch refl refl))
+  mosaic-count = omega (arith, count-within m noBatch (chosenBatches m) (attained m S .lawful noBatch refl refl))
+
+  -- "a present figure is at least 1"
+  pub mosaic-present : 0 < m .strips → 0 < leastFigure m
+  mosaic-present h = rw (least-is m) (present S h)

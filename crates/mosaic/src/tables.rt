@@ -4,8 +4,7 @@ ghost use mathlib.Core.Path.{_≡_};
 ghost use Prim.Native.Nat.{ℕ, _+_, _-_, _<_, _^_};
 ghost use lib.ListN.{getD};
 ghost use Rattle.mosaic.specs.Least.{benchStart};
-ghost use Rattle.mosaic.specs.Index.{leastAt, closedAt};
-ghost use Rattle.mosaic.specs.Laws.Recursion.{lateStart};
+ghost use Rattle.mosaic.specs.Index.{lateStart, leastAt, closedAt};
 ghost use Rattle.mosaic.specs.Tables.{instanceIn, InTime, CandidatePre, FromPre, RowPre, RowPost, BlockPre, RowIs, AfterPre, LatePre, LateFrom};
 
 // Whether a batch whose last strip is ready at `ready` need not wait for it, the machine free at `free`.

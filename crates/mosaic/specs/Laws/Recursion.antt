@@ -10,12 +10,9 @@ use borrow.Author.Tests.{lt-ltb, le-ltb}
 use Rattle.rules.specs.declared.Batch.{Batch}
 use Rattle.mosaic.specs.Least.{Instance, mountStart, benchStart, finishOf, leastOpen, leastFrom}
 use Rattle.mosaic.specs.Chosen.{batchOf, chosenOpen, chosenFrom}
-use Rattle.mosaic.specs.Index.{leastAt, openAt, closedAt, chosenAt, chosenOpenAt}
+use Rattle.mosaic.specs.Index.{lateStart, leastAt, openAt, closedAt, chosenAt, chosenOpenAt}
 
 -- the finish rule, as the tables use it: a batch that need not wait for its last strip, and one that waits
-unfoldable pub lateStart : ℕ → ℕ → ℕ
-lateStart mount ready = ready + mount
-
 pub start-in-time : (s t r : ℕ) → r ≤ t → benchStart s t r ≡ t + s
 unfolding benchStart mountStart
 start-in-time s t r h = omega arith

@@ -48,7 +48,7 @@ mul-later c = search needs
 
 -- src/batches.rt:54:33
 shared-slice-read-later : tie.Need-shared-slice-read-later Inv-loop μ-loop
-shared-slice-read-later c = search plan-last
+shared-slice-read-later c = search needs
 
 -- src/batches.rt:54:13
 later-requires : tie.Need-later-requires Inv-loop μ-loop

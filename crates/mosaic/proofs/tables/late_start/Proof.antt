@@ -1,5 +1,5 @@
 use native.Mathlib.Omega.{arith}
-use Rattle.mosaic.specs.Laws.Recursion.{lateStart}
+use Rattle.mosaic.specs.Index.{lateStart}
 use borrow.Author.Needs.{needs}
 use Rattle.mosaic.proofs.tables.late_start.Statement.{statement}
 use Rattle.mosaic.proofs.tables.late_start.Tie as tie
