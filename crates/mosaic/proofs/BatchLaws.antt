@@ -1,17 +1,16 @@
 -- The batches are written one after another: those written, and those that the recursion takes after them, are those that it takes from the start.
-use mathlib.Core.Path.{_≡_, refl, ap, _∙_, sym}
+use mathlib.Core.Path.{_≡_, refl, _∙_, sym}
 use mathlib.Core.List.{List, [], _∷_, _++_, append-assoc, append-nil}
 use Prim.Native.Nat.{ℕ, zero, suc, _+_, _*_, _-_, _≤_, _<_, _^_, max}
 use native.Mathlib.Numerals.{add-one}
 use native.Mathlib.Omega.{arith}
 use lib.ListN.{length, getD, set, length-set}
 use lib.Seq.{getD-set-same, getD-set-other}
-use Rattle.rules.specs.declared.Batch.{Batch}
 use Rattle.mosaic.specs.Least.{mountStart, benchStart, finishOf}
 use Rattle.mosaic.specs.Chosen.{batchOf}
 use Rattle.mosaic.specs.Index.{leastAt, closedAt, chosenAt}
 use Rattle.mosaic.specs.Plan.{batchesIn, batchesOf}
-use Rattle.mosaic.specs.Tables.{instanceIn, Input, RowIs, LateFrom, BlockPre, FromPre, First, Sized, AddPre, Added, BatchesPre, BatchesTaken}
+use Rattle.mosaic.specs.Tables.{instanceIn, RowIs, BlockPre, FromPre, First, Sized, AddPre, Added, BatchesPre, BatchesTaken}
 use Rattle.mosaic.specs.Laws.Recursion.{least-end, chosen-end}
 use Rattle.mosaic.specs.declared.MosaicPlan.{MosaicPlan}
 use Rattle.mosaic.proofs.CandidateLaws.{least-most}
@@ -31,8 +30,12 @@ kept : (last start finish : List ℕ) (b u v w k : ℕ) → k ≤ b → batchesI
 unfolding batchesIn
 kept last start finish b u v w zero h = refl
 kept last start finish b u v w (suc k) h =
-    rw (kept last start finish b u v w k (omega arith), getD-set-other last b k u 0 (omega arith), getD-set-other start b k v 0 (omega arith),
-      getD-set-other finish b k w 0 (omega arith))
+    rw (
+      kept last start finish b u v w k (omega arith),
+      getD-set-other last b k u 0 (omega arith),
+      getD-set-other start b k v 0 (omega arith),
+      getD-set-other finish b k w 0 (omega arith),
+    )
 
 added : (last start finish : List ℕ) (b u v w : ℕ) → b < length last → b < length start → b < length finish
     → batchesIn (b + 1) (set last b u) (set start b v) (set finish b w) ≡ batchesIn b last start finish ++ (record { last = u; start = v; finish = w } ∷ [])
@@ -42,13 +45,13 @@ added last start finish b u v w h₁ h₂ h₃ =
 
 pub plan-added : {plan : MosaicPlan} {count finish : ℕ} → AddPre plan count finish → (last start : ℕ)
     → Added plan count last start finish
-      (record {
-        figure = plan .figure + count * finish;
-        batches = plan .batches + 1;
-        last = set (plan .last) (plan .batches) last;
-        start = set (plan .start) (plan .batches) start;
-        finish = set (plan .finish) (plan .batches) finish;
-      })
+    (record {
+      figure = plan .figure + count * finish;
+      batches = plan .batches + 1;
+      last = set (plan .last) (plan .batches) last;
+      start = set (plan .start) (plan .batches) start;
+      finish = set (plan .finish) (plan .batches) finish;
+    })
 unfolding batchesOf
 plan-added {plan} {count} {finish} P last start = record {
   sized = record {
@@ -105,9 +108,6 @@ module _ {rs sums late row₀ : List ℕ} {s n : ℕ} (P : BatchesPre rs sums la
     }
 
     module _ {q : ℕ} (C : First rs sums s n free i q) where
-      pub plan-last : q - 1 < length rs
-      plan-last = omega (arith, C .first, C .last, P .input .ready-long)
-
       pub plan-sub : getD sums i 0 ≤ getD sums q 0
       plan-sub = P .input .rise i q (omega (arith, C .first)) (C .last)
 

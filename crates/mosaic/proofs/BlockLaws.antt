@@ -4,10 +4,9 @@ use mathlib.Core.List.{List}
 use Prim.Native.Nat.{ℕ, _+_, _*_, _-_, _≤_, _<_, _^_}
 use native.Mathlib.Nat.{mul-le-mul}
 use native.Mathlib.Omega.{arith}
-use lib.ListN.{length, getD, set, length-set}
+use lib.ListN.{length, set, length-set}
 use lib.Seq.{getD-set-same}
-use Rattle.mosaic.specs.Index.{leastAt}
-use Rattle.mosaic.specs.Tables.{instanceIn, Input, RowIs, RowPre, RowPost, BlockPre}
+use Rattle.mosaic.specs.Tables.{instanceIn, RowIs, RowPre, RowPost, BlockPre}
 use Rattle.mosaic.specs.Laws.Recursion.{least-end}
 
 -- the row from p on is done; `at` is its time

@@ -1,15 +1,15 @@
 -- A candidate's figure fits and is what the recursion has for closing the batch; the least of the candidates is the recursion's value.
-use mathlib.Core.Path.{_≡_, refl, ap, _∙_, sym}
+use mathlib.Core.Path.{_≡_, refl, _∙_, sym}
 use mathlib.Core.Bool.{Bool, true, false}
 use mathlib.Core.List.{List}
-use Prim.Native.Nat.{ℕ, _+_, _*_, _-_, _≤_, _<_, _^_, min, max}
+use Prim.Native.Nat.{ℕ, _+_, _*_, _-_, _≤_, _<_, _^_, min}
 use native.Mathlib.Nat.{mul-le-mul}
 use native.Mathlib.Decide.{decLt}
 use native.Mathlib.Omega.{arith}
-use lib.ListN.{length, getD}
-use Rattle.mosaic.specs.Least.{Instance, benchStart, finishOf}
-use Rattle.mosaic.specs.Index.{lateStart, leastAt, openAt, closedAt}
-use Rattle.mosaic.specs.Tables.{instanceIn, Input, InTime, FromPre, CandidatePre}
+use lib.ListN.{getD}
+use Rattle.mosaic.specs.Least.{benchStart, finishOf}
+use Rattle.mosaic.specs.Index.{leastAt, openAt, closedAt}
+use Rattle.mosaic.specs.Tables.{width, instanceIn, Input, InTime, FromPre, CandidatePre}
 use Rattle.mosaic.specs.Laws.Recursion.{start-max, least-end, least-one, least-open, open-last, open-more}
 
 -- one batch of all strips left bounds the least figure
@@ -19,9 +19,12 @@ finish-most {rs} {sums} {s} {n} I i t h = omega (arith, start-max s t (getD rs (
 
 pub least-most : {rs sums : List ℕ} {s n : ℕ} → Input rs sums s n → (i t : ℕ) → t ≤ 2 ^ 44 → leastAt (instanceIn rs sums s n) i t ≤ 40 * 2 ^ 45
 least-most {rs} {sums} {s} {n} I i t h = elim (decLt i n) [
-  yes k ↦
-    omega (arith, least-one (instanceIn rs sums s n) i t k,
-      mul-le-mul {n₁ = n - i} {m₁ = finishOf (instanceIn rs sums s n) t i n} {n₂ = 40} {m₂ = 2 ^ 45} (omega (arith, I .most-strips)) (finish-most I i t h))
+  | yes k ↦
+      omega (
+        arith,
+        least-one (instanceIn rs sums s n) i t k,
+        mul-le-mul {n₁ = n - i} {m₁ = finishOf (instanceIn rs sums s n) t i n} {n₂ = 40} {m₂ = 2 ^ 45} (omega (arith, I .most-strips)) (finish-most I i t h),
+      )
   | no k ↦ omega (arith, least-end (instanceIn rs sums s n) i t (omega arith))
 ]
 
@@ -49,12 +52,12 @@ module _ {rs sums late row : List ℕ} {s n free i q : ℕ} (P : CandidatePre rs
 
   pub candidate-in-time : {answer : Bool} → InTime s free (getD rs (q - 1) 0) answer → answer ≡ true
       → (q - i) * (free + s + (getD sums q 0 - getD sums i 0)) + getD row q 0
-        ≡ closedAt (instanceIn rs sums s n) (benchStart s free (getD rs (q - 1) 0)) i q
+      ≡ closedAt (instanceIn rs sums s n) (benchStart s free (getD rs (q - 1) 0)) i q
   unfolding closedAt
   candidate-in-time T h = rw (T .yes h, row-is)
 
   pub candidate-late : {answer : Bool} → InTime s free (getD rs (q - 1) 0) answer → answer ≡ false
-      → getD late (41 * i + q) 0 ≡ closedAt (instanceIn rs sums s n) (benchStart s free (getD rs (q - 1) 0)) i q
+      → getD late (width * i + q) 0 ≡ closedAt (instanceIn rs sums s n) (benchStart s free (getD rs (q - 1) 0)) i q
   candidate-late T h = rw (T .no h) (P .from .ahead .late-at q (P .first) (P .last))
 
 -- the least of the candidates from n down to q

@@ -1,12 +1,12 @@
 -- The last strip of the first batch taken: the candidate that is below all later ones, as the recursion closes the open batch only if that is better.
 use mathlib.Core.Path.{_≡_, refl, ap, _∙_, sym}
-use mathlib.Core.List.{List, [], _∷_}
-use Prim.Native.Nat.{ℕ, _+_, _*_, _-_, _≤_, _<_, _^_}
+use mathlib.Core.List.{List, _∷_}
+use Prim.Native.Nat.{ℕ, _+_, _-_, _≤_, _<_}
 use native.Mathlib.Omega.{arith}
-use lib.ListN.{length, getD}
+use lib.ListN.{getD}
 use Rattle.mosaic.specs.Least.{benchStart, finishOf}
 use Rattle.mosaic.specs.Chosen.{batchOf}
-use Rattle.mosaic.specs.Index.{leastAt, openAt, closedAt, chosenAt, chosenOpenAt}
+use Rattle.mosaic.specs.Index.{closedAt, chosenAt, chosenOpenAt}
 use Rattle.mosaic.specs.Tables.{instanceIn, FromPre, First}
 use Rattle.mosaic.specs.Laws.Recursion.{chosen-open, chosen-last, chosen-close, chosen-extend}
 use Rattle.mosaic.proofs.CandidateLaws.{LeastSoFar, least-start, least-less, least-more, least-end-is}

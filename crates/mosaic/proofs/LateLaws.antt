@@ -1,6 +1,6 @@
 -- The figures of the batches that wait for their last strip, from the last strip back: a batch's bench work begins when its last strip is ready and mounted,
 -- at a time that no earlier batch changes, and the row of the block that it begins has what is least after it.
-use mathlib.Core.Path.{_≡_, refl, ap, _∙_, sym}
+use mathlib.Core.Path.{_≡_, refl, _∙_}
 use mathlib.Core.List.{List}
 use Prim.Native.Nat.{ℕ, _+_, _*_, _-_, _≤_, _<_, _^_}
 use native.Mathlib.Nat.{mul-le-mul}
@@ -9,14 +9,14 @@ use native.Mathlib.Omega.{arith}
 use lib.ListN.{length, getD, set, length-set}
 use lib.Seq.{getD-set-same, getD-set-other}
 use Rattle.mosaic.specs.Index.{lateStart, leastAt, closedAt}
-use Rattle.mosaic.specs.Tables.{instanceIn, Input, RowIs, LateFrom, BlockPre, AfterPre, LatePre}
+use Rattle.mosaic.specs.Tables.{width, instanceIn, RowIs, LateFrom, BlockPre, AfterPre, LatePre}
 use Rattle.mosaic.specs.Laws.Recursion.{late-max}
 use Rattle.mosaic.proofs.CandidateLaws.{least-most}
 
 -- the batches of the strips after i up to q are done
 pub record LateSoFar (rs sums late₀ row₀ late row : List ℕ) (s n i q : ℕ) : Type 0 where
   pub later : LateFrom rs sums late s n (i + 1)
-  pub done : (p : ℕ) → i < p → p ≤ q → getD late (41 * i + p) 0 ≡ closedAt (instanceIn rs sums s n) (lateStart s (getD rs (p - 1) 0)) i p
+  pub done : (p : ℕ) → i < p → p ≤ q → getD late (width * i + p) 0 ≡ closedAt (instanceIn rs sums s n) (lateStart s (getD rs (p - 1) 0)) i p
   pub from : i ≤ q
   pub to : q ≤ n
   pub late-len : length late ≡ length late₀
@@ -75,35 +75,35 @@ module _ {rs sums late₀ row₀ : List ℕ} {s n i : ℕ} (P : AfterPre rs sums
         after-sum = omega (arith, product-most, row-is, least-most (P .input) (q + 1) (begin + (getD sums (q + 1) 0 - getD sums i 0)) (omega (arith, finish-most)))
 
         new-is : (p : ℕ) → p ≡ q + 1
-            → getD (set late (41 * i + (q + 1)) ((q + 1 - i) * (begin + (getD sums (q + 1) 0 - getD sums i 0)) + getD row₁ (q + 1) 0)) (41 * i + p) 0
-              ≡ closedAt (instanceIn rs sums s n) (lateStart s (getD rs (p - 1) 0)) i p
+            → getD (set late (width * i + (q + 1)) ((q + 1 - i) * (begin + (getD sums (q + 1) 0 - getD sums i 0)) + getD row₁ (q + 1) 0)) (width * i + p) 0
+            ≡ closedAt (instanceIn rs sums s n) (lateStart s (getD rs (p - 1) 0)) i p
         unfolding closedAt
-        new-is p e = rw (e, row-is, ← b) (getD-set-same late (41 * i + (q + 1)) _ 0 (omega (arith, P .late-long, M .late-len, P .input .most-strips)))
+        new-is p e = rw (e, row-is, ← b) (getD-set-same late (width * i + (q + 1)) _ 0 (omega (arith, P .late-long, M .late-len, P .input .most-strips)))
 
         pub after-step : length row₁ ≡ length row
-            → LateSoFar rs sums late₀ row₀ (set late (41 * i + (q + 1)) ((q + 1 - i) * (begin + (getD sums (q + 1) 0 - getD sums i 0)) + getD row₁ (q + 1) 0)) row₁ s n i (q + 1)
+            → LateSoFar rs sums late₀ row₀ (set late (width * i + (q + 1)) ((q + 1 - i) * (begin + (getD sums (q + 1) 0 - getD sums i 0)) + getD row₁ (q + 1) 0)) row₁ s n i (q + 1)
         after-step l =
             let x : ℕ = (q + 1 - i) * (begin + (getD sums (q + 1) 0 - getD sums i 0)) + getD row₁ (q + 1) 0 in record {
               later = record {
-                at = λ j p g k e. getD-set-other late (41 * i + (q + 1)) (41 * j + p) x 0 (omega (arith, P .input .most-strips)) ∙ M .later .at j p g k e;
+                at = λ j p g k e. getD-set-other late (width * i + (q + 1)) (width * j + p) x 0 (omega (arith, P .input .most-strips)) ∙ M .later .at j p g k e;
               };
               done = λ p g k. elim (decLt q p) [
-                yes y ↦ new-is p (omega arith)
-                | no y ↦ getD-set-other late (41 * i + (q + 1)) (41 * i + p) x 0 (omega arith) ∙ M .done p g (omega arith)
+                | yes y ↦ new-is p (omega arith)
+                | no y ↦ getD-set-other late (width * i + (q + 1)) (width * i + p) x 0 (omega arith) ∙ M .done p g (omega arith)
               ];
               from = omega (arith, M .from);
               to = omega arith;
-              late-len = length-set late (41 * i + (q + 1)) x ∙ M .late-len;
+              late-len = length-set late (width * i + (q + 1)) x ∙ M .late-len;
               row-len = l ∙ M .row-len;
             }
 
   pub after-end : {late row : List ℕ} {q : ℕ} → LateSoFar rs sums late₀ row₀ late row s n i q → n ≤ q → LateFrom rs sums late s n i
   after-end M h = record {
     at = λ j p g k l. elim (decLt i j) [
-      yes y ↦ M .later .at j p (omega arith) k l
+      | yes y ↦ M .later .at j p (omega arith) k l
       | no y ↦
-        let e : j ≡ i = omega arith in
-        rw e (M .done p (omega arith) (omega arith))
+          let e : j ≡ i = omega arith in
+          rw e (M .done p (omega arith) (omega arith))
     ];
   }
 

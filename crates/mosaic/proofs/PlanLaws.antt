@@ -1,13 +1,12 @@
 -- The whole planner: the times read from a sound section are an input of the tables, and the instance that they give agrees with the section's.
 use mathlib.Core.Path.{_≡_, refl, ap, _∙_, sym}
 use mathlib.Core.List.{List, [], _∷_}
-use Prim.Native.Nat.{ℕ, zero, suc, _+_, _*_, _-_, _≤_, _<_, _^_}
+use Prim.Native.Nat.{ℕ, zero, suc, _+_, _-_, _≤_, _^_}
 use native.Mathlib.Decide.{decLt}
 use native.Mathlib.Omega.{arith}
 use lib.ListN.{length, getD, length-append, List·getD-eq-default}
 use Rattle.sheet.specs.Sound.{MosaicSound}
 use Rattle.sheet.specs.declared.MosaicSection.{MosaicSection}
-use Rattle.rules.specs.declared.Batch.{Batch}
 use Rattle.rules.specs.Mosaic.{ready, benchSum}
 use Rattle.mosaic.specs.Least.{instanceOf}
 use Rattle.mosaic.specs.Chosen.{chosenBatches}
@@ -23,13 +22,16 @@ count-is : (n : ℕ) (last start finish : List ℕ) → length (batchesIn n last
 unfolding batchesIn
 count-is zero last start finish = refl
 count-is (suc n) last start finish =
-    omega (arith, count-is n last start finish,
-      length-append (batchesIn n last start finish) (record { last = getD last n 0; start = getD start n 0; finish = getD finish n 0 } ∷ []))
+    omega (
+      arith,
+      count-is n last start finish,
+      length-append (batchesIn n last start finish) (record { last = getD last n 0; start = getD start n 0; finish = getD finish n 0 } ∷ []),
+    )
 
 module _ {m : MosaicSection} (S : MosaicSound m) {rs sums : List ℕ} (R : ReadyTimes m rs) (B : BenchSums m sums) where
   most-ready : (j : ℕ) → getD rs j 0 ≤ 2 ^ 39
   most-ready j = elim (decLt j 40) [
-    yes h ↦ omega (arith, R .at j h, ready-most S (j + 1) (omega arith))
+    | yes h ↦ omega (arith, R .at j h, ready-most S (j + 1) (omega arith))
     | no h ↦ omega (arith, List·getD-eq-default rs 0 {n = j} (omega (arith, R .len)))
   ]
 

@@ -1,13 +1,13 @@
 -- A row is filled in place from lo on: entry p becomes the least figure at this block's time, while the entries above it still are those of the block with one batch more.
 use mathlib.Core.Path.{_≡_, refl, ap, _∙_, sym}
 use mathlib.Core.List.{List}
-use Prim.Native.Nat.{ℕ, _+_, _*_, _-_, _≤_, _<_, _^_}
+use Prim.Native.Nat.{ℕ, _+_, _-_, _≤_, _<_, _^_}
 use native.Mathlib.Decide.{decLt}
 use native.Mathlib.Omega.{arith}
 use lib.ListN.{length, getD, set, length-set}
 use lib.Seq.{getD-set-same, getD-set-other}
 use Rattle.mosaic.specs.Index.{leastAt}
-use Rattle.mosaic.specs.Tables.{instanceIn, Input, FromPre, RowIs, RowPre, RowPost}
+use Rattle.mosaic.specs.Tables.{instanceIn, FromPre, RowPre, RowPost}
 use Rattle.mosaic.specs.Laws.Recursion.{least-end}
 
 -- the entries lo .. p - 1 are done, those from p on are as they were
@@ -62,10 +62,10 @@ module _ {rs sums late row₀ : List ℕ} {s n begin i lo : ℕ} (P : RowPre rs 
       to = omega arith;
       len = length-set row p least ∙ M .len;
       done = λ k l g. elim (decLt k p) [
-        yes y ↦ getD-set-other row p k least 0 (omega arith) ∙ M .done k l y
+        | yes y ↦ getD-set-other row p k least 0 (omega arith) ∙ M .done k l y
         | no y ↦
-          let z : k ≡ p = omega arith in
-          rw z (getD-set-same row p least 0 (omega (arith, P .row-long, M .len)) ∙ e)
+            let z : k ≡ p = omega arith in
+            rw z (getD-set-same row p least 0 (omega (arith, P .row-long, M .len)) ∙ e)
       ];
       above = λ k l. getD-set-other row p k least 0 (omega arith) ∙ M .above k (omega arith);
     }
@@ -74,11 +74,11 @@ module _ {rs sums late row₀ : List ℕ} {s n begin i lo : ℕ} (P : RowPre rs 
   row-end {row} {p} M h = record {
     row = record {
       at = λ k l e. elim (decLt k p) [
-        yes y ↦ M .done k l y
+        | yes y ↦ M .done k l y
         | no y ↦
-          M .above k (omega arith) ∙ P .next .at k (omega (arith, P .inside)) e
-          ∙ least-end (instanceIn rs sums s n) k (begin + s + (getD sums k 0 - getD sums i 0)) (omega (arith, M .to))
-          ∙ sym (least-end (instanceIn rs sums s n) k (begin + (getD sums k 0 - getD sums i 0)) (omega (arith, M .to)))
+            M .above k (omega arith) ∙ P .next .at k (omega (arith, P .inside)) e
+            ∙ least-end (instanceIn rs sums s n) k (begin + s + (getD sums k 0 - getD sums i 0)) (omega (arith, M .to))
+            ∙ sym (least-end (instanceIn rs sums s n) k (begin + (getD sums k 0 - getD sums i 0)) (omega (arith, M .to)))
       ];
     };
     len = M .len;

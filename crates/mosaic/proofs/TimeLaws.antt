@@ -1,12 +1,12 @@
 -- The greatest of the stations' sums; the ready times and the bench sums, strip by strip.
-use mathlib.Core.Path.{_≡_, refl, ap, _∙_, sym}
+use mathlib.Core.Path.{_≡_, refl, ap, _∙_}
 use mathlib.Core.List.{List, [], _∷_}
 use Prim.Native.Nat.{ℕ, zero, suc, _+_, _*_, _-_, _≤_, _<_, _^_, max}
 use native.Mathlib.Nat.{zero-max}
 use native.Mathlib.Numerals.{add-one}
 use native.Mathlib.Decide.{decLt}
 use native.Mathlib.Omega.{arith}
-use lib.ListN.{length, getD, set, length-set, replicate, getD-replicate, length-replicate}
+use lib.ListN.{length, getD, set, length-set}
 use lib.Seq.{getD-set-same, getD-set-other}
 use Rattle.sheet.specs.Sound.{MosaicSound}
 use Rattle.sheet.specs.declared.MosaicSection.{MosaicSection}
@@ -64,9 +64,9 @@ module _ {m : MosaicSection} (S : MosaicSound m) where
           sum-is = e;
           sum-most = next-most;
           done = λ q l. elim (decLt j q) [
-            yes y ↦
-              let z : q ≡ j + 1 = omega arith in
-              rw z (getD-set-same sums (j + 1) v 0 (omega (arith, M .len)) ∙ e)
+            | yes y ↦
+                let z : q ≡ j + 1 = omega arith in
+                rw z (getD-set-same sums (j + 1) v 0 (omega (arith, M .len)) ∙ e)
             | no y ↦ getD-set-other sums (j + 1) q v 0 (omega arith) ∙ M .done q (omega arith)
           ];
         }
@@ -155,7 +155,7 @@ module _ {m : MosaicSection} (S : MosaicSound m) where
       new-is =
           e ∙ ap (λ (n : ℕ). greatestOver n (λ k. getD (nextSums m a b c d j) k 0)) (M .stations-is)
           ∙ greatest-same (m .stations) (λ k. getD (nextSums m a b c d j) k 0) (λ k. stationSum m k (j + 1))
-            (λ k l. four-are _ _ _ _ (λ i. stationSum m i (j + 1)) a-next b-next c-next d-next k (omega (arith, S .most-stations)))
+          (λ k l. four-are _ _ _ _ (λ i. stationSum m i (j + 1)) a-next b-next c-next d-next k (omega (arith, S .most-stations)))
 
       pub times-step : TimesSoFar m stations (set rs j r) (a + getD (m .station) (4 * j) 0) (b + getD (m .station) (4 * j + 1) 0)
           (c + getD (m .station) (4 * j + 2) 0) (d + getD (m .station) (4 * j + 3) 0) (j + 1)
@@ -172,10 +172,10 @@ module _ {m : MosaicSection} (S : MosaicSound m) where
         c-most = omega (arith, M .c-most, S .most-station (4 * j + 2));
         d-most = omega (arith, M .d-most, S .most-station (4 * j + 3));
         done = λ k l. elim (decLt k j) [
-          yes y ↦ getD-set-other rs j k r 0 (omega arith) ∙ M .done k y
+          | yes y ↦ getD-set-other rs j k r 0 (omega arith) ∙ M .done k y
           | no y ↦
-            let z : k ≡ j = omega arith in
-            rw z (getD-set-same rs j r 0 (omega (arith, M .len)) ∙ new-is)
+              let z : k ≡ j = omega arith in
+              rw z (getD-set-same rs j r 0 (omega (arith, M .len)) ∙ new-is)
         ];
       }
 

@@ -15,7 +15,7 @@ unfoldable pub chosenOpen : Instance → ℕ → ℕ → ℕ → ℕ → List Ba
 chosenOpen x zero i q free = batchOf x free i q ∷ []
 chosenOpen x (suc left) i q free =
     elim (ltb (x .weight i q * finishOf x free i q + leastOpen x left q (q + 1) (finishOf x free i q)) (leastOpen x left i (q + 1) free)) [
-      true ↦ batchOf x free i q ∷ chosenOpen x left q (q + 1) (finishOf x free i q)
+      | true ↦ batchOf x free i q ∷ chosenOpen x left q (q + 1) (finishOf x free i q)
       | false ↦ chosenOpen x left i (q + 1) free
     ]
 

@@ -1,7 +1,6 @@
 -- The least figure of the mosaic, by recursion: at each strip the open batch is closed or extended.
 -- Strips are numbered from 1. A batch is the strips after strip i, up to and with strip q.
 use Prim.Native.Nat.{ℕ, zero, suc, _+_, _*_, _-_, min, max}
-use lib.ListN.{getD}
 use Rattle.sheet.specs.declared.MosaicSection.{MosaicSection}
 use Rattle.rules.specs.Sums.{sumOver}
 use Rattle.rules.specs.Mosaic.{ready, benchSum}

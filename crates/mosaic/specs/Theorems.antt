@@ -1,8 +1,8 @@
 -- The theorems of the mosaic planner, for every sound section m: the batching taken is lawful, has the least figure of all lawful timetables
 -- (any batching, any idle time), starts each mount as early as its batches allow, and finishes below the ceiling.
-use mathlib.Core.Path.{_≡_, refl, ap, _∙_, sym}
-use mathlib.Core.List.{List, [], _∷_}
-use Prim.Native.Nat.{ℕ, zero, suc, _+_, _*_, _-_, _≤_, _<_, max}
+use mathlib.Core.Path.{_≡_, refl, _∙_}
+use mathlib.Core.List.{List}
+use Prim.Native.Nat.{ℕ, _+_, _*_, _-_, _≤_, _<_}
 use native.Mathlib.Omega.{arith}
 use lib.ListN.{length}
 use Rattle.sheet.specs.Limits.{mostTime, mostStrips}

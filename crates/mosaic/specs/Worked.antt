@@ -1,5 +1,5 @@
 -- The first case of 01, "Sheets worked through": m 2, s 1, strips (2,1;1) (1,3;3) (4,2;2) (1,3;1).
-use Prim.Native.Nat.{ℕ, zero, suc, _+_, _*_, _-_, _≤_, _<_, min, max}
+use Prim.Native.Nat.{ℕ, zero, suc, _+_, _-_, _≤_, _<_}
 use mathlib.Core.Path.{_≡_, refl}
 use mathlib.Core.List.{List, [], _∷_, _++_}
 use mathlib.Core.Bool.{Bool, true, false, cond}
@@ -37,7 +37,7 @@ worked-least = refl
 
 pub worked-batches : chosenBatches workedSection
     ≡ record { last = 1; start = 2; finish = 4 } ∷ record { last = 2; start = 4; finish = 8 }
-      ∷ record { last = 3; start = 8; finish = 11 } ∷ record { last = 4; start = 11; finish = 13 } ∷ []
+    ∷ record { last = 3; start = 8; finish = 11 } ∷ record { last = 4; start = 11; finish = 13 } ∷ []
 unfolding chosenBatches chosenFrom chosenOpen batchOf leastOpen finishOf benchStart mountStart instanceOf weightSum weightOf benchSum workedSection ready stationSum sumOver greatestOver
 worked-batches = refl
 

@@ -1,13 +1,21 @@
 // The batches taken, read out of the tables from the first strip on.
 ghost use Rattle.mosaic.specs.Tables.{FromPre, First, AddPre, Added, BatchesPre, BatchesTaken};
-
 use crate::MosaicPlan;
 use crate::ready::later;
 use crate::tables::candidate;
 use crate::tables::fill_block;
 
 // The last strip of the first batch after strip i, where the machine is free at `free`.
-fn choose_batch(rs: &[u64], sums: &[u64], late: &[u64], row: &[u64], s: u64, n: usize, free: u64, i: usize) -> usize
+fn choose_batch(
+    rs: &[u64],
+    sums: &[u64],
+    late: &[u64],
+    row: &[u64],
+    s: u64,
+    n: usize,
+    free: u64,
+    i: usize,
+) -> usize
     requires { ⌜ FromPre (now rs) (now sums) (now late) (now row) s n free i ⌝ }
     ensures { λ q. ⌜ First (now (rs .entry)) (now (sums .entry)) s n free i q ⌝ }
 {
@@ -41,11 +49,24 @@ fn add_batch(plan: MosaicPlan, count: u64, last: u64, start: u64, finish: u64) -
 }
 
 // The batches taken, each mount as early as can be, and the sum of completions.
-pub fn choose_batches(rs: &[u64], sums: &[u64], late: &[u64], row: &mut [u64], s: u64, n: usize) -> MosaicPlan
+pub fn choose_batches(
+    rs: &[u64],
+    sums: &[u64],
+    late: &[u64],
+    row: &mut [u64],
+    s: u64,
+    n: usize,
+) -> MosaicPlan
     requires { ⌜ BatchesPre (now rs) (now sums) (now late) (now row) s n ⌝ }
     ensures { λ plan. ⌜ BatchesTaken (now (rs .entry)) (now (sums .entry)) s n plan ⌝ }
 {
-    let mut plan = MosaicPlan { figure: 0, batches: 0, last: [0; 40], start: [0; 40], finish: [0; 40] };
+    let mut plan = MosaicPlan {
+        figure: 0,
+        batches: 0,
+        last: [0; 40],
+        start: [0; 40],
+        finish: [0; 40],
+    };
     let mut i = 0;
     let mut free = 0;
     while i < n {

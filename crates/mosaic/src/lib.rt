@@ -7,6 +7,8 @@ mod ready;
 mod tables;
 
 use sheet::MosaicSection;
+use tables::LATE_LENGTH;
+use tables::WIDTH;
 
 // A plan of the mosaic: its figure, and last strip, mount start and finish of each batch, in the first `batches` entries.
 pub struct MosaicPlan {
@@ -26,8 +28,8 @@ pub fn plan_mosaic(m: MosaicSection) -> MosaicPlan
     let s = m.mount;
     let rs = ready::ready_times(m);
     let sums = ready::bench_sums(m);
-    let mut late = [0u64; 1640];
-    let mut row = [0u64; 41];
+    let mut late = [0u64; LATE_LENGTH];
+    let mut row = [0u64; WIDTH];
     tables::fill_late(&rs, &sums, &mut late, &mut row, s, n);
     batches::choose_batches(&rs, &sums, &late, &mut row, s, n)
 }

@@ -6,18 +6,14 @@ ghost use lib.ListN.{getD};
 ghost use Rattle.sheet.specs.Sound.{MosaicSound};
 ghost use Rattle.rules.specs.Sums.{greatestOver};
 ghost use Rattle.mosaic.specs.Tables.{ReadyTimes, BenchSums};
-
 use sheet::MosaicSection;
+use sheet::limits::MOST_STRIPS;
 
 // The later of two times.
 pub fn later(a: u64, b: u64) -> u64
     ensures { λ r. ⌜ r ≡ max a b ⌝ }
 {
-    if a < b {
-        b
-    } else {
-        a
-    }
+    if a < b { b } else { a }
 }
 
 // The greatest of the first `stations` of four sums.
@@ -54,7 +50,7 @@ pub fn ready_times(m: MosaicSection) -> [u64; 40]
     let mut c = 0;
     let mut d = 0;
     let mut j = 0;
-    while j < 40 {
+    while j < MOST_STRIPS {
         a += m.station[4 * j];
         b += m.station[4 * j + 1];
         c += m.station[4 * j + 2];
@@ -73,7 +69,7 @@ pub fn bench_sums(m: MosaicSection) -> [u64; 41]
     let mut sums = [0u64; 41];
     let mut sum = 0;
     let mut j = 0;
-    while j < 40 {
+    while j < MOST_STRIPS {
         sum += m.bench[j];
         j += 1;
         sums[j] = sum;

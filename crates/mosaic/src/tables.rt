@@ -7,6 +7,11 @@ ghost use Rattle.mosaic.specs.Least.{benchStart};
 ghost use Rattle.mosaic.specs.Index.{lateStart, leastAt, closedAt};
 ghost use Rattle.mosaic.specs.Tables.{instanceIn, InTime, CandidatePre, FromPre, RowPre, RowPost, BlockPre, RowIs, AfterPre, LatePre, LateFrom};
 
+// The entries of a row, for the strips from 0 to 40, and of `late`, which has a row for each strip from 0 to 39.
+pub const WIDTH: usize = 41;
+
+pub const LATE_LENGTH: usize = 1_640;
+
 // Whether a batch whose last strip is ready at `ready` need not wait for it, the machine free at `free`.
 fn in_time(s: u64, free: u64, ready: u64) -> bool
     ensures { λ answer. ⌜ InTime s free ready answer ⌝ }
@@ -23,7 +28,17 @@ fn late_start(s: u64, ready: u64) -> u64
 }
 
 // The least figure of the strips after i where the machine is free at `free` and the first batch ends with strip q.
-pub fn candidate(rs: &[u64], sums: &[u64], late: &[u64], row: &[u64], s: u64, n: usize, free: u64, i: usize, q: usize) -> u64
+pub fn candidate(
+    rs: &[u64],
+    sums: &[u64],
+    late: &[u64],
+    row: &[u64],
+    s: u64,
+    n: usize,
+    free: u64,
+    i: usize,
+    q: usize,
+) -> u64
     requires { ⌜ CandidatePre (now rs) (now sums) (now late) (now row) s n free i q ⌝ }
     ensures { λ r. ⌜ r ≡ closedAt (instanceIn (now (rs .entry)) (now (sums .entry)) s n) (benchStart s free (getD (now (rs .entry)) (q - 1) 0)) i q ⌝ }
 {
@@ -32,12 +47,21 @@ pub fn candidate(rs: &[u64], sums: &[u64], late: &[u64], row: &[u64], s: u64, n:
         let count = (q - i) as u64;
         count * finish + row[q]
     } else {
-        late[41 * i + q]
+        late[WIDTH * i + q]
     }
 }
 
 // The least figure of the strips after i where the machine is free at `free`.
-fn least_from(rs: &[u64], sums: &[u64], late: &[u64], row: &[u64], s: u64, n: usize, free: u64, i: usize) -> u64
+fn least_from(
+    rs: &[u64],
+    sums: &[u64],
+    late: &[u64],
+    row: &[u64],
+    s: u64,
+    n: usize,
+    free: u64,
+    i: usize,
+) -> u64
     requires { ⌜ FromPre (now rs) (now sums) (now late) (now row) s n free i ⌝ }
     ensures { λ r. ⌜ r ≡ leastAt (instanceIn (now (rs .entry)) (now (sums .entry)) s n) i free ⌝ }
 {
@@ -54,7 +78,17 @@ fn least_from(rs: &[u64], sums: &[u64], late: &[u64], row: &[u64], s: u64, n: us
 }
 
 // Turns the row of the block with one batch more into that of this one, in place: entries lo and up.
-fn fill_row(rs: &[u64], sums: &[u64], late: &[u64], row: &mut [u64], s: u64, n: usize, begin: u64, i: usize, lo: usize)
+fn fill_row(
+    rs: &[u64],
+    sums: &[u64],
+    late: &[u64],
+    row: &mut [u64],
+    s: u64,
+    n: usize,
+    begin: u64,
+    i: usize,
+    lo: usize,
+)
     requires { ⌜ RowPre (now rs) (now sums) (now late) (now row) s n begin i lo ⌝ }
     ensures { λ _. ⌜ RowPost (now (rs .entry)) (now (sums .entry)) (now (row .entry)) (now (row .exit)) s n begin i lo ⌝ }
 {
@@ -68,7 +102,17 @@ fn fill_row(rs: &[u64], sums: &[u64], late: &[u64], row: &mut [u64], s: u64, n: 
 }
 
 // The row of the block whose bench work begins at `begin` with the strip after i: entries lo and up.
-pub fn fill_block(rs: &[u64], sums: &[u64], late: &[u64], row: &mut [u64], s: u64, n: usize, begin: u64, i: usize, lo: usize)
+pub fn fill_block(
+    rs: &[u64],
+    sums: &[u64],
+    late: &[u64],
+    row: &mut [u64],
+    s: u64,
+    n: usize,
+    begin: u64,
+    i: usize,
+    lo: usize,
+)
     requires { ⌜ BlockPre (now rs) (now sums) (now late) (now row) s n begin i lo ⌝ }
     ensures { λ _. ⌜ RowIs (now (rs .entry)) (now (sums .entry)) (now (row .exit)) s n begin i lo ⌝ }
 {
@@ -83,7 +127,15 @@ pub fn fill_block(rs: &[u64], sums: &[u64], late: &[u64], row: &mut [u64], s: u6
 }
 
 // The entries of `late` for the batches of the strips after i.
-fn fill_late_after(rs: &[u64], sums: &[u64], late: &mut [u64], row: &mut [u64], s: u64, n: usize, i: usize)
+fn fill_late_after(
+    rs: &[u64],
+    sums: &[u64],
+    late: &mut [u64],
+    row: &mut [u64],
+    s: u64,
+    n: usize,
+    i: usize,
+)
     requires { ⌜ AfterPre (now rs) (now sums) (now late) (now row) s n i ⌝ }
     ensures { λ _. ⌜ LateFrom (now (rs .entry)) (now (sums .entry)) (now (late .exit)) s n i ⌝ }
 {
@@ -94,7 +146,7 @@ fn fill_late_after(rs: &[u64], sums: &[u64], late: &mut [u64], row: &mut [u64], 
         fill_block(rs, sums, &*late, row, s, n, begin, i, q);
         let finish = begin + (sums[q] - sums[i]);
         let count = (q - i) as u64;
-        late[41 * i + q] = count * finish + row[q];
+        late[WIDTH * i + q] = count * finish + row[q];
     }
 }
 

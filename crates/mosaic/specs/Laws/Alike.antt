@@ -1,11 +1,10 @@
 -- Two instances that agree on their strips have the same least figure and the same batches taken.
-use mathlib.Core.Path.{_≡_, refl, ap, _∙_, sym}
-use mathlib.Core.List.{List, [], _∷_}
-use Prim.Native.Nat.{ℕ, zero, suc, _+_, _*_, _-_, _≤_, _<_, min}
+use mathlib.Core.Path.{_≡_, _∙_, sym}
+use mathlib.Core.List.{_∷_}
+use Prim.Native.Nat.{ℕ, zero, suc, _+_, _-_, _≤_, _<_}
 use native.Mathlib.Decide.{decLt}
 use native.Mathlib.Omega.{arith}
-use Rattle.rules.specs.declared.Batch.{Batch}
-use Rattle.mosaic.specs.Least.{Instance, benchStart, mountStart, finishOf}
+use Rattle.mosaic.specs.Least.{Instance, benchStart, finishOf}
 use Rattle.mosaic.specs.Chosen.{batchOf}
 use Rattle.mosaic.specs.Index.{leastAt, openAt, closedAt, chosenAt, chosenOpenAt}
 use Rattle.mosaic.specs.Laws.Recursion.{least-end, least-open, open-last, open-more, chosen-end, chosen-open, chosen-last, chosen-close, chosen-extend}
@@ -50,13 +49,13 @@ module _ {x y : Instance} (A : Alike x y) where
       open-last x i q t (omega arith) ∙ closed-same i q t h (omega arith) (λ F. end-same q F (omega arith)) ∙ sym (open-last y i q t (omega (arith, A .strips)))
   open-same (suc d) i q t h k =
       let c = closed-same i q t h (omega arith)
-            (λ F. least-open x q F (omega arith) ∙ open-same d q (q + 1) F (omega arith) (omega arith) ∙ sym (least-open y q F (omega (arith, A .strips)))) in
+      (λ F. least-open x q F (omega arith) ∙ open-same d q (q + 1) F (omega arith) (omega arith) ∙ sym (least-open y q F (omega (arith, A .strips)))) in
       open-more x i q t (omega arith) ∙ omega (arith, c, open-same d i (q + 1) t (omega arith) (omega arith)) ∙ sym (open-more y i q t (omega (arith, A .strips)))
 
   pub least-same : (i t : ℕ) → leastAt x i t ≡ leastAt y i t
   least-same i t = elim (decLt i (x .strips)) [
-    yes h ↦
-      least-open x i t h ∙ open-same (x .strips - (i + 1)) i (i + 1) t (omega arith) (omega arith) ∙ sym (least-open y i t (omega (arith, A .strips)))
+    | yes h ↦
+        least-open x i t h ∙ open-same (x .strips - (i + 1)) i (i + 1) t (omega arith) (omega arith) ∙ sym (least-open y i t (omega (arith, A .strips)))
     | no h ↦ end-same i t (omega arith)
   ]
 
@@ -69,19 +68,19 @@ module _ {x y : Instance} (A : Alike x y) where
       let c = closed-same i q t h (omega arith) (λ F. least-same q F) in
       let o = open-same d i (q + 1) t (omega arith) (omega arith) in
       elim (decLt (closedAt x (benchStart (x .mount) t (x .ready q)) i q) (openAt x i (q + 1) t)) [
-        yes z ↦
-          chosen-close x i q t l z
-          ∙ cons-same i q t h (omega arith)
+        | yes z ↦
+            chosen-close x i q t l z
+            ∙ cons-same i q t h (omega arith)
             (λ F. chosen-open x q F l ∙ chosen-open-same d q (q + 1) F (omega arith) (omega arith) ∙ sym (chosen-open y q F m))
-          ∙ sym (chosen-close y i q t m (omega (arith, c, o, z)))
+            ∙ sym (chosen-close y i q t m (omega (arith, c, o, z)))
         | no z ↦
-          chosen-extend x i q t l (omega arith) ∙ chosen-open-same d i (q + 1) t (omega arith) (omega arith)
-          ∙ sym (chosen-extend y i q t m (omega (arith, c, o, z)))
+            chosen-extend x i q t l (omega arith) ∙ chosen-open-same d i (q + 1) t (omega arith) (omega arith)
+            ∙ sym (chosen-extend y i q t m (omega (arith, c, o, z)))
       ]
 
   pub chosen-same : (i t : ℕ) → chosenAt x i t ≡ chosenAt y i t
   chosen-same i t = elim (decLt i (x .strips)) [
-    yes h ↦
-      chosen-open x i t h ∙ chosen-open-same (x .strips - (i + 1)) i (i + 1) t (omega arith) (omega arith) ∙ sym (chosen-open y i t (omega (arith, A .strips)))
+    | yes h ↦
+        chosen-open x i t h ∙ chosen-open-same (x .strips - (i + 1)) i (i + 1) t (omega arith) (omega arith) ∙ sym (chosen-open y i t (omega (arith, A .strips)))
     | no h ↦ chosen-end-same i t (omega arith)
   ]

@@ -1,16 +1,16 @@
 -- The batches taken are a lawful timetable, have the least figure, start as early as they can, and finish long before the ceiling.
 -- One induction over the strips left shows all four.
-use mathlib.Core.Path.{_≡_, refl, ap, _∙_, sym}
+use mathlib.Core.Path.{_≡_, refl, ap, _∙_}
 use mathlib.Core.List.{List, [], _∷_}
-use Prim.Native.Nat.{ℕ, zero, suc, _+_, _*_, _-_, _≤_, _<_, min, max}
-use native.Mathlib.Nat.{mul-le-mul, mul-le-mul-right}
+use Prim.Native.Nat.{ℕ, zero, suc, _+_, _*_, _-_, _≤_, _<_}
+use native.Mathlib.Nat.{mul-le-mul}
 use native.Mathlib.Decide.{decLt}
 use native.Mathlib.Omega.{arith}
-use Rattle.sheet.specs.Limits.{mostTime, mostStrips, ceiling}
+use Rattle.sheet.specs.Limits.{mostTime, mostStrips}
 use Rattle.sheet.specs.Sound.{MosaicSound}
 use Rattle.sheet.specs.declared.MosaicSection.{MosaicSection}
 use Rattle.rules.specs.declared.Batch.{Batch}
-use Rattle.rules.specs.Mosaic.{ready, benchSum}
+use Rattle.rules.specs.Mosaic.{ready}
 use Rattle.mosaic.specs.Least.{mountStart, benchStart, finishOf, instanceOf}
 use Rattle.mosaic.specs.Chosen.{batchOf}
 use Rattle.mosaic.specs.Index.{leastAt, openAt, closedAt, chosenAt, chosenOpenAt}
@@ -76,7 +76,7 @@ module _ {m : MosaicSection} (S : MosaicSound m) where
     -- to close the open batch at strip q
     close : Attains m q (finishOf (instanceOf m) free i q) (leastAt (instanceOf m) q (finishOf (instanceOf m) free i q)) (chosenAt (instanceOf m) q (finishOf (instanceOf m) free i q))
         → Attains m i free (closedAt (instanceOf m) (benchStart (m .mount) free (ready m q)) i q)
-          (batchOf (instanceOf m) free i q ∷ chosenAt (instanceOf m) q (finishOf (instanceOf m) free i q))
+        (batchOf (instanceOf m) free i q ∷ chosenAt (instanceOf m) q (finishOf (instanceOf m) free i q))
     unfolding closedAt instanceOf finishOf
     close A = rw (weight-count m i (q - i)) (attains-batch _ _ A)
 
@@ -97,13 +97,13 @@ module _ {m : MosaicSection} (S : MosaicSound m) where
       let F = finishOf x free i q in
       let less : q < m .strips = omega arith in
       elim (decLt (closedAt x (benchStart (m .mount) free (ready m q)) i q) (openAt x i (q + 1) free)) [
-        yes y ↦
-          same (omega (arith, open-more x i q free less)) (chosen-close x i q free less y)
-          (close i q free h (omega arith) l
+        | yes y ↦
+            same (omega (arith, open-more x i q free less)) (chosen-close x i q free less y)
+            (close i q free h (omega arith) l
             (same (least-open x q F less) (chosen-open x q F less) (attains-open d q (q + 1) F (omega arith) (omega arith) (finish-most i q free h (omega arith) l))))
         | no y ↦
-          same (omega (arith, open-more x i q free less)) (chosen-extend x i q free less (omega arith))
-          (attains-open d i (q + 1) free (omega arith) (omega arith) l)
+            same (omega (arith, open-more x i q free less)) (chosen-extend x i q free less (omega arith))
+            (attains-open d i (q + 1) free (omega arith) (omega arith) l)
       ]
 
   pub attains-at : (i free : ℕ) → i ≤ m .strips → free ≤ latest i → Attains m i free (leastAt (instanceOf m) i free) (chosenAt (instanceOf m) i free)
@@ -111,7 +111,7 @@ module _ {m : MosaicSection} (S : MosaicSound m) where
   attains-at i free h l =
       let x = instanceOf m in
       elim (decLt i (m .strips)) [
-        yes y ↦ same (least-open x i free y) (chosen-open x i free y) (attains-open (m .strips - (i + 1)) i (i + 1) free (omega arith) (omega arith) l)
+        | yes y ↦ same (least-open x i free y) (chosen-open x i free y) (attains-open (m .strips - (i + 1)) i (i + 1) free (omega arith) (omega arith) l)
         | no y ↦ same (least-end x i free (omega arith)) (chosen-end x i free (omega arith)) (attains-none i free (omega arith))
       ]
 
@@ -121,9 +121,9 @@ module _ {m : MosaicSection} (S : MosaicSound m) where
   figure-most =
       let x = instanceOf m in
       elim (decLt 0 (m .strips)) [
-        yes y ↦
-          let w : x .weight 0 (m .strips) ≤ mostStrips = omega (arith, weight-count m 0 (m .strips - 0), S .most-strips) in
-          let f : finishOf x 0 0 (m .strips) ≤ latest mostStrips = omega (arith, finish-most 0 (m .strips) 0 y (omega arith) (omega arith), S .most-strips) in
-          omega (arith, least-one x 0 0 y, mul-le-mul w f)
+        | yes y ↦
+            let w : x .weight 0 (m .strips) ≤ mostStrips = omega (arith, weight-count m 0 (m .strips - 0), S .most-strips) in
+            let f : finishOf x 0 0 (m .strips) ≤ latest mostStrips = omega (arith, finish-most 0 (m .strips) 0 y (omega arith) (omega arith), S .most-strips) in
+            omega (arith, least-one x 0 0 y, mul-le-mul w f)
         | no y ↦ omega (arith, least-end x 0 0 (omega arith))
       ]

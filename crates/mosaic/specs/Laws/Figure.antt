@@ -1,10 +1,8 @@
 -- The figure of the strips after strip i, batch by batch: a batch adds its count times its finish.
-use mathlib.Core.Path.{_≡_, refl, ap, _∙_, sym}
-use mathlib.Core.Bool.{cond}
-use mathlib.Core.List.{List, [], _∷_}
-use Prim.Native.Nat.{ℕ, zero, suc, _+_, _*_, _-_, _≤_, _<_}
+use mathlib.Core.Path.{_≡_, ap}
+use mathlib.Core.List.{List, _∷_}
+use Prim.Native.Nat.{ℕ, _+_, _*_, _-_, _≤_, _<_}
 use native.Mathlib.Omega.{arith}
-use lib.Dec.{leb}
 use borrow.Author.Tests.{le-leb, lt-leb}
 use Rattle.sheet.specs.declared.MosaicSection.{MosaicSection}
 use Rattle.rules.specs.declared.Batch.{Batch}
@@ -43,8 +41,8 @@ rest-cons m i b bs h k =
     let e : m .strips - i ≡ b .last - i + (m .strips - b .last) = omega arith in
     let first : sumOver (b .last - i) f ≡ (b .last - i) * b .finish = sum-const (b .last - i) (b .finish) f (λ n l. own b bs (i + n + 1) (omega arith)) in
     let rest : sumOver (m .strips - b .last) (λ n. f (b .last - i + n)) ≡ sumOver (m .strips - b .last) (λ n. completion bs (b .last + n + 1))
-          = sum-same (m .strips - b .last) (λ n. f (b .last - i + n)) (λ n. completion bs (b .last + n + 1))
-            (λ n l.
-              let z : i + (b .last - i + n) + 1 ≡ b .last + n + 1 = omega arith in
-              rw z (later b bs (b .last + n + 1) (omega arith))) in
+    = sum-same (m .strips - b .last) (λ n. f (b .last - i + n)) (λ n. completion bs (b .last + n + 1))
+    (λ n l.
+    let z : i + (b .last - i + n) + 1 ≡ b .last + n + 1 = omega arith in
+    rw z (later b bs (b .last + n + 1) (omega arith))) in
     rw e (omega (arith, sum-split (b .last - i) (m .strips - b .last) f, first, rest))

@@ -1,13 +1,13 @@
 -- No lawful timetable has a smaller figure: to close the open batch where the timetable closes it is one of the choices, and a later free time costs no less.
-use mathlib.Core.Path.{_≡_, refl, ap, _∙_, sym}
+use mathlib.Core.Path.{_≡_}
 use mathlib.Core.List.{List, [], _∷_}
-use Prim.Native.Nat.{ℕ, zero, suc, _+_, _*_, _-_, _≤_, _<_, min, max}
+use Prim.Native.Nat.{ℕ, zero, suc, _+_, _*_, _-_, _≤_, _<_}
 use native.Mathlib.Nat.{mul-le-mul-left}
 use native.Mathlib.Decide.{decLt}
 use native.Mathlib.Omega.{arith}
 use Rattle.sheet.specs.declared.MosaicSection.{MosaicSection}
 use Rattle.rules.specs.declared.Batch.{Batch}
-use Rattle.rules.specs.Mosaic.{ready, benchSum}
+use Rattle.rules.specs.Mosaic.{ready}
 use Rattle.mosaic.specs.Least.{Instance, mountStart, benchStart, finishOf, instanceOf}
 use Rattle.mosaic.specs.Index.{leastAt, openAt, closedAt}
 use Rattle.mosaic.specs.Laws.Recursion.{least-mono, least-end, least-open, open-last, open-more}
@@ -21,9 +21,9 @@ module _ (x : Instance) where
   unfolding closedAt finishOf
   close-here i q t F h f =
       let c : closedAt x (benchStart (x .mount) t (x .ready q)) i q ≤ x .weight i q * F + leastAt x q F
-            = omega (arith, mul-le-mul-left (x .weight i q) f, least-mono x q f) in
+      = omega (arith, mul-le-mul-left (x .weight i q) f, least-mono x q f) in
       elim (decLt q (x .strips)) [
-        yes k ↦ omega (arith, open-more x i q t k, c)
+        | yes k ↦ omega (arith, open-more x i q t k, c)
         | no k ↦ omega (arith, open-last x i q t (omega arith), c)
       ]
 
@@ -46,7 +46,7 @@ module _ (m : MosaicSection) where
   unfolding instanceOf finishOf benchStart mountStart
   batch-cost p b B h =
       let c = close-at (instanceOf m) (p .last) (b .last) (p .finish) (b .finish) (B .runs) h
-            (omega (arith, B .waits-strip, B .waits-batch, B .finishes)) in
+      (omega (arith, B .waits-strip, B .waits-batch, B .finishes)) in
       rw (weight-count m (p .last) (b .last - p .last)) at c
 
   pub lower-after : (bs : List Batch) (p : Batch) → LawfulAfter m p bs → leastAt (instanceOf m) (p .last) (p .finish) ≤ restFigure m (p .last) bs

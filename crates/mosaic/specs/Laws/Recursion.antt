@@ -1,13 +1,11 @@
 -- The recursion by index: its equations, that a later free time costs no less, and that one batch of all strips left is a choice.
-use mathlib.Core.Path.{_≡_, refl, ap, _∙_, sym}
-use mathlib.Core.Bool.{Bool, true, false}
-use mathlib.Core.List.{List, [], _∷_}
+use mathlib.Core.Path.{_≡_, _∙_}
+use mathlib.Core.List.{[], _∷_}
 use Prim.Native.Nat.{ℕ, zero, suc, _+_, _*_, _-_, _≤_, _<_, min, max}
 use native.Mathlib.Nat.{mul-le-mul-left}
 use native.Mathlib.Omega.{arith}
 use lib.Dec.{ltb}
 use borrow.Author.Tests.{lt-ltb, le-ltb}
-use Rattle.rules.specs.declared.Batch.{Batch}
 use Rattle.mosaic.specs.Least.{Instance, mountStart, benchStart, finishOf, leastOpen, leastFrom}
 use Rattle.mosaic.specs.Chosen.{batchOf, chosenOpen, chosenFrom}
 use Rattle.mosaic.specs.Index.{lateStart, leastAt, openAt, closedAt, chosenAt, chosenOpenAt}
@@ -94,7 +92,7 @@ module _ (x : Instance) where
   -- the test of the recursion, by index
   test-is : (i q t : ℕ) → q < x .strips
       → ltb (x .weight i q * finishOf x t i q + leastOpen x (x .strips - (q + 1)) q (q + 1) (finishOf x t i q)) (leastOpen x (x .strips - (q + 1)) i (q + 1) t)
-        ≡ ltb (closedAt x (benchStart (x .mount) t (x .ready q)) i q) (openAt x i (q + 1) t)
+      ≡ ltb (closedAt x (benchStart (x .mount) t (x .ready q)) i q) (openAt x i (q + 1) t)
   unfolding openAt closedAt finishOf
   test-is i q t h = rw (least-open q (benchStart (x .mount) t (x .ready q) + x .bench i q) h)
 

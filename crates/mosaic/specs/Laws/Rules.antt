@@ -1,13 +1,12 @@
 -- The rules' quantities: bounds of ready times and bench sums, bench sums split in two, and the weight of a batch.
-use mathlib.Core.Path.{_≡_, refl, ap, _∙_, sym}
-use Prim.Native.Nat.{ℕ, zero, suc, _+_, _*_, _-_, _≤_, _<_}
-use native.Mathlib.Nat.{mul-le-mul-right, add-assoc}
+use mathlib.Core.Path.{_≡_, refl, ap, sym}
+use Prim.Native.Nat.{ℕ, _+_, _*_, _-_, _≤_}
+use native.Mathlib.Nat.{add-assoc}
 use native.Mathlib.Omega.{arith}
 use lib.ListN.{getD}
 use Rattle.sheet.specs.Limits.{mostTime, mostStrips}
 use Rattle.sheet.specs.Sound.{MosaicSound}
 use Rattle.sheet.specs.declared.MosaicSection.{MosaicSection}
-use Rattle.rules.specs.Sums.{sumOver}
 use Rattle.rules.specs.Mosaic.{stationSum, ready, benchSum}
 use Rattle.mosaic.specs.Least.{weightOf, weightSum}
 use Rattle.mosaic.specs.Laws.Sums.{sum-split, sum-same, sum-const, sum-most, greatest-most}

@@ -1,12 +1,10 @@
+-- `choose_batch` meets its contract. Invariant: of the candidates from n down to q, the one taken is the one that the recursion takes.
 use native.Mathlib.Omega.{arith}
 use borrow.Author.Needs.{needs}
 use Rattle.mosaic.proofs.CandidateLaws.{from-candidate}
 use Rattle.mosaic.proofs.ChoiceLaws.{TakenSoFar, taken-start, taken-less, taken-more, taken-end}
 use Rattle.mosaic.proofs.batches.choose_batch.Statement.{statement}
 use Rattle.mosaic.proofs.batches.choose_batch.Tie as tie
-use Rattle.mosaic.proofs.batches.choose_batch.Reads as reads
-use Rattle.mosaic.proofs.batches.choose_batch.Lts as lts
-use Rattle.mosaic.proofs.tables.candidate.Reads as candidate-reads
 
 abbrev Inv-loop : tie.InvT-loop
 Inv-loop rs sums late row s n free i q₀ taken₀ least₀ q taken least = TakenSoFar rs sums s n free i q taken least
@@ -14,43 +12,33 @@ Inv-loop rs sums late row s n free i q₀ taken₀ least₀ q taken least = Take
 abbrev μ-loop : tie.MeasureT-loop
 μ-loop rs sums late row s n free i q₀ taken₀ least₀ q taken least = q
 
--- src/batches.rt:16:9
 candidate-requires : tie.Need-candidate-requires Inv-loop μ-loop
 candidate-requires c κs = search (from-candidate, arith)
 
--- src/batches.rt:17:5
 loop-holds : tie.Need-loop-holds Inv-loop μ-loop
 loop-holds c = search taken-start
 
--- src/batches.rt:17:11
 add-loop : tie.Need-add-loop Inv-loop μ-loop
 add-loop c = search needs
 
--- src/batches.rt:18:9
 sub-q : tie.Need-sub-q Inv-loop μ-loop
 sub-q c = search needs
 
--- src/batches.rt:19:13
 candidate-requires-2 : tie.Need-candidate-requires-2 Inv-loop μ-loop
 candidate-requires-2 c κs = search (from-candidate, arith)
 
--- src/batches.rt:17:5
 loop-less : tie.Need-loop-less Inv-loop μ-loop
 loop-less c = search needs
 
--- src/batches.rt:17:5
 loop-again : tie.Need-loop-again Inv-loop μ-loop
 loop-again c = search taken-less
 
--- src/batches.rt:17:5
 loop-less-2 : tie.Need-loop-less-2 Inv-loop μ-loop
 loop-less-2 c = search needs
 
--- src/batches.rt:17:5
 loop-again-2 : tie.Need-loop-again-2 Inv-loop μ-loop
 loop-again-2 c = taken-more (c .before .before .before .before .before .before .before .before .before .pre) (c .before .before .before .loop .inv) (c .before .before .loop-test .taken) (c .before .candidate2 .ensures) (c .if1 .left)
 
--- src/batches.rt:10:1
 returns : tie.Need-returns Inv-loop μ-loop
 returns c = search taken-end
 

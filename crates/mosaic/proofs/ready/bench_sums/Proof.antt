@@ -1,11 +1,10 @@
+-- `bench_sums` meets its contract. Invariant: the sum is that of the strips passed, and so are the entries written.
 use mathlib.Core.Path.{refl}
 use Prim.Native.Nat.{_-_}
 use borrow.Author.Needs.{needs}
 use Rattle.mosaic.proofs.TimeLaws.{SumsSoFar, sums-start, sums-fits, sums-step, sums-end}
 use Rattle.mosaic.proofs.ready.bench_sums.Statement.{statement}
 use Rattle.mosaic.proofs.ready.bench_sums.Tie as tie
-use Rattle.mosaic.proofs.ready.bench_sums.Reads as reads
-use Rattle.mosaic.proofs.ready.bench_sums.Lts as lts
 
 abbrev Inv-loop : tie.InvT-loop
 Inv-loop m sums₀ sum₀ j₀ sums sum j = SumsSoFar m sums sum j
@@ -13,43 +12,33 @@ Inv-loop m sums₀ sum₀ j₀ sums sum j = SumsSoFar m sums sum j
 abbrev μ-loop : tie.MeasureT-loop
 μ-loop m sums₀ sum₀ j₀ sums sum j = 40 - j
 
--- src/ready.rt:76:5
 loop-holds : tie.Need-loop-holds Inv-loop μ-loop
 loop-holds c = sums-start (c .pre) _ refl refl
 
--- src/ready.rt:77:16
 mul-sum : tie.Need-mul-sum Inv-loop μ-loop
 mul-sum c = search needs
 
--- src/ready.rt:77:16
 element-copy-out-sum : tie.Need-element-copy-out-sum Inv-loop μ-loop
 element-copy-out-sum c = search needs
 
--- src/ready.rt:77:9
 add-sum : tie.Need-add-sum Inv-loop μ-loop
 add-sum c = search sums-fits
 
--- src/ready.rt:78:9
 add-j : tie.Need-add-j Inv-loop μ-loop
 add-j c = search needs
 
--- src/ready.rt:79:9
 mul-sums : tie.Need-mul-sums Inv-loop μ-loop
 mul-sums c = search needs
 
--- src/ready.rt:79:9
 array-write-sums : tie.Need-array-write-sums Inv-loop μ-loop
 array-write-sums c = search needs
 
--- src/ready.rt:76:5
 loop-less : tie.Need-loop-less Inv-loop μ-loop
 loop-less c = search needs
 
--- src/ready.rt:76:5
 loop-again : tie.Need-loop-again Inv-loop μ-loop
 loop-again c = search sums-step
 
--- src/ready.rt:69:1
 returns : tie.Need-returns Inv-loop μ-loop
 returns c = search sums-end
 

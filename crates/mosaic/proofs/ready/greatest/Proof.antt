@@ -1,49 +1,38 @@
+-- `greatest` meets its contract, by the number of stations.
 use Rattle.mosaic.proofs.TimeLaws.{greatest-four}
 use mathlib.Core.Path.{_≡_}
 use mathlib.Core.Path.{refl}
 use native.Mathlib.Omega.{arith}
 use Rattle.rules.specs.Sums.{greatestOver}
-
 use borrow.Author.Needs.{needs}
 use Rattle.mosaic.proofs.ready.greatest.Statement.{statement}
 use Rattle.mosaic.proofs.ready.greatest.Tie as tie
-use Rattle.mosaic.proofs.ready.greatest.Reads as reads
-use Rattle.mosaic.proofs.ready.greatest.Lts as lts
-use Rattle.mosaic.proofs.ready.later.Reads as later-reads
 
--- src/ready.rt:29:9
 returns : tie.Need-returns
 unfolding greatestOver
 returns c = rw (c .if1 .taken) refl
 
--- src/ready.rt:32:9
 returns-2 : tie.Need-returns-2
 unfolding greatestOver
 returns-2 c = rw (c .if2 .taken) (omega arith)
 
--- src/ready.rt:34:9
 later-requires : tie.Need-later-requires
 later-requires c κs = search needs
 
--- src/ready.rt:36:9
 returns-3 : tie.Need-returns-3
 unfolding greatestOver
 returns-3 c = rw (c .if3 .taken) (omega arith)
 
--- src/ready.rt:38:9
 later-requires-2 : tie.Need-later-requires-2
 later-requires-2 c κs = search needs
 
--- src/ready.rt:40:9
 returns-4 : tie.Need-returns-4
 unfolding greatestOver
 returns-4 c = rw (c .if4 .taken) (omega arith)
 
--- src/ready.rt:42:5
 later-requires-3 : tie.Need-later-requires-3
 later-requires-3 c κs = search needs
 
--- src/ready.rt:24:1
 returns-5 : tie.Need-returns-5
 unfolding greatestOver
 returns-5 c = let e : c .before .before .before .before .before .before .before .args .stations ≡ 4 = omega arith in rw e (search greatest-four)

@@ -1,12 +1,10 @@
+-- `ready_times` meets its contract. Invariant: the four sums are those of the strips passed, and so are the entries written.
 use mathlib.Core.Path.{refl}
 use Prim.Native.Nat.{_-_}
 use borrow.Author.Needs.{needs}
 use Rattle.mosaic.proofs.TimeLaws.{TimesSoFar, times-start, fits-a, fits-b, fits-c, fits-d, times-stations, times-step, times-end}
 use Rattle.mosaic.proofs.ready.ready_times.Statement.{statement}
 use Rattle.mosaic.proofs.ready.ready_times.Tie as tie
-use Rattle.mosaic.proofs.ready.ready_times.Reads as reads
-use Rattle.mosaic.proofs.ready.ready_times.Lts as lts
-use Rattle.mosaic.proofs.ready.greatest.Reads as greatest-reads
 
 abbrev Inv-loop : tie.InvT-loop
 Inv-loop m stations rs₀ a₀ b₀ c₀ d₀ j₀ rs a b c d j = TimesSoFar m stations rs a b c d j
@@ -14,111 +12,84 @@ Inv-loop m stations rs₀ a₀ b₀ c₀ d₀ j₀ rs a b c d j = TimesSoFar m s
 abbrev μ-loop : tie.MeasureT-loop
 μ-loop m stations rs₀ a₀ b₀ c₀ d₀ j₀ rs a b c d j = 40 - j
 
--- src/ready.rt:57:5
 loop-holds : tie.Need-loop-holds Inv-loop μ-loop
 loop-holds c = times-start (c .pre) _ refl
 
--- src/ready.rt:58:24
 mul-a : tie.Need-mul-a Inv-loop μ-loop
 mul-a c = search needs
 
--- src/ready.rt:58:14
 mul-a-2 : tie.Need-mul-a-2 Inv-loop μ-loop
 mul-a-2 c = search needs
 
--- src/ready.rt:58:14
 element-copy-out-a : tie.Need-element-copy-out-a Inv-loop μ-loop
 element-copy-out-a c = search needs
 
--- src/ready.rt:58:9
 add-a : tie.Need-add-a Inv-loop μ-loop
 add-a c = search fits-a
 
--- src/ready.rt:59:24
 mul-b : tie.Need-mul-b Inv-loop μ-loop
 mul-b c = search needs
 
--- src/ready.rt:59:24
 add-b : tie.Need-add-b Inv-loop μ-loop
 add-b c = search needs
 
--- src/ready.rt:59:14
 mul-b-2 : tie.Need-mul-b-2 Inv-loop μ-loop
 mul-b-2 c = search needs
 
--- src/ready.rt:59:14
 element-copy-out-b : tie.Need-element-copy-out-b Inv-loop μ-loop
 element-copy-out-b c = search needs
 
--- src/ready.rt:59:9
 add-b-2 : tie.Need-add-b-2 Inv-loop μ-loop
 add-b-2 c = search fits-b
 
--- src/ready.rt:60:24
 mul-c : tie.Need-mul-c Inv-loop μ-loop
 mul-c c = search needs
 
--- src/ready.rt:60:24
 add-c : tie.Need-add-c Inv-loop μ-loop
 add-c c = search needs
 
--- src/ready.rt:60:14
 mul-c-2 : tie.Need-mul-c-2 Inv-loop μ-loop
 mul-c-2 c = search needs
 
--- src/ready.rt:60:14
 element-copy-out-c : tie.Need-element-copy-out-c Inv-loop μ-loop
 element-copy-out-c c = search needs
 
--- src/ready.rt:60:9
 add-c-2 : tie.Need-add-c-2 Inv-loop μ-loop
 add-c-2 c = search fits-c
 
--- src/ready.rt:61:24
 mul-d : tie.Need-mul-d Inv-loop μ-loop
 mul-d c = search needs
 
--- src/ready.rt:61:24
 add-d : tie.Need-add-d Inv-loop μ-loop
 add-d c = search needs
 
--- src/ready.rt:61:14
 mul-d-2 : tie.Need-mul-d-2 Inv-loop μ-loop
 mul-d-2 c = search needs
 
--- src/ready.rt:61:14
 element-copy-out-d : tie.Need-element-copy-out-d Inv-loop μ-loop
 element-copy-out-d c = search needs
 
--- src/ready.rt:61:9
 add-d-2 : tie.Need-add-d-2 Inv-loop μ-loop
 add-d-2 c = search fits-d
 
--- src/ready.rt:62:17
 greatest-requires : tie.Need-greatest-requires Inv-loop μ-loop
 greatest-requires c κs = search times-stations
 
--- src/ready.rt:62:9
 mul-rs : tie.Need-mul-rs Inv-loop μ-loop
 mul-rs c = search needs
 
--- src/ready.rt:62:9
 array-write-rs : tie.Need-array-write-rs Inv-loop μ-loop
 array-write-rs c = search needs
 
--- src/ready.rt:63:9
 add-j : tie.Need-add-j Inv-loop μ-loop
 add-j c = search needs
 
--- src/ready.rt:57:5
 loop-less : tie.Need-loop-less Inv-loop μ-loop
 loop-less c = search needs
 
--- src/ready.rt:57:5
 loop-again : tie.Need-loop-again Inv-loop μ-loop
 loop-again c = search times-step
 
--- src/ready.rt:46:1
 returns : tie.Need-returns Inv-loop μ-loop
 returns c = search times-end
 

@@ -1,16 +1,13 @@
+-- `late_start` meets its contract.
 use native.Mathlib.Omega.{arith}
 use Rattle.mosaic.specs.Index.{lateStart}
 use borrow.Author.Needs.{needs}
 use Rattle.mosaic.proofs.tables.late_start.Statement.{statement}
 use Rattle.mosaic.proofs.tables.late_start.Tie as tie
-use Rattle.mosaic.proofs.tables.late_start.Reads as reads
-use Rattle.mosaic.proofs.tables.late_start.Lts as lts
 
--- src/tables.rt:23:5
 add-result : tie.Need-add-result
 add-result c = search needs
 
--- src/tables.rt:19:1
 returns : tie.Need-returns
 unfolding lateStart
 returns c = omega arith

@@ -1,11 +1,9 @@
+-- `least_from` meets its contract. Invariant: the least of the candidates from n down to q is the value of the recursion with an open batch up to q.
 use native.Mathlib.Omega.{arith}
 use borrow.Author.Needs.{needs}
 use Rattle.mosaic.proofs.CandidateLaws.{LeastSoFar, from-candidate, least-start, least-less, least-more, least-end-is}
 use Rattle.mosaic.proofs.tables.least_from.Statement.{statement}
 use Rattle.mosaic.proofs.tables.least_from.Tie as tie
-use Rattle.mosaic.proofs.tables.least_from.Reads as reads
-use Rattle.mosaic.proofs.tables.least_from.Lts as lts
-use Rattle.mosaic.proofs.tables.candidate.Reads as candidate-reads
 
 abbrev Inv-loop : tie.InvT-loop
 Inv-loop rs sums late row s n free i q₀ least₀ q least = LeastSoFar rs sums s n free i q least
@@ -13,43 +11,33 @@ Inv-loop rs sums late row s n free i q₀ least₀ q least = LeastSoFar rs sums 
 abbrev μ-loop : tie.MeasureT-loop
 μ-loop rs sums late row s n free i q₀ least₀ q least = q
 
--- src/tables.rt:46:9
 candidate-requires : tie.Need-candidate-requires Inv-loop μ-loop
 candidate-requires c κs = search (from-candidate, arith)
 
--- src/tables.rt:47:5
 loop-holds : tie.Need-loop-holds Inv-loop μ-loop
 loop-holds c = search least-start
 
--- src/tables.rt:47:11
 add-loop : tie.Need-add-loop Inv-loop μ-loop
 add-loop c = search needs
 
--- src/tables.rt:48:9
 sub-q : tie.Need-sub-q Inv-loop μ-loop
 sub-q c = search needs
 
--- src/tables.rt:49:13
 candidate-requires-2 : tie.Need-candidate-requires-2 Inv-loop μ-loop
 candidate-requires-2 c κs = search (from-candidate, arith)
 
--- src/tables.rt:47:5
 loop-less : tie.Need-loop-less Inv-loop μ-loop
 loop-less c = search needs
 
--- src/tables.rt:47:5
 loop-again : tie.Need-loop-again Inv-loop μ-loop
-loop-again c = search least-less
+loop-again c = search (least-less, arith)
 
--- src/tables.rt:47:5
 loop-less-2 : tie.Need-loop-less-2 Inv-loop μ-loop
 loop-less-2 c = search needs
 
--- src/tables.rt:47:5
 loop-again-2 : tie.Need-loop-again-2 Inv-loop μ-loop
-loop-again-2 c = search least-more
+loop-again-2 c = search (least-more, arith)
 
--- src/tables.rt:41:1
 returns : tie.Need-returns Inv-loop μ-loop
 returns c = search least-end-is
 
