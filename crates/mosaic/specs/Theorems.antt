@@ -1,7 +1,7 @@
 -- The theorems of the mosaic planner, for every sound section m: the batching taken is lawful, has the least figure of all lawful timetables
 -- (any batching, any idle time), starts each mount as early as its batches allow, and finishes below the ceiling.
 use mathlib.Core.Path.{_≡_, refl, _∙_}
-use mathlib.Core.List.{List}
+use mathlib.Core.List.{List, []}
 use Prim.Native.Nat.{ℕ, _+_, _*_, _-_, _≤_, _<_}
 use native.Mathlib.Omega.{arith}
 use lib.ListN.{length}
@@ -9,10 +9,11 @@ use Rattle.sheet.specs.Limits.{mostTime, mostStrips}
 use Rattle.sheet.specs.Sound.{MosaicSound}
 use Rattle.sheet.specs.declared.MosaicSection.{MosaicSection}
 use Rattle.rules.specs.declared.Batch.{Batch}
-use Rattle.rules.specs.Mosaic.{noBatch, batchAt, MosaicLawful, mosaicFigure}
-use Rattle.mosaic.specs.Least.{leastFigure}
-use Rattle.mosaic.specs.Chosen.{chosenBatches}
+use Rattle.rules.specs.Mosaic.{ready, noBatch, batchAt, MosaicLawful, mosaicFigure}
+use Rattle.mosaic.specs.Least.{leastFrom, leastFigure}
+use Rattle.mosaic.specs.Chosen.{chosenFrom, chosenBatches}
 use Rattle.mosaic.specs.Plan.{lasts}
+use Rattle.mosaic.specs.Laws.Rules.{ready-most}
 use Rattle.mosaic.specs.Laws.Structure.{lawful-after, after-lawful, count-within}
 use Rattle.mosaic.specs.Laws.Figure.{rest-whole}
 use Rattle.mosaic.specs.Laws.LowerBound.{lower-after}
@@ -55,3 +56,12 @@ module _ (m : MosaicSection) (S : MosaicSound m) where
   -- "a present figure is at least 1"
   pub mosaic-present : 0 < m .strips → 0 < leastFigure m
   mosaic-present h = rw (least-is m) (present S h)
+
+  -- an absent section
+  pub mosaic-absent : m .strips ≡ 0 → (leastFigure m ≡ 0) × (chosenBatches m ≡ [])
+  unfolding leastFigure leastFrom chosenBatches chosenFrom
+  mosaic-absent h = (rw h refl, rw h refl)
+
+  -- 400,000 at most
+  pub mosaic-ready : (q : ℕ) → q ≤ m .strips → ready m q ≤ mostStrips * mostTime
+  mosaic-ready q h = ready-most S q (omega (arith, S .most-strips))
