@@ -13,6 +13,9 @@ use Rattle.interleaving.specs.declared.Incumbent.{Incumbent}
 use Rattle.interleaving.specs.Search.{StripLeft, stepOf, keep, overDesks, branch, searchFrom, LowerBound, Completes}
 use Rattle.interleaving.specs.SearchLaws.{branch-yes, branch-no, bound-down, search-falls, search-bound, search-stays}
 
+same-incumbent : (u v : Incumbent) → u .figure ≡ v .figure → u .path ≡ v .path → u ≡ v
+same-incumbent u v p q = λ i. record { figure = p i; path = q i }
+
 -- r is one of the ends of s
 pub record Attained (J : List ℕ) (k : ℕ) (s : State) (r : Incumbent) : Type 0 where
   pub end : State
@@ -165,3 +168,29 @@ module _ (J : List ℕ) where
       go (yes h) = rw (lt-ltb _ _ h) (le-refl _)
       go (no h) = rw (le-ltb (s .cost) (b .figure) (omega arith)) (omega arith)
   search-first (suc k) s b l = λ e n w. stages k s (search-first k) 3 b (omega arith) l .first (n .0) (n .1) (n .2) e (n .3) w
+
+  -- where a completion is below both incumbents, the search returns the same: the first best
+  pub any-incumbent : (k : ℕ) (s : State) (b c : Incumbent) (e : State) → Completes J k s e → e .cost < b .figure → e .cost < c .figure → b .path ≤ 0 → c .path ≤ 0 → searchFrom J k s b ≡ searchFrom J k s c
+  any-incumbent k s b c e q l m z y = go (search-attains k s b) (search-attains k s c)
+    where
+      x : Incumbent
+      x = searchFrom J k s b
+
+      w : Incumbent
+      w = searchFrom J k s c
+
+      below : (a : Incumbent) → searchFrom J k s a .figure ≤ e .cost
+      below a = bound-completes k s _ (search-bound J k s a) e q
+
+      go : (x ≡ b) ⊎ Attained J k s x → (w ≡ c) ⊎ Attained J k s w → x ≡ w
+      go (inl p) r = absurd (omega (arith, below b, ap (λ (i : Incumbent). i .figure) p))
+      go (inr p) (inl r) = absurd (omega (arith, below c, ap (λ (i : Incumbent). i .figure) r))
+      go (inr p) (inr r) = same-incumbent x w figures paths
+        where
+          figures : x .figure ≡ w .figure
+          figures =
+              omega (arith, bound-completes k s _ (search-bound J k s b) (r .end) (r .ends), r .figure, bound-completes k s _ (search-bound J k s c) (p .end) (p .ends), p .figure)
+
+          paths : x .path ≡ w .path
+          paths =
+              omega (arith, search-first k s b (omega arith) (r .end) (r .ends) (figures ∙ r .figure), r .path, search-first k s c (omega arith) (p .end) (p .ends) (sym figures ∙ p .figure), p .path)

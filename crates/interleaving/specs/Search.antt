@@ -63,6 +63,10 @@ startState J = record { left = getD J 0 0 + getD J 1 0 + getD J 2 0; time = 0; c
 abbrev pub noIncumbent : Incumbent
 noIncumbent = record { figure = 18446744073709551615; path = 0 }
 
+-- the first best interleaving of all, in desk order
+unfoldable pub firstBest : List ℕ → Incumbent
+firstBest J = searchFrom J (startState J .left) (startState J) noIncumbent
+
 -- e is what s becomes by k strips, in some order
 unfoldable pub Completes : List ℕ → ℕ → State → State → Type 0
 Completes J zero s e = e ≡ s

@@ -1,0 +1,60 @@
+use Rattle.sorting_search.specs.ScannerTable.{Filled, fill-start, fill-enter, fill-more, fill-end}
+use native.Mathlib.Omega.{arith}
+use Rattle.sorting_search.proofs.scanner_bound.fill_scanner_table.Statement.{statement}
+use Rattle.sorting_search.proofs.scanner_bound.fill_scanner_table.Tie as tie
+use Rattle.sorting_search.proofs.scanner_bound.fill_scanner_table.Reads as reads
+use Rattle.sorting_search.proofs.scanner_bound.fill_scanner_table.Lts as lts
+use Rattle.sorting_search.proofs.scanner_bound.scanner_entry.Reads as scanner-entry-reads
+
+abbrev Inv-loop : tie.InvT-loop
+Inv-loop jobs m₀ k₀ m k = Filled jobs m₀ m k
+
+abbrev μ-loop : tie.MeasureT-loop
+μ-loop jobs m₀ k₀ m k = k
+
+loop-holds : tie.Need-loop-holds Inv-loop μ-loop
+loop-holds c = search fill-start
+
+sub-k : tie.Need-sub-k Inv-loop μ-loop
+sub-k c = omega arith
+
+scanner-entry-requires : tie.Need-scanner-entry-requires Inv-loop μ-loop
+scanner-entry-requires c κs = search fill-enter
+
+add-m : tie.Need-add-m Inv-loop μ-loop
+add-m c = omega arith
+
+mul-m : tie.Need-mul-m Inv-loop μ-loop
+mul-m c = omega arith
+
+slice-write-m : tie.Need-slice-write-m Inv-loop μ-loop
+slice-write-m c = omega arith
+
+loop-less : tie.Need-loop-less Inv-loop μ-loop
+loop-less c = omega arith
+
+loop-again : tie.Need-loop-again Inv-loop μ-loop
+loop-again c = search fill-more
+
+same-length : tie.Need-same-length Inv-loop μ-loop
+same-length c = omega arith
+
+returns : tie.Need-returns Inv-loop μ-loop
+returns c = search fill-end
+
+pub fill-scanner-table-spec : {M : Type 1} → statement M
+fill-scanner-table-spec =
+    tie.close
+    (tie.spec
+    Inv-loop
+    μ-loop
+    loop-holds
+    sub-k
+    scanner-entry-requires
+    add-m
+    mul-m
+    slice-write-m
+    loop-less
+    loop-again
+    same-length
+    returns)

@@ -1,0 +1,81 @@
+// The lower bound with every desk always free: a table over count vectors, behind the labels.
+ghost use mathlib.Core.Path.{_≡_};
+ghost use Prim.Native.Nat.{_+_, _≤_, _<_};
+ghost use lib.ListN.{length};
+ghost use Rattle.interleaving.specs.Instance.{Instance};
+ghost use Rattle.sorting_search.specs.ScannerBound.{Entry, scannerBound};
+ghost use Rattle.sorting_search.specs.ScannerTable.{ScanSum, Strip, Through, Entering, Filled, Bounding};
+ghost use Rattle.sorting_search.specs.DeskBound.{boundCap};
+ghost use Rattle.sheet.specs.Limits.{tableLength};
+use interleaving::State;
+
+fn lesser(a: u64, b: u64) -> u64
+    ensures { λ r. ⌜ (r ≤ a) × (r ≤ b) ⌝ }
+{
+    if a < b { a } else { b }
+}
+
+// The scan times of the first n strips of desk d.
+fn scan_sum(jobs: &[u64], d: usize, n: usize) -> u64
+    requires { ⌜ Instance (now jobs) × (d < 3) × (n ≤ 6) ⌝ }
+    ensures { λ r. ⌜ ScanSum (now (jobs .entry)) d n r ⌝ }
+{
+    let mut sum: u64 = 0;
+    let mut i: usize = 0;
+    while i < n {
+        sum += jobs[3 + (d * 6 + i)];
+        i += 1;
+    }
+    sum
+}
+
+// The rest that starts with strip i of desk d, scanned from the time on and done at once, with the rest behind it; the cap where there is no such strip.
+fn through(jobs: &[u64], time: u64, d: usize, i: usize, next: u64) -> u64
+    requires { ⌜ Strip (now jobs) time d i next ⌝ }
+    ensures { λ r. ⌜ Through (now (jobs .entry)) time d i next r ⌝ }
+{
+    if jobs[d] <= i as u64 {
+        return 1099511627776;
+    }
+    let at = 3 + (d * 6 + i);
+    let done = time + jobs[at] + jobs[at + 18];
+    lesser(jobs[at + 36] * done + next, 1099511627776)
+}
+
+// The least rest at the count vector k.
+fn scanner_entry(jobs: &[u64], k: usize, m: &[u64]) -> u64
+    requires { ⌜ Entering (now jobs) (now m) k ⌝ }
+    ensures { λ r. ⌜ Entry (now (jobs .entry)) (now (m .entry)) k r ⌝ }
+{
+    let a = k / 49;
+    let b = k / 7 % 7;
+    let c = k % 7;
+    if jobs[0] + jobs[1] + jobs[2] <= (a + b + c) as u64 {
+        return 0;
+    }
+    let time = scan_sum(jobs, 0, a) + scan_sum(jobs, 1, b) + scan_sum(jobs, 2, c);
+    let first = through(jobs, time, 0, a, m[5488 + (k + 49)]);
+    let second = through(jobs, time, 1, b, m[5488 + (k + 7)]);
+    let third = through(jobs, time, 2, c, m[5488 + (k + 1)]);
+    lesser(lesser(first, second), third)
+}
+
+// All entries, from the last count vector down.
+pub fn fill_scanner_table(jobs: &[u64], m: &mut [u64])
+    requires { ⌜ Instance (now jobs) × (length (now m) ≡ tableLength) ⌝ }
+    ensures { λ _. ⌜ Filled (now (jobs .entry)) (now (m .entry)) (now (m .exit)) 0 ⌝ }
+{
+    let mut k: usize = 343;
+    while 0 < k {
+        k -= 1;
+        let v = scanner_entry(jobs, k, m);
+        m[5488 + k] = v;
+    }
+}
+
+pub fn scanner_bound(jobs: &[u64], s: State, k: usize, m: &[u64]) -> u64
+    requires { ⌜ Bounding (now jobs) s k (now m) ⌝ }
+    ensures { λ r. ⌜ (r ≡ scannerBound (now (m .entry)) s) × (r ≤ boundCap) ⌝ }
+{
+    s.cost + m[5488 + k]
+}
