@@ -61,7 +61,7 @@ module _ (J : List ℕ) (j : Instance J) (s : State) (f : Capped s) (d : ℕ) (p
       omega (arith, max-least (getD (s .free) d 0) (scanned J s d) (freeCap - s .left * stripSpan + timeCap) (omega (arith, f .free d)) (omega (arith, f .time, f .left, scan-small)), f .left, work-small)
 
   weighed-small : weightOf J d (getD (s .taken) d 0) * finish J s d ≤ stripCost
-  weighed-small = le-trans (mul-le-mul-right (finish J s d) (j .light (3 + (d * 6 + getD (s .taken) d 0)))) (omega (arith, finish-small))
+  weighed-small = le-trans (mul-le-mul-right (finish J s d) (j .light (d * 6 + getD (s .taken) d 0))) (omega (arith, finish-small))
 
   path-next : s .path * 4 + d + 1 < 4 ^ (18 - (s .left - 1))
   path-next = rw (e, pow-suc 4 (18 - s .left)) (omega (arith, f .path))

@@ -27,7 +27,7 @@ pub record Attained (J : List ℕ) (k : ℕ) (s : State) (r : Incumbent) : Type 
 abbrev pub First : List ℕ → ℕ → State → Incumbent → Type 0
 First J k s r = (e : State) → Completes J k s e → r .figure ≡ e .cost → r .path ≤ e .path
 
-step-path : (J : List ℕ) (s : State) (d : ℕ) → stepOf J s d .path ≡ s .path * 4 + d + 1
+pub step-path : (J : List ℕ) (s : State) (d : ℕ) → stepOf J s d .path ≡ s .path * 4 + d + 1
 unfolding stepOf
 step-path J s d = refl
 
@@ -64,7 +64,7 @@ module _ (J : List ℕ) where
       go d p r (yes l) (inr a) = inr (subst (Attained J (suc k) s) (sym (branch-yes J (searchFrom J k) s d r l)) (record { end = a .end; ends = (d, p, l, a .ends); figure = a .figure; path = a .path }))
 
   -- the paths below a state lie between two numbers
-  path-range : (k : ℕ) (s e : State) → Completes J k s e → (s .path * 4 ^ k ≤ e .path) × (e .path < (s .path + 1) * 4 ^ k)
+  pub path-range : (k : ℕ) (s e : State) → Completes J k s e → (s .path * 4 ^ k ≤ e .path) × (e .path < (s .path + 1) * 4 ^ k)
   unfolding Completes
   path-range zero s e q = rw q (omega arith, omega arith)
   path-range (suc k) s e q = go (path-range k (stepOf J s (q .0)) e (q .3))

@@ -48,4 +48,4 @@ pub record Instance (J : List ℕ) : Type 0 where
   pub size : length J ≡ instanceLength
   pub few : (d : ℕ) → d < 3 → getD J d 0 ≤ 6
   pub small : (k : ℕ) → getD J (3 + k) 0 ≤ timeCap
-  pub light : (k : ℕ) → getD J (k + 36) 0 ≤ weightCap
+  pub light : (k : ℕ) → getD J (3 + k + 36) 0 ≤ weightCap

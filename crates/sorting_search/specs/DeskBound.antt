@@ -141,7 +141,7 @@ module _ (J : List ℕ) (j : Instance J) (z d : ℕ) where
     later-small = max-least f (t + scanOf J d i) _ (omega (arith, h .free)) (omega (arith, h .time, strip-small))
 
     pub weighed-small : (v : ℕ) → v ≡ maxOf f (t + scanOf J d i) → weightOf J d i * (v + deskOf J d i) ≤ restSpan
-    weighed-small v q = le-trans (mul-le-mul-right (v + deskOf J d i) (j .light (3 + (d * 6 + i)))) (omega (arith, q, h .six, later-small, strip-small))
+    weighed-small v q = le-trans (mul-le-mul-right (v + deskOf J d i) (j .light (d * 6 + i))) (omega (arith, q, h .six, later-small, strip-small))
 
     pub rest-more : (u v : ℕ) → u ≡ t + scanOf J d i → v ≡ maxOf f u → RestSoFar J z d (i + 1) u (v + deskOf J d i) (sum + weightOf J d i * (v + deskOf J d i))
     rest-more u v e w = record {

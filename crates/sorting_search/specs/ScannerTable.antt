@@ -77,7 +77,7 @@ strip-sums {J} {time} {d} {i} h = record {
   place = omega (arith, h .desk, h .most);
   scan = small-scan;
   desk = small-desk;
-  weighted = le-trans (mul-le-mul-right (time + scanOf J d i + deskOf J d i) (h .jobs .light (3 + (d * 6 + i)))) (omega (arith, h .time, small-scan, small-desk));
+  weighted = le-trans (mul-le-mul-right (time + scanOf J d i + deskOf J d i) (h .jobs .light (d * 6 + i))) (omega (arith, h .time, small-scan, small-desk));
 }
   where
     small-scan : scanOf J d i ≤ timeCap

@@ -1,0 +1,5 @@
+-- The sorting planner: the least figure, the chosen jobs, and the theorems against the rules.
+pub mod Plan
+pub mod Listed
+pub mod Instance
+pub mod Route
