@@ -3,3 +3,6 @@ pub mod Plan
 pub mod Listed
 pub mod Instance
 pub mod Route
+pub mod Chosen
+pub mod Times
+pub mod Lawful
