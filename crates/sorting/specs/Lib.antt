@@ -6,3 +6,4 @@ pub mod Route
 pub mod Chosen
 pub mod Times
 pub mod Lawful
+pub mod Least
