@@ -91,73 +91,73 @@ module _ (s : SortingSection) (h : SortingSound s) where
         there : 3 + (d * 6 + i) + 36 ≡ 3 + (18 + (18 + (d * 6 + i)))
         there = omega arith
 
--- the loop that writes the instance
-pub record Writing (s : SortingSection) (J : List ℕ) (k : ℕ) : Type 0 where
+-- the instance before its times are written
+abbrev pub counted : List ℕ → List ℕ
+counted counts = set (set (set (replicate 57 1) 0 (getD counts 0 0)) 1 (getD counts 1 0)) 2 (getD counts 2 0)
+
+-- the loop that writes them: the first k of each kind are there
+pub record Timed (begun scan desk J : List ℕ) (k : ℕ) : Type 0 where
   pub within : k ≤ 18
   pub size : length J ≡ 57
-  pub counts : (d : ℕ) → d < 3 → getD J d 0 ≡ getD (s .counts) d 0
-  pub scans : (i : ℕ) → i < k → getD J (3 + i) 0 ≡ getD (s .scan) i 0
-  pub desks : (i : ℕ) → i < k → getD J (21 + i) 0 ≡ getD (s .desk) i 0
+  pub counts : (d : ℕ) → d < 3 → getD J d 0 ≡ getD begun d 0
+  pub scans : (i : ℕ) → i < k → getD J (3 + i) 0 ≡ getD scan i 0
+  pub desks : (i : ℕ) → i < k → getD J (21 + i) 0 ≡ getD desk i 0
   pub weights : (i : ℕ) → i < 18 → getD J (39 + i) 0 ≡ 1
 
-pub writing-start : {s : SortingSection} → SortingSound s → Writing s (set (set (set (replicate 57 1) 0 (getD (s .counts) 0 0)) 1 (getD (s .counts) 1 0)) 2 (getD (s .counts) 2 0)) 0
-writing-start {s} h = record {
+module _ (counts : List ℕ) where
+  counted-at : (d : ℕ) → d < 3 → getD (counted counts) d 0 ≡ getD counts d 0
+  counted-at zero l = refl
+  counted-at (suc zero) l = refl
+  counted-at (suc (suc zero)) l = refl
+  counted-at (suc (suc (suc d))) l = absurd (omega arith)
+
+  counted-behind : (x : ℕ) → 3 ≤ x → x < 57 → getD (counted counts) x 0 ≡ 1
+  counted-behind x l m =
+      getD-set-other (set (set (replicate 57 1) 0 (getD counts 0 0)) 1 (getD counts 1 0)) 2 x (getD counts 2 0) 0 (λ e. omega arith)
+      ∙ getD-set-other (set (replicate 57 1) 0 (getD counts 0 0)) 1 x (getD counts 1 0) 0 (λ e. omega arith)
+      ∙ getD-set-other (replicate 57 1) 0 x (getD counts 0 0) 0 (λ e. omega arith)
+      ∙ getD-replicate {A = ℕ} 57 x 1 0 m
+
+pub timed-start : {s : SortingSection} → SortingSound s → Timed (counted (s .counts)) (s .scan) (s .desk) (counted (s .counts)) 0
+timed-start {s} h = record {
   within = omega arith;
   size = refl;
-  counts = at;
+  counts = λ d l. refl;
   scans = λ i l. absurd (omega arith);
   desks = λ i l. absurd (omega arith);
-  weights = λ i l. behind (39 + i) (omega arith) ∙ getD-replicate {A = ℕ} 57 (39 + i) 1 0 (omega arith);
+  weights = λ i l. counted-behind (s .counts) (39 + i) (omega arith) (omega arith);
 }
-  where
-    behind : (x : ℕ) → 3 ≤ x → getD (set (set (set (replicate 57 1) 0 (getD (s .counts) 0 0)) 1 (getD (s .counts) 1 0)) 2 (getD (s .counts) 2 0)) x 0 ≡ getD {A = ℕ} (replicate 57 1) x 0
-    behind x l =
-        getD-set-other (set (set (replicate 57 1) 0 (getD (s .counts) 0 0)) 1 (getD (s .counts) 1 0)) 2 x (getD (s .counts) 2 0) 0 (λ e. omega arith)
-        ∙ getD-set-other (set (replicate 57 1) 0 (getD (s .counts) 0 0)) 1 x (getD (s .counts) 1 0) 0 (λ e. omega arith)
-        ∙ getD-set-other (replicate 57 1) 0 x (getD (s .counts) 0 0) 0 (λ e. omega arith)
 
-    at : (d : ℕ) → d < 3 → getD (set (set (set (replicate 57 1) 0 (getD (s .counts) 0 0)) 1 (getD (s .counts) 1 0)) 2 (getD (s .counts) 2 0)) d 0 ≡ getD (s .counts) d 0
-    at zero l = refl
-    at (suc zero) l = refl
-    at (suc (suc zero)) l = refl
-    at (suc (suc (suc d))) l = absurd (omega arith)
-
-pub writing-more : {s : SortingSection} {J : List ℕ} {k : ℕ} → Writing s J k → k < 18 → Writing s (set (set J (3 + k) (getD (s .scan) k 0)) (21 + k) (getD (s .desk) k 0)) (k + 1)
-writing-more {s} {J} {k} w l = record {
+pub timed-more : {begun scan desk J : List ℕ} {k : ℕ} → Timed begun scan desk J k → k < 18 → Timed begun scan desk (set (set J (3 + k) (getD scan k 0)) (21 + k) (getD desk k 0)) (k + 1)
+timed-more {begun} {scan} {desk} {J} {k} w l = record {
   within = omega arith;
   size = simp length-set (w .size);
   counts = λ d m. other d (λ e. omega arith) (λ e. omega arith) ∙ w .counts d m;
-  scans = λ i m. scan i m (ℕ-discrete i k);
-  desks = λ i m. desk i m (ℕ-discrete i k);
+  scans = λ i m. scans i m (ℕ-discrete i k);
+  desks = λ i m. desks i m (ℕ-discrete i k);
   weights = λ i m. other (39 + i) (λ e. omega arith) (λ e. omega arith) ∙ w .weights i m;
 }
   where
-    a : ℕ
-    a = getD (s .scan) k 0
+    other : (x : ℕ) → (x ≡ 3 + k → ⊥) → (x ≡ 21 + k → ⊥) → getD (set (set J (3 + k) (getD scan k 0)) (21 + k) (getD desk k 0)) x 0 ≡ getD J x 0
+    other x p q = getD-set-other (set J (3 + k) (getD scan k 0)) (21 + k) x (getD desk k 0) 0 q ∙ getD-set-other J (3 + k) x (getD scan k 0) 0 p
 
-    b : ℕ
-    b = getD (s .desk) k 0
+    scans : (i : ℕ) → i < k + 1 → Dec (i ≡ k) → getD (set (set J (3 + k) (getD scan k 0)) (21 + k) (getD desk k 0)) (3 + i) 0 ≡ getD scan i 0
+    scans i m (yes e) =
+        rw e (getD-set-other (set J (3 + k) (getD scan k 0)) (21 + k) (3 + k) (getD desk k 0) 0 (λ z. omega arith) ∙ getD-set-same J (3 + k) (getD scan k 0) 0 (omega (arith, w .size)))
+    scans i m (no e) = other (3 + i) (λ z. omega arith) (λ z. omega (arith, w .within)) ∙ w .scans i (omega arith)
 
-    other : (x : ℕ) → (x ≡ 3 + k → ⊥) → (x ≡ 21 + k → ⊥) → getD (set (set J (3 + k) (getD (s .scan) k 0)) (21 + k) (getD (s .desk) k 0)) x 0 ≡ getD J x 0
-    other x p q = getD-set-other (set J (3 + k) (getD (s .scan) k 0)) (21 + k) x (getD (s .desk) k 0) 0 q ∙ getD-set-other J (3 + k) x (getD (s .scan) k 0) 0 p
+    desks : (i : ℕ) → i < k + 1 → Dec (i ≡ k) → getD (set (set J (3 + k) (getD scan k 0)) (21 + k) (getD desk k 0)) (21 + i) 0 ≡ getD desk i 0
+    desks i m (yes e) = rw e (getD-set-same (set J (3 + k) (getD scan k 0)) (21 + k) (getD desk k 0) 0 (simp length-set (omega (arith, w .size))))
+    desks i m (no e) = other (21 + i) (λ z. omega (arith, w .within)) (λ z. omega arith) ∙ w .desks i (omega arith)
 
-    scan : (i : ℕ) → i < k + 1 → Dec (i ≡ k) → getD (set (set J (3 + k) (getD (s .scan) k 0)) (21 + k) (getD (s .desk) k 0)) (3 + i) 0 ≡ getD (s .scan) i 0
-    scan i m (yes e) =
-        rw e (getD-set-other (set J (3 + k) (getD (s .scan) k 0)) (21 + k) (3 + k) (getD (s .desk) k 0) 0 (λ z. omega arith) ∙ getD-set-same J (3 + k) (getD (s .scan) k 0) 0 (omega (arith, w .size)))
-    scan i m (no e) = other (3 + i) (λ z. omega arith) (λ z. omega (arith, w .within)) ∙ w .scans i (omega arith)
-
-    desk : (i : ℕ) → i < k + 1 → Dec (i ≡ k) → getD (set (set J (3 + k) (getD (s .scan) k 0)) (21 + k) (getD (s .desk) k 0)) (21 + i) 0 ≡ getD (s .desk) i 0
-    desk i m (yes e) = rw e (getD-set-same (set J (3 + k) (getD (s .scan) k 0)) (21 + k) (getD (s .desk) k 0) 0 (simp length-set (omega (arith, w .size))))
-    desk i m (no e) = other (21 + i) (λ z. omega (arith, w .within)) (λ z. omega arith) ∙ w .desks i (omega arith)
-
-pub writing-end : {s : SortingSection} {J : List ℕ} {k : ℕ} → SortingSound s → Writing s J k → 18 ≤ k → J ≡ instanceOf s
-writing-end {s} {J} {k} h w l = ext-getD 0 J (instanceOf s) (w .size ∙ sym (instance-length s h)) (λ x m. go x (omega (arith, w .size)) (decLt x 3) (decLt x 21) (decLt x 39))
+pub timed-end : {s : SortingSection} {J : List ℕ} {k : ℕ} → SortingSound s → Timed (counted (s .counts)) (s .scan) (s .desk) J k → 18 ≤ k → J ≡ instanceOf s
+timed-end {s} {J} {k} h w l = ext-getD 0 J (instanceOf s) (w .size ∙ sym (instance-length s h)) (λ x m. go x (omega (arith, w .size)) (decLt x 3) (decLt x 21) (decLt x 39))
   where
     join : (x y z : ℕ) → x ≡ y → z ≡ x → getD J y 0 ≡ getD (instanceOf s) z 0 → getD J x 0 ≡ getD (instanceOf s) x 0
     join x y z p q e = ap (λ (v : ℕ). getD J v 0) p ∙ e ∙ ap (λ (v : ℕ). getD (instanceOf s) v 0) q
 
     go : (x : ℕ) → x < 57 → Dec (x < 3) → Dec (x < 21) → Dec (x < 39) → getD J x 0 ≡ getD (instanceOf s) x 0
-    go x m (yes p) q r = w .counts x p ∙ sym (count-at s h x p)
+    go x m (yes p) q r = w .counts x p ∙ counted-at (s .counts) x p ∙ sym (count-at s h x p)
     go x m (no p) (yes q) r = join x (3 + (x - 3)) (3 + (x - 3)) (omega arith) (omega arith) (w .scans (x - 3) (omega (arith, w .within)) ∙ sym (scan-at s h (x - 3) (omega arith)))
     go x m (no p) (no q) (yes r) = join x (21 + (x - 21)) (3 + (18 + (x - 21))) (omega arith) (omega arith) (w .desks (x - 21) (omega (arith, w .within)) ∙ sym (desk-at s h (x - 21) (omega arith)))
     go x m (no p) (no q) (no r) = join x (39 + (x - 39)) (3 + (18 + (18 + (x - 39)))) (omega arith) (omega arith) (w .weights (x - 39) (omega arith) ∙ sym (weight-at s h (x - 39) (omega arith)))
