@@ -1,3 +1,4 @@
+use Rattle.sorting.specs.Contracts.{lent-search, search-listed, planned}
 use borrow.Author.Needs.{needs}
 use Rattle.sorting.proofs.plan_sorting.Statement.{statement}
 use Rattle.sorting.proofs.plan_sorting.Tie as tie
@@ -7,33 +8,26 @@ use Rattle.sorting.proofs.instance.instance_of.Reads as instance-of-rea
 use Rattle.sorting.proofs.writing.plan_of.Reads as plan-of-reads
 use Rattle.sorting_search.proofs.best_interleaving.Reads as best-interleaving-reads
 
--- src/lib.rt:25:16
 instance-of-requires : tie.Need-instance-of-requires
 instance-of-requires c κs = search needs
 
--- src/lib.rt:26:50
 slice-aggregate-best-interleaving : tie.Need-slice-aggregate-best-interleaving
 slice-aggregate-best-interleaving c = search needs
 
--- src/lib.rt:26:9
 best-interleaving-requires : tie.Need-best-interleaving-requires
-best-interleaving-requires c κs = ?
+best-interleaving-requires c κs = search lent-search
 
--- src/lib.rt:27:22
 slice-aggregate-plan-of : tie.Need-slice-aggregate-plan-of
 slice-aggregate-plan-of c = search needs
 
--- src/lib.rt:27:5
 plan-of-requires : tie.Need-plan-of-requires
-plan-of-requires c κs = ?
+plan-of-requires c κs = search search-listed
 
--- src/lib.rt:21:1
 same-length : tie.Need-same-length
 same-length c = search needs
 
--- src/lib.rt:21:1
 returns : tie.Need-returns
-returns c = ?
+returns c = search planned
 
 pub plan-sorting-spec : {M : Type 1} → statement M
 plan-sorting-spec =
