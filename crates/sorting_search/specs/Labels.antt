@@ -101,6 +101,12 @@ labels-bound J M s B h g c = h s g c
 abbrev pub storeLabel : List ℕ → ℕ → State → List ℕ
 storeLabel M a s = set (set (set (set M a (s .cost)) (a + 1) (getD (s .free) 0 0)) (a + 2) (getD (s .free) 1 0)) (a + 3) (getD (s .free) 2 0)
 
+-- in one of the four places of the count vector k
+pub record Stored (M : List ℕ) (k : ℕ) (s : State) (N : List ℕ) : Type 0 where
+  pub slot : ℕ
+  pub few : slot < 4
+  pub is : N ≡ storeLabel M (labelPlace k slot) s
+
 module _ (M : List ℕ) (a : ℕ) (s : State) where
   pub store-other : (x : ℕ) → (x ≡ a → ⊥) → (x ≡ a + 1 → ⊥) → (x ≡ a + 2 → ⊥) → (x ≡ a + 3 → ⊥) → getD (storeLabel M a s) x 0 ≡ getD M x 0
   store-other x p q r t =

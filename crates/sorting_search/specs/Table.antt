@@ -17,7 +17,7 @@ use Rattle.interleaving.specs.Search.{StripLeft, stepOf, keep, overDesks, branc
 use Rattle.interleaving.specs.SearchLaws.{over-none, branch-again-yes, branch-again-no, step-left, search-leaf, search-desks, search-stays, bound-down}
 use Rattle.interleaving.specs.Caps.{CanServe}
 use Rattle.interleaving.specs.Consistent.{Consistent, consistent-step, consistent-start}
-use Rattle.sorting_search.specs.Labels.{countKey, labelPlace, labelsLength, LabelsHold, NoLabels, Dominated, storeLabel, store-other, labels-search, labels-done, labels-none, labels-bound}
+use Rattle.sorting_search.specs.Labels.{countKey, labelPlace, labelsLength, LabelsHold, NoLabels, Dominated, storeLabel, Stored, store-other, labels-search, labels-done, labels-none, labels-bound}
 use Rattle.sorting_search.specs.DeskBound.{boundCap, deskBound, desk-bound-holds}
 use Rattle.sorting_search.specs.ScannerBound.{EntriesFrom, Entry, entryAt, entries-same, scannerBound, scanner-bound-holds}
 use Rattle.sorting_search.specs.ScannerTable.{Bounding, Filled}
@@ -121,9 +121,9 @@ searchable-step {J} {M} {N} {s} {n} {b} {r} {B} {d} a c h e = record {
   table = h .table;
 }
 
-pub searched-all : {J M N O : List ℕ} {s : State} {b r : Incumbent} {B d k slot : ℕ} → Searchable J s B O → (s .left ≡ 0 → ⊥) → Branched J s b M d r → 3 ≤ d → (k ≡ countKey s) × (k < 343) → slot < 4 → N ≡ storeLabel M (labelPlace k slot) s → Searched J s b N r
-searched-all {J} {M} {N} {O} {s} {b} {r} {B} {d} a z h l e p n =
-    let w : r ≡ searchFrom J (s .left) s b = search-desks J s b r d (omega arith) (h .desks) l (h .found) in record { found = w; table = table-store b (a .jobs) (a .state) (h .table) e p n w }
+pub searched-all : {J M N O : List ℕ} {s : State} {b r : Incumbent} {B d k : ℕ} → Searchable J s B O → (s .left ≡ 0 → ⊥) → Branched J s b M d r → 3 ≤ d → (k ≡ countKey s) × (k < 343) → Stored M k s N → Searched J s b N r
+searched-all {J} {M} {N} {O} {s} {b} {r} {B} {d} a z h l e p =
+    let w : r ≡ searchFrom J (s .left) s b = search-desks J s b r d (omega arith) (h .desks) l (h .found) in record { found = w; table = table-store b (a .jobs) (a .state) (h .table) e (p .few) (p .is) w }
 
 -- best_interleaving
 pub record Lent (J M : List ℕ) : Type 0 where

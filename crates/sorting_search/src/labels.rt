@@ -5,7 +5,7 @@ ghost use Prim.Native.Nat.{_+_, _<_};
 ghost use lib.ListN.{length};
 ghost use Rattle.interleaving.specs.Instance.{Instance};
 ghost use Rattle.interleaving.specs.Consistent.{Consistent};
-ghost use Rattle.sorting_search.specs.Labels.{LabelDominates, Dominated, countKey, storeLabel, NoLabels, labelsLength};
+ghost use Rattle.sorting_search.specs.Labels.{LabelDominates, Dominated, countKey, storeLabel, Stored, NoLabels, labelsLength};
 ghost use Rattle.sheet.specs.Limits.{tableLength};
 use interleaving::State;
 
@@ -19,7 +19,7 @@ pub fn count_key(jobs: &[u64], s: State) -> usize
 }
 
 // Whether the label at a dominates s.
-pub fn label_dominates(s: State, m: &[u64], a: usize) -> bool
+fn label_dominates(s: State, m: &[u64], a: usize) -> bool
     requires { ⌜ a + 3 < length (now m) ⌝ }
     ensures { λ r. ⌜ (r ≡ true → LabelDominates (now (m .entry)) a s) ⌝ }
 {
@@ -55,7 +55,7 @@ pub fn dominated(s: State, k: usize, m: &[u64]) -> bool
 }
 
 // The label of the count vector k that has the largest cost: the next one stored takes its place.
-pub fn costliest_label(m: &[u64], k: usize) -> usize
+fn costliest_label(m: &[u64], k: usize) -> usize
     requires { ⌜ (k < 343) × (length (now m) ≡ tableLength) ⌝ }
     ensures { λ r. ⌜ r < 4 ⌝ }
 {
@@ -70,7 +70,7 @@ pub fn costliest_label(m: &[u64], k: usize) -> usize
     w
 }
 
-pub fn store_label(s: State, m: &mut [u64], a: usize)
+fn write_label(s: State, m: &mut [u64], a: usize)
     requires { ⌜ a + 3 < length (now m) ⌝ }
     ensures { λ _. ⌜ now (m .exit) ≡ storeLabel (now (m .entry)) a s ⌝ }
 {
@@ -79,6 +79,15 @@ pub fn store_label(s: State, m: &mut [u64], a: usize)
     m[a + 1] = f[0];
     m[a + 2] = f[1];
     m[a + 3] = f[2];
+}
+
+// Stores the label of s, whose count vector has the number k.
+pub fn store_label(s: State, k: usize, m: &mut [u64])
+    requires { ⌜ (k < 343) × (length (now m) ≡ tableLength) ⌝ }
+    ensures { λ _. ⌜ Stored (now (m .entry)) k s (now (m .exit)) ⌝ }
+{
+    let j = costliest_label(m, k);
+    write_label(s, m, (k * 4 + j) * 4);
 }
 
 // No label: a cost that no state reaches.

@@ -50,8 +50,7 @@ fn search(jobs: &[u64], s: State, b: Incumbent, m: &mut [u64]) -> Incumbent
         }
         d += 1;
     }
-    let j = labels::costliest_label(m, k);
-    labels::store_label(s, m, (k * 4 + j) * 4);
+    labels::store_label(s, k, m);
     r
 }
 

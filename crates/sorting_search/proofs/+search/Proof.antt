@@ -15,7 +15,6 @@ use Rattle.interleaving.proofs.keep_better.Reads as keep-better-reads
 use Rattle.interleaving.proofs.step.Reads as step-reads
 use Rattle.interleaving.proofs.strip_left.Reads as strip-left-reads
 use Rattle.sorting_search.proofs.cut.Reads as cut-reads
-use Rattle.sorting_search.proofs.labels.costliest_label.Reads as costliest-label-reads
 use Rattle.sorting_search.proofs.labels.count_key.Reads as count-key-reads
 use Rattle.sorting_search.proofs.labels.store_label.Reads as store-label-reads
 use Rattle.sorting_search.proofs.+search.{statement}
@@ -30,434 +29,83 @@ search-at t = and 2 search-kinds.ps (is 2 search-kinds.ps μ-search t) search′
 abbrev search-below : ℕ → In 2 search-kinds.ps
 search-below t = and 2 search-kinds.ps (falls 2 search-kinds.ps _<_ μ-search t) search′.Pre
 
+abbrev claims : ℕ → search-lts.Claims
+claims t = (
+  keep-better-reads.Asked,
+  keep-better-reads.Learnt,
+  count-key-reads.Asked,
+  count-key-reads.Learnt,
+  cut-reads.Asked,
+  cut-reads.Learnt,
+  strip-left-reads.Asked,
+  strip-left-reads.Learnt,
+  step-reads.Asked,
+  step-reads.Learnt,
+  search-below t,
+  search′.Post,
+  store-label-reads.Asked,
+  store-label-reads.Learnt,
+)
+
 abbrev search-Inv-loop : search-lts.InvT-loop
 search-Inv-loop jobs s m₀ k r₀ d₀ m r d = Branched jobs s r₀ m d r
 
 abbrev search-μ-loop : search-lts.MeasureT-loop
 search-μ-loop jobs s m₀ k r₀ d₀ m r d = 3 - d
 
-search-keep-better-requires : (t : ℕ) → search-lts.Need-keep-better-requires (
-  keep-better-reads.Asked,
-  keep-better-reads.Learnt,
-  count-key-reads.Asked,
-  count-key-reads.Learnt,
-  cut-reads.Asked,
-  cut-reads.Learnt,
-  strip-left-reads.Asked,
-  strip-left-reads.Learnt,
-  step-reads.Asked,
-  step-reads.Learnt,
-  search-below t,
-  search′.Post,
-  costliest-label-reads.Asked,
-  costliest-label-reads.Learnt,
-  store-label-reads.Asked,
-  store-label-reads.Learnt,
-) (search-at t) search′.Post search-Inv-loop search-μ-loop
+search-keep-better-requires : (t : ℕ) → search-lts.Need-keep-better-requires (claims t) (search-at t) search′.Post search-Inv-loop search-μ-loop
 search-keep-better-requires t c κs = search needs
 
-search-returns : (t : ℕ) → search-lts.Need-returns (
-  keep-better-reads.Asked,
-  keep-better-reads.Learnt,
-  count-key-reads.Asked,
-  count-key-reads.Learnt,
-  cut-reads.Asked,
-  cut-reads.Learnt,
-  strip-left-reads.Asked,
-  strip-left-reads.Learnt,
-  step-reads.Asked,
-  step-reads.Learnt,
-  search-below t,
-  search′.Post,
-  costliest-label-reads.Asked,
-  costliest-label-reads.Learnt,
-  store-label-reads.Asked,
-  store-label-reads.Learnt,
-) (search-at t) search′.Post search-Inv-loop search-μ-loop
+search-returns : (t : ℕ) → search-lts.Need-returns (claims t) (search-at t) search′.Post search-Inv-loop search-μ-loop
 search-returns t c = search searched-leaf
 
-search-count-key-requires : (t : ℕ) → search-lts.Need-count-key-requires (
-  keep-better-reads.Asked,
-  keep-better-reads.Learnt,
-  count-key-reads.Asked,
-  count-key-reads.Learnt,
-  cut-reads.Asked,
-  cut-reads.Learnt,
-  strip-left-reads.Asked,
-  strip-left-reads.Learnt,
-  step-reads.Asked,
-  step-reads.Learnt,
-  search-below t,
-  search′.Post,
-  costliest-label-reads.Asked,
-  costliest-label-reads.Learnt,
-  store-label-reads.Asked,
-  store-label-reads.Learnt,
-) (search-at t) search′.Post search-Inv-loop search-μ-loop
+search-count-key-requires : (t : ℕ) → search-lts.Need-count-key-requires (claims t) (search-at t) search′.Post search-Inv-loop search-μ-loop
 search-count-key-requires t c κs = search needs
 
-search-cut-requires : (t : ℕ) → search-lts.Need-cut-requires (
-  keep-better-reads.Asked,
-  keep-better-reads.Learnt,
-  count-key-reads.Asked,
-  count-key-reads.Learnt,
-  cut-reads.Asked,
-  cut-reads.Learnt,
-  strip-left-reads.Asked,
-  strip-left-reads.Learnt,
-  step-reads.Asked,
-  step-reads.Learnt,
-  search-below t,
-  search′.Post,
-  costliest-label-reads.Asked,
-  costliest-label-reads.Learnt,
-  store-label-reads.Asked,
-  store-label-reads.Learnt,
-) (search-at t) search′.Post search-Inv-loop search-μ-loop
+search-cut-requires : (t : ℕ) → search-lts.Need-cut-requires (claims t) (search-at t) search′.Post search-Inv-loop search-μ-loop
 search-cut-requires t c κs = search cuttable
 
-search-same-length : (t : ℕ) → search-lts.Need-same-length (
-  keep-better-reads.Asked,
-  keep-better-reads.Learnt,
-  count-key-reads.Asked,
-  count-key-reads.Learnt,
-  cut-reads.Asked,
-  cut-reads.Learnt,
-  strip-left-reads.Asked,
-  strip-left-reads.Learnt,
-  step-reads.Asked,
-  step-reads.Learnt,
-  search-below t,
-  search′.Post,
-  costliest-label-reads.Asked,
-  costliest-label-reads.Learnt,
-  store-label-reads.Asked,
-  store-label-reads.Learnt,
-) (search-at t) search′.Post search-Inv-loop search-μ-loop
+search-same-length : (t : ℕ) → search-lts.Need-same-length (claims t) (search-at t) search′.Post search-Inv-loop search-μ-loop
 search-same-length t c = search needs
 
-search-returns-2 : (t : ℕ) → search-lts.Need-returns-2 (
-  keep-better-reads.Asked,
-  keep-better-reads.Learnt,
-  count-key-reads.Asked,
-  count-key-reads.Learnt,
-  cut-reads.Asked,
-  cut-reads.Learnt,
-  strip-left-reads.Asked,
-  strip-left-reads.Learnt,
-  step-reads.Asked,
-  step-reads.Learnt,
-  search-below t,
-  search′.Post,
-  costliest-label-reads.Asked,
-  costliest-label-reads.Learnt,
-  store-label-reads.Asked,
-  store-label-reads.Learnt,
-) (search-at t) search′.Post search-Inv-loop search-μ-loop
+search-returns-2 : (t : ℕ) → search-lts.Need-returns-2 (claims t) (search-at t) search′.Post search-Inv-loop search-μ-loop
 search-returns-2 t c = search searched-cut
 
-search-loop-holds : (t : ℕ) → search-lts.Need-loop-holds (
-  keep-better-reads.Asked,
-  keep-better-reads.Learnt,
-  count-key-reads.Asked,
-  count-key-reads.Learnt,
-  cut-reads.Asked,
-  cut-reads.Learnt,
-  strip-left-reads.Asked,
-  strip-left-reads.Learnt,
-  step-reads.Asked,
-  step-reads.Learnt,
-  search-below t,
-  search′.Post,
-  costliest-label-reads.Asked,
-  costliest-label-reads.Learnt,
-  store-label-reads.Asked,
-  store-label-reads.Learnt,
-) (search-at t) search′.Post search-Inv-loop search-μ-loop
+search-loop-holds : (t : ℕ) → search-lts.Need-loop-holds (claims t) (search-at t) search′.Post search-Inv-loop search-μ-loop
 search-loop-holds t c = search branched-none
 
-search-strip-left-requires : (t : ℕ) → search-lts.Need-strip-left-requires (
-  keep-better-reads.Asked,
-  keep-better-reads.Learnt,
-  count-key-reads.Asked,
-  count-key-reads.Learnt,
-  cut-reads.Asked,
-  cut-reads.Learnt,
-  strip-left-reads.Asked,
-  strip-left-reads.Learnt,
-  step-reads.Asked,
-  step-reads.Learnt,
-  search-below t,
-  search′.Post,
-  costliest-label-reads.Asked,
-  costliest-label-reads.Learnt,
-  store-label-reads.Asked,
-  store-label-reads.Learnt,
-) (search-at t) search′.Post search-Inv-loop search-μ-loop
+search-strip-left-requires : (t : ℕ) → search-lts.Need-strip-left-requires (claims t) (search-at t) search′.Post search-Inv-loop search-μ-loop
 search-strip-left-requires t c κs = search needs
 
-search-step-requires : (t : ℕ) → search-lts.Need-step-requires (
-  keep-better-reads.Asked,
-  keep-better-reads.Learnt,
-  count-key-reads.Asked,
-  count-key-reads.Learnt,
-  cut-reads.Asked,
-  cut-reads.Learnt,
-  strip-left-reads.Asked,
-  strip-left-reads.Learnt,
-  step-reads.Asked,
-  step-reads.Learnt,
-  search-below t,
-  search′.Post,
-  costliest-label-reads.Asked,
-  costliest-label-reads.Learnt,
-  store-label-reads.Asked,
-  store-label-reads.Learnt,
-) (search-at t) search′.Post search-Inv-loop search-μ-loop
+search-step-requires : (t : ℕ) → search-lts.Need-step-requires (claims t) (search-at t) search′.Post search-Inv-loop search-μ-loop
 search-step-requires t c κs = search can-serve
 
-search-search-requires : (t : ℕ) → search-lts.Need-search-requires (
-  keep-better-reads.Asked,
-  keep-better-reads.Learnt,
-  count-key-reads.Asked,
-  count-key-reads.Learnt,
-  cut-reads.Asked,
-  cut-reads.Learnt,
-  strip-left-reads.Asked,
-  strip-left-reads.Learnt,
-  step-reads.Asked,
-  step-reads.Learnt,
-  search-below t,
-  search′.Post,
-  costliest-label-reads.Asked,
-  costliest-label-reads.Learnt,
-  store-label-reads.Asked,
-  store-label-reads.Learnt,
-) (search-at t) search′.Post search-Inv-loop search-μ-loop
+search-search-requires : (t : ℕ) → search-lts.Need-search-requires (claims t) (search-at t) search′.Post search-Inv-loop search-μ-loop
 search-search-requires t c κs = (search (step-less, can-serve), search (searchable-step, can-serve))
 
-search-add-d : (t : ℕ) → search-lts.Need-add-d (
-  keep-better-reads.Asked,
-  keep-better-reads.Learnt,
-  count-key-reads.Asked,
-  count-key-reads.Learnt,
-  cut-reads.Asked,
-  cut-reads.Learnt,
-  strip-left-reads.Asked,
-  strip-left-reads.Learnt,
-  step-reads.Asked,
-  step-reads.Learnt,
-  search-below t,
-  search′.Post,
-  costliest-label-reads.Asked,
-  costliest-label-reads.Learnt,
-  store-label-reads.Asked,
-  store-label-reads.Learnt,
-) (search-at t) search′.Post search-Inv-loop search-μ-loop
+search-add-d : (t : ℕ) → search-lts.Need-add-d (claims t) (search-at t) search′.Post search-Inv-loop search-μ-loop
 search-add-d t c = omega arith
 
-search-loop-less : (t : ℕ) → search-lts.Need-loop-less (
-  keep-better-reads.Asked,
-  keep-better-reads.Learnt,
-  count-key-reads.Asked,
-  count-key-reads.Learnt,
-  cut-reads.Asked,
-  cut-reads.Learnt,
-  strip-left-reads.Asked,
-  strip-left-reads.Learnt,
-  step-reads.Asked,
-  step-reads.Learnt,
-  search-below t,
-  search′.Post,
-  costliest-label-reads.Asked,
-  costliest-label-reads.Learnt,
-  store-label-reads.Asked,
-  store-label-reads.Learnt,
-) (search-at t) search′.Post search-Inv-loop search-μ-loop
+search-loop-less : (t : ℕ) → search-lts.Need-loop-less (claims t) (search-at t) search′.Post search-Inv-loop search-μ-loop
 search-loop-less t c = omega arith
 
-search-loop-again : (t : ℕ) → search-lts.Need-loop-again (
-  keep-better-reads.Asked,
-  keep-better-reads.Learnt,
-  count-key-reads.Asked,
-  count-key-reads.Learnt,
-  cut-reads.Asked,
-  cut-reads.Learnt,
-  strip-left-reads.Asked,
-  strip-left-reads.Learnt,
-  step-reads.Asked,
-  step-reads.Learnt,
-  search-below t,
-  search′.Post,
-  costliest-label-reads.Asked,
-  costliest-label-reads.Learnt,
-  store-label-reads.Asked,
-  store-label-reads.Learnt,
-) (search-at t) search′.Post search-Inv-loop search-μ-loop
+search-loop-again : (t : ℕ) → search-lts.Need-loop-again (claims t) (search-at t) search′.Post search-Inv-loop search-μ-loop
 search-loop-again t c = ⊎-elim
     (λ w. branched-same (w .6) (w .7) (branched-yes (c .before .before .before .loop .inv) (omega arith) (ltb-true _ _ (sym (c .before .strip-left .ensures) ∙ w .0 .taken)) (w .1 .ensures) (w .3 .ensures)))
     (λ w. branched-same (w .1) (w .2) (branched-no (c .before .before .before .loop .inv) (omega arith) (ltb-false _ _ (sym (c .before .strip-left .ensures) ∙ w .0 .left))))
     (c .if3 .came)
 
-search-costliest-label-requires : (t : ℕ) → search-lts.Need-costliest-label-requires (
-  keep-better-reads.Asked,
-  keep-better-reads.Learnt,
-  count-key-reads.Asked,
-  count-key-reads.Learnt,
-  cut-reads.Asked,
-  cut-reads.Learnt,
-  strip-left-reads.Asked,
-  strip-left-reads.Learnt,
-  step-reads.Asked,
-  step-reads.Learnt,
-  search-below t,
-  search′.Post,
-  costliest-label-reads.Asked,
-  costliest-label-reads.Learnt,
-  store-label-reads.Asked,
-  store-label-reads.Learnt,
-) (search-at t) search′.Post search-Inv-loop search-μ-loop
-search-costliest-label-requires t c κs = search needs
+search-store-label-requires : (t : ℕ) → search-lts.Need-store-label-requires (claims t) (search-at t) search′.Post search-Inv-loop search-μ-loop
+search-store-label-requires t c κs = search needs
 
-search-mul-store-label : (t : ℕ) → search-lts.Need-mul-store-label (
-  keep-better-reads.Asked,
-  keep-better-reads.Learnt,
-  count-key-reads.Asked,
-  count-key-reads.Learnt,
-  cut-reads.Asked,
-  cut-reads.Learnt,
-  strip-left-reads.Asked,
-  strip-left-reads.Learnt,
-  step-reads.Asked,
-  step-reads.Learnt,
-  search-below t,
-  search′.Post,
-  costliest-label-reads.Asked,
-  costliest-label-reads.Learnt,
-  store-label-reads.Asked,
-  store-label-reads.Learnt,
-) (search-at t) search′.Post search-Inv-loop search-μ-loop
-search-mul-store-label t c = omega arith
-
-search-add-store-label : (t : ℕ) → search-lts.Need-add-store-label (
-  keep-better-reads.Asked,
-  keep-better-reads.Learnt,
-  count-key-reads.Asked,
-  count-key-reads.Learnt,
-  cut-reads.Asked,
-  cut-reads.Learnt,
-  strip-left-reads.Asked,
-  strip-left-reads.Learnt,
-  step-reads.Asked,
-  step-reads.Learnt,
-  search-below t,
-  search′.Post,
-  costliest-label-reads.Asked,
-  costliest-label-reads.Learnt,
-  store-label-reads.Asked,
-  store-label-reads.Learnt,
-) (search-at t) search′.Post search-Inv-loop search-μ-loop
-search-add-store-label t c = omega arith
-
-search-mul-store-label-2 : (t : ℕ) → search-lts.Need-mul-store-label-2 (
-  keep-better-reads.Asked,
-  keep-better-reads.Learnt,
-  count-key-reads.Asked,
-  count-key-reads.Learnt,
-  cut-reads.Asked,
-  cut-reads.Learnt,
-  strip-left-reads.Asked,
-  strip-left-reads.Learnt,
-  step-reads.Asked,
-  step-reads.Learnt,
-  search-below t,
-  search′.Post,
-  costliest-label-reads.Asked,
-  costliest-label-reads.Learnt,
-  store-label-reads.Asked,
-  store-label-reads.Learnt,
-) (search-at t) search′.Post search-Inv-loop search-μ-loop
-search-mul-store-label-2 t c = omega arith
-
-search-store-label-requires : (t : ℕ) → search-lts.Need-store-label-requires (
-  keep-better-reads.Asked,
-  keep-better-reads.Learnt,
-  count-key-reads.Asked,
-  count-key-reads.Learnt,
-  cut-reads.Asked,
-  cut-reads.Learnt,
-  strip-left-reads.Asked,
-  strip-left-reads.Learnt,
-  step-reads.Asked,
-  step-reads.Learnt,
-  search-below t,
-  search′.Post,
-  costliest-label-reads.Asked,
-  costliest-label-reads.Learnt,
-  store-label-reads.Asked,
-  store-label-reads.Learnt,
-) (search-at t) search′.Post search-Inv-loop search-μ-loop
-search-store-label-requires t c κs = omega arith
-
-search-same-length-2 : (t : ℕ) → search-lts.Need-same-length-2 (
-  keep-better-reads.Asked,
-  keep-better-reads.Learnt,
-  count-key-reads.Asked,
-  count-key-reads.Learnt,
-  cut-reads.Asked,
-  cut-reads.Learnt,
-  strip-left-reads.Asked,
-  strip-left-reads.Learnt,
-  step-reads.Asked,
-  step-reads.Learnt,
-  search-below t,
-  search′.Post,
-  costliest-label-reads.Asked,
-  costliest-label-reads.Learnt,
-  store-label-reads.Asked,
-  store-label-reads.Learnt,
-) (search-at t) search′.Post search-Inv-loop search-μ-loop
+search-same-length-2 : (t : ℕ) → search-lts.Need-same-length-2 (claims t) (search-at t) search′.Post search-Inv-loop search-μ-loop
 search-same-length-2 t c = search needs
 
-search-returns-3 : (t : ℕ) → search-lts.Need-returns-3 (
-  keep-better-reads.Asked,
-  keep-better-reads.Learnt,
-  count-key-reads.Asked,
-  count-key-reads.Learnt,
-  cut-reads.Asked,
-  cut-reads.Learnt,
-  strip-left-reads.Asked,
-  strip-left-reads.Learnt,
-  step-reads.Asked,
-  step-reads.Learnt,
-  search-below t,
-  search′.Post,
-  costliest-label-reads.Asked,
-  costliest-label-reads.Learnt,
-  store-label-reads.Asked,
-  store-label-reads.Learnt,
-) (search-at t) search′.Post search-Inv-loop search-μ-loop
+search-returns-3 : (t : ℕ) → search-lts.Need-returns-3 (claims t) (search-at t) search′.Post search-Inv-loop search-μ-loop
 search-returns-3 t c = search searched-all
 
 pub +search-spec : {M : Type 1} → statement M
-+search-spec = close μ-search λ t. search-lts.spec (
-  keep-better-reads.Asked,
-  keep-better-reads.Learnt,
-  count-key-reads.Asked,
-  count-key-reads.Learnt,
-  cut-reads.Asked,
-  cut-reads.Learnt,
-  strip-left-reads.Asked,
-  strip-left-reads.Learnt,
-  step-reads.Asked,
-  step-reads.Learnt,
-  search-below t,
-  search′.Post,
-  costliest-label-reads.Asked,
-  costliest-label-reads.Learnt,
-  store-label-reads.Asked,
-  store-label-reads.Learnt,
-)
++search-spec = close μ-search λ t. search-lts.spec (claims t)
     (search-at t)
     search′.Post
     search-Inv-loop
@@ -475,10 +123,6 @@ pub +search-spec : {M : Type 1} → statement M
     (search-add-d t)
     (search-loop-less t)
     (search-loop-again t)
-    (search-costliest-label-requires t)
-    (search-mul-store-label t)
-    (search-add-store-label t)
-    (search-mul-store-label-2 t)
     (search-store-label-requires t)
     (search-same-length-2 t)
     (search-returns-3 t)

@@ -1,8 +1,8 @@
 use lib.ListN.{length-set}
 use native.Mathlib.Omega.{arith}
 use borrow.Author.Needs.{needs}
-use Rattle.sorting_search.proofs.labels.store_label.Statement.{statement}
-use Rattle.sorting_search.proofs.labels.store_label.Tie as tie
+use Rattle.sorting_search.proofs.labels.write_label.Statement.{statement}
+use Rattle.sorting_search.proofs.labels.write_label.Tie as tie
 
 mul-m : tie.Need-mul-m
 mul-m c = search needs
@@ -52,8 +52,8 @@ same-length c = search needs
 returns : tie.Need-returns
 returns c = search needs
 
-pub store-label-spec : {M : Type 1} → statement M
-store-label-spec =
+pub write-label-spec : {M : Type 1} → statement M
+write-label-spec =
     tie.close
     (tie.spec
     mul-m
