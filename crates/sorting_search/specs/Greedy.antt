@@ -18,9 +18,10 @@ use Rattle.interleaving.specs.SearchLaws.{step-left}
 use Rattle.interleaving.specs.Caps.{CanServe}
 use Rattle.interleaving.specs.Consistent.{Consistent, consistent-step, consistent-start}
 use Rattle.interleaving.specs.Completion.{any-incumbent}
-use Rattle.sorting_search.specs.Labels.{countKey, labelsLength, NoLabels}
-use Rattle.sorting_search.specs.ScannerBound.{EntriesFrom}
-use Rattle.sorting_search.specs.ScannerTable.{Bounding, Filled}
+use Rattle.sorting_search.specs.Labels.{Cleared}
+use Rattle.sorting_bounds.specs.Layout.{countKey}
+use Rattle.sorting_bounds.specs.ScannerBound.{filledFrom, EntriesFrom}
+use Rattle.sorting_bounds.specs.ScannerTable.{Bounding}
 use Rattle.sorting_search.specs.Table.{TableHolds, Searchable, Searched, table-start}
 
 -- what a lower bound of s asks of the table
@@ -120,11 +121,14 @@ leads-end {J} {s} {t} h l = record {
     none = omega arith
 
 -- best_interleaving
-pub bounded-start : {J M N : List ℕ} {s : State} → Instance J → Filled J M N 0 → s ≡ startState J → Bounded J s N
-bounded-start {J} j f e = record { jobs = j; state = subst (Consistent J) (sym e) (consistent-start J j); size = f .size; entries = f .entries }
+pub bounded-start : {J M N : List ℕ} {s : State} → Instance J → Cleared M → N ≡ filledFrom J M 343 → s ≡ startState J → Bounded J s N
+bounded-start {J} {M} {N} {s} j c f e = made (table-start {B = 0} j c f)
+  where
+    made : TableHolds J N 0 → Bounded J s N
+    made t = record { jobs = j; state = subst (Consistent J) (sym e) (consistent-start J j); size = t .size; entries = t .entries }
 
-pub searchable-start : {J M N : List ℕ} {s : State} {B : ℕ} → Instance J → NoLabels M labelsLength → Filled J M N 0 → s ≡ startState J → Searchable J s B N
-searchable-start {J} j e f q = record { jobs = j; state = subst (Consistent J) (sym q) (consistent-start J j); table = table-start j e f }
+pub searchable-start : {J M N : List ℕ} {s : State} {B : ℕ} → Instance J → Cleared M → N ≡ filledFrom J M 343 → s ≡ startState J → Searchable J s B N
+searchable-start {J} j c f e = record { jobs = j; state = subst (Consistent J) (sym e) (consistent-start J j); table = table-start j c f }
 
 pub searched-start : {J N : List ℕ} {s : State} {g : ℕ} {r : Incumbent} → s ≡ startState J → GreedyFigure J s g → Searched J s (record { figure = g + 1; path = 0 }) N r → r ≡ firstBest J
 unfolding firstBest

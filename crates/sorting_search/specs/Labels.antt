@@ -9,16 +9,14 @@ use native.Mathlib.Decide.{ℕ-discrete}
 use native.Mathlib.Omega.{arith}
 use lib.ListN.{length, getD, set, length-set, List·getD-eq-default}
 use lib.Seq.{getD-set-same, getD-set-other, ext-getD}
+use Rattle.sheet.specs.Limits.{tableLength}
 use Rattle.interleaving.specs.declared.State.{State}
 use Rattle.interleaving.specs.declared.Incumbent.{Incumbent}
 use Rattle.interleaving.specs.Instance.{Instance, scanOf, deskOf, weightOf, stripCost, costCap}
 use Rattle.interleaving.specs.Search.{maxOf, StripLeft, scanned, finish, stepOf, searchFrom, LowerBound}
 use Rattle.interleaving.specs.SearchLaws.{max-left, max-right, max-least, bound-down, search-bound, search-stays, search-falls}
 use Rattle.interleaving.specs.Consistent.{Consistent, sum3, scanSum}
-
--- the numbers that the labels take, four to a label, at the front of the working table
-abbrev pub labelsLength : ℕ
-labelsLength = 5_488
+use Rattle.sorting_bounds.specs.Layout.{countKey, labelsLength}
 
 -- a number that no label has
 abbrev pub noLabel : ℕ
@@ -65,10 +63,6 @@ module _ (J : List ℕ) where
   unfolding LowerBound
   bound-dominates zero s z B m h = omega (arith, m .cost)
   bound-dominates (suc k) s z B m h = λ d p l. bound-dominates k (stepOf J s d) (stepOf J z d) B (dominates-step s z d p m) (h d p (rw (m .taken) l))
--- the number of the counts
-abbrev pub countKey : State → ℕ
-countKey s = (getD (s .taken) 0 0 * 7 + getD (s .taken) 1 0) * 7 + getD (s .taken) 2 0
-
 -- the label at a dominates s
 pub record LabelDominates (M : List ℕ) (a : ℕ) (s : State) : Type 0 where
   pub cost : getD M a 0 ≤ s .cost
@@ -215,12 +209,6 @@ module _ (J : List ℕ) (j : Instance J) where
             three = omega (arith, c .under .three, same 3 (omega arith));
           }
 
-  pub key-digits : (s : State) → Consistent J s → (getD (s .taken) 0 0 ≤ 6) × (getD (s .taken) 1 0 ≤ 6) × (getD (s .taken) 2 0 ≤ 6)
-  key-digits s g = (few 0 (omega arith), few 1 (omega arith), few 2 (omega arith))
-    where
-      few : (d : ℕ) → d < 3 → getD (s .taken) d 0 ≤ 6
-      few d p = le-trans (g .within d p) (j .few d p)
-
 pub never : {A : Type 0} → false ≡ true → A
 never e = let z : _≡_ {A = ℕ} 0 1 = cc in absurd (omega arith)
 pub labels-search : (J M : List ℕ) (k : ℕ) (s : State) (b r : Incumbent) → LabelsHold J M (b .figure) → r ≡ searchFrom J k s b → LabelsHold J M (r .figure)
@@ -254,3 +242,14 @@ labels-none J j M B e = λ s g c. absurd (go s g c)
   where
     go : (s : State) → Consistent J s → Dominated M s → ⊥
     go s g c = omega (arith, c .under .cost, e (labelPlace (countKey s) (c .slot)) (omega (arith, key-small J j s g, c .few)), g .fits .cost)
+
+-- clear_labels
+pub record Cleared (M : List ℕ) : Type 0 where
+  pub none : NoLabels M labelsLength
+  pub size : length M ≡ tableLength
+
+pub cleared : {M : List ℕ} {i : ℕ} → (i ≤ labelsLength) × (length M ≡ tableLength) × NoLabels M i → labelsLength ≤ i → Cleared M
+cleared {M} {i} h l = record { none = subst (NoLabels M) (all h l) (h .2); size = h .1 }
+  where
+    all : (i ≤ labelsLength) × (length M ≡ tableLength) × NoLabels M i → labelsLength ≤ i → i ≡ labelsLength
+    all h l = omega (arith, h .0)

@@ -1,7 +1,4 @@
--- The search with its cuts: two lower bounds, the dominance memory, the greedy start.
+-- The search with its cuts: the dominance memory, the working table, the greedy start.
 pub mod Labels
-pub mod DeskBound
-pub mod ScannerBound
-pub mod ScannerTable
 pub mod Table
 pub mod Greedy

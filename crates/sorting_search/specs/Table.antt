@@ -17,10 +17,11 @@ use Rattle.interleaving.specs.Search.{StripLeft, stepOf, keep, overDesks, branc
 use Rattle.interleaving.specs.SearchLaws.{over-none, branch-again-yes, branch-again-no, step-left, search-leaf, search-desks, search-stays, bound-down}
 use Rattle.interleaving.specs.Caps.{CanServe}
 use Rattle.interleaving.specs.Consistent.{Consistent, consistent-step, consistent-start}
-use Rattle.sorting_search.specs.Labels.{countKey, labelPlace, labelsLength, LabelsHold, NoLabels, Dominated, storeLabel, Stored, store-other, labels-search, labels-done, labels-none, labels-bound}
-use Rattle.sorting_search.specs.DeskBound.{boundCap, deskBound, desk-bound-holds}
-use Rattle.sorting_search.specs.ScannerBound.{EntriesFrom, Entry, entryAt, entries-same, scannerBound, scanner-bound-holds}
-use Rattle.sorting_search.specs.ScannerTable.{Bounding, Filled}
+use Rattle.sorting_search.specs.Labels.{labelPlace, LabelsHold, NoLabels, Cleared, Dominated, storeLabel, Stored, store-other, labels-search, labels-done, labels-none, labels-bound}
+use Rattle.sorting_bounds.specs.Layout.{countKey, labelsLength}
+use Rattle.sorting_bounds.specs.DeskBound.{boundCap, deskBound, desk-bound-holds}
+use Rattle.sorting_bounds.specs.ScannerBound.{filledFrom, EntriesFrom, Entry, entryAt, entries-same, scannerBound, scanner-bound-holds}
+use Rattle.sorting_bounds.specs.ScannerTable.{Bounding, Filled, filled}
 
 -- what the table holds while the incumbent's figure is B
 pub record TableHolds (J M : List ℕ) (B : ℕ) : Type 0 where
@@ -130,6 +131,10 @@ pub record Lent (J M : List ℕ) : Type 0 where
   pub jobs : Instance J
   pub size : length M ≡ tableLength
 
-pub table-start : {J M N : List ℕ} {B : ℕ} → Instance J → NoLabels M labelsLength → Filled J M N 0 → TableHolds J N B
+-- the table once its labels are cleared and its entries are filled
+pub table-start : {J M N : List ℕ} {B : ℕ} → Instance J → Cleared M → N ≡ filledFrom J M 343 → TableHolds J N B
 unfolding NoLabels
-table-start {J} {M} {N} {B} j e f = record { size = f .size; labels = labels-none J j N B (λ i p. f .labels i p ∙ e i p); entries = f .entries }
+table-start {J} {M} {N} {B} j c e = subst (λ (x : List ℕ). TableHolds J x B) (sym e) (made (filled J M (c .size) 343 (omega arith)))
+  where
+    made : Filled J M (filledFrom J M 343) 0 → TableHolds J (filledFrom J M 343) B
+    made f = record { size = f .size; labels = labels-none J j (filledFrom J M 343) B (λ i p. f .labels i p ∙ c .none i p); entries = f .entries }

@@ -22,8 +22,8 @@ fn lower_bound(jobs: &[u64], s: State, m: &[u64]) -> u64
     requires { ⌜ Bounded (now jobs) s (now m) ⌝ }
 {
     let k = super::labels::count_key(jobs, s);
-    let by_scanner = super::scanner_bound::scanner_bound(jobs, s, k, m);
-    let by_desks = super::desk_bound::desk_bound(jobs, s);
+    let by_scanner = sorting_bounds::scanner_bound::scanner_bound(jobs, s, k, m);
+    let by_desks = sorting_bounds::desk_bound::desk_bound(jobs, s);
     interleaving::later(by_scanner, by_desks)
 }
 

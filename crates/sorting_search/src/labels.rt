@@ -5,7 +5,8 @@ ghost use Prim.Native.Nat.{_+_, _<_};
 ghost use lib.ListN.{length};
 ghost use Rattle.interleaving.specs.Instance.{Instance};
 ghost use Rattle.interleaving.specs.Consistent.{Consistent};
-ghost use Rattle.sorting_search.specs.Labels.{LabelDominates, Dominated, countKey, storeLabel, Stored, NoLabels, labelsLength};
+ghost use Rattle.sorting_search.specs.Labels.{LabelDominates, Dominated, storeLabel, Stored, Cleared};
+ghost use Rattle.sorting_bounds.specs.Layout.{countKey};
 ghost use Rattle.sheet.specs.Limits.{tableLength};
 use interleaving::State;
 
@@ -93,7 +94,7 @@ pub fn store_label(s: State, k: usize, m: &mut [u64])
 // No label: a cost that no state reaches.
 pub fn clear_labels(m: &mut [u64])
     requires { ⌜ length (now m) ≡ tableLength ⌝ }
-    ensures { λ _. ⌜ NoLabels (now (m .exit)) labelsLength ⌝ }
+    ensures { λ _. ⌜ Cleared (now (m .exit)) ⌝ }
 {
     let mut i: usize = 0;
     while i < 5488 {

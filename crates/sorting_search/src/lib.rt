@@ -5,24 +5,22 @@ ghost use Rattle.interleaving.specs.Search.{LowerBound, firstBest};
 ghost use Rattle.sorting_search.specs.Table.{Searchable, Searched, Cuttable, Lent};
 use interleaving::{Incumbent, State};
 
-mod desk_bound;
 mod greedy;
 mod labels;
-mod scanner_bound;
 
 // Whether no completion of s, whose count vector has the number k, is below the figure: by the scanner's bound, a label or the desks' bound.
 fn cut(jobs: &[u64], s: State, k: usize, figure: u64, m: &[u64]) -> bool
     requires { ⌜ Cuttable (now jobs) s k figure (now m) ⌝ }
     ensures { λ r. ⌜ (r ≡ true → LowerBound (now (jobs .entry)) (s .left) s figure) ⌝ }
 {
-    let by_scanner = scanner_bound::scanner_bound(jobs, s, k, m);
+    let by_scanner = sorting_bounds::scanner_bound::scanner_bound(jobs, s, k, m);
     if figure <= by_scanner {
         return true;
     }
     if labels::dominated(s, k, m) {
         return true;
     }
-    let by_desks = desk_bound::desk_bound(jobs, s);
+    let by_desks = sorting_bounds::desk_bound::desk_bound(jobs, s);
     if figure <= by_desks {
         return true;
     }
@@ -60,7 +58,7 @@ pub fn best_interleaving(jobs: &[u64], m: &mut [u64]) -> Incumbent
     ensures { λ r. ⌜ r ≡ firstBest (now (jobs .entry)) ⌝ }
 {
     labels::clear_labels(m);
-    scanner_bound::fill_scanner_table(jobs, m);
+    sorting_bounds::scanner_bound::fill_scanner_table(jobs, m);
     let s = interleaving::start_state(jobs);
     let g = greedy::greedy(jobs, s, m);
     let b = Incumbent {

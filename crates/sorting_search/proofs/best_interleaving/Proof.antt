@@ -7,7 +7,7 @@ use Rattle.sorting_search.proofs.best_interleaving.Lts as lts
 use Rattle.interleaving.proofs.start_state.Reads as start-state-reads
 use Rattle.sorting_search.proofs.greedy.greedy.Reads as greedy-reads
 use Rattle.sorting_search.proofs.labels.clear_labels.Reads as clear-labels-reads
-use Rattle.sorting_search.proofs.scanner_bound.fill_scanner_table.Reads as fill-scanner-table-reads
+use Rattle.sorting_bounds.proofs.scanner_bound.fill_scanner_table.Reads as fill-scanner-table-reads
 use Rattle.sorting_search.proofs.search.Reads as search-reads
 
 clear-labels-requires : tie.Need-clear-labels-requires
@@ -20,7 +20,7 @@ start-state-requires : tie.Need-start-state-requires
 start-state-requires c κs = search needs
 
 greedy-requires : tie.Need-greedy-requires
-greedy-requires c κs = bounded-start (c .before .before .before .before .before .before .before .before .before .before .before .before .pre .jobs) (c .before .before .before .before .fill-scanner-table .ensures) (c .before .start-state .ensures)
+greedy-requires c κs = bounded-start (c .before .before .before .before .before .before .before .before .before .before .before .before .pre .jobs) (c .before .before .before .before .before .before .before .before .clear-labels .ensures) (c .before .before .before .before .fill-scanner-table .ensures) (c .before .start-state .ensures)
 
 add-t13 : tie.Need-add-t13
 add-t13 c = search needs

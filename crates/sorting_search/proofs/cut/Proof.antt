@@ -5,9 +5,9 @@ use Rattle.sorting_search.proofs.cut.Statement.{statement}
 use Rattle.sorting_search.proofs.cut.Tie as tie
 use Rattle.sorting_search.proofs.cut.Reads as reads
 use Rattle.sorting_search.proofs.cut.Lts as lts
-use Rattle.sorting_search.proofs.desk_bound.desk_bound.Reads as desk-bound-reads
+use Rattle.sorting_bounds.proofs.desk_bound.desk_bound.Reads as desk-bound-reads
 use Rattle.sorting_search.proofs.labels.dominated.Reads as dominated-reads
-use Rattle.sorting_search.proofs.scanner_bound.scanner_bound.Reads as scanner-bound-reads
+use Rattle.sorting_bounds.proofs.scanner_bound.scanner_bound.Reads as scanner-bound-reads
 
 scanner-bound-requires : tie.Need-scanner-bound-requires
 scanner-bound-requires c κs = search needs

@@ -1,4 +1,6 @@
-use Rattle.sorting_search.specs.Labels.{NoLabels, no-labels-more, no-labels-none}
+use Rattle.sorting_search.specs.Labels.{NoLabels, no-labels-more, no-labels-none, cleared}
+use Rattle.sheet.specs.Limits.{tableLength}
+use Rattle.sorting_bounds.specs.Layout.{labelsLength}
 use lib.ListN.{length, length-set}
 use mathlib.Core.Path.{_≡_, refl, ap, _∙_}
 use Prim.Native.Nat.{_≤_, _-_}
@@ -7,13 +9,13 @@ use Rattle.sorting_search.proofs.labels.clear_labels.Statement.{stateme
 use Rattle.sorting_search.proofs.labels.clear_labels.Tie as tie
 
 abbrev Inv-loop : tie.InvT-loop
-Inv-loop m₀ i₀ m i = (i ≤ 5488) × (length m ≡ length m₀) × NoLabels m i
+Inv-loop m₀ i₀ m i = (i ≤ labelsLength) × (length m ≡ tableLength) × NoLabels m i
 
 abbrev μ-loop : tie.MeasureT-loop
-μ-loop m₀ i₀ m i = 5488 - i
+μ-loop m₀ i₀ m i = labelsLength - i
 
 loop-holds : tie.Need-loop-holds Inv-loop μ-loop
-loop-holds c = (omega arith, refl, no-labels-none _)
+loop-holds c = (omega arith, omega arith, no-labels-none _)
 
 mul-m : tie.Need-mul-m Inv-loop μ-loop
 mul-m c = omega arith
@@ -34,8 +36,7 @@ same-length : tie.Need-same-length Inv-loop μ-loop
 same-length c = omega arith
 
 returns : tie.Need-returns Inv-loop μ-loop
-unfolding NoLabels
-returns c = λ i p. c .before .loop .inv .2 i (omega arith)
+returns c = search cleared
 
 pub clear-labels-spec : {M : Type 1} → statement M
 clear-labels-spec =

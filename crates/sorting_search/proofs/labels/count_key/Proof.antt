@@ -1,4 +1,4 @@
-use Rattle.sorting_search.specs.Labels.{key-digits}
+use Rattle.sorting_bounds.specs.Layout.{key-digits}
 use native.Mathlib.Omega.{arith}
 use borrow.Author.Needs.{needs}
 use Rattle.sorting_search.proofs.labels.count_key.Statement.{statement}

@@ -1,25 +1,25 @@
-use Rattle.sorting_search.specs.ScannerTable.{Filled, fill-start, fill-enter, fill-more, fill-end}
+use Rattle.sorting_bounds.specs.ScannerTable.{Filling, filling-start, filling-enter, filling-more, filling-end}
 use native.Mathlib.Omega.{arith}
-use Rattle.sorting_search.proofs.scanner_bound.fill_scanner_table.Statement.{statement}
-use Rattle.sorting_search.proofs.scanner_bound.fill_scanner_table.Tie as tie
-use Rattle.sorting_search.proofs.scanner_bound.fill_scanner_table.Reads as reads
-use Rattle.sorting_search.proofs.scanner_bound.fill_scanner_table.Lts as lts
-use Rattle.sorting_search.proofs.scanner_bound.scanner_entry.Reads as scanner-entry-reads
+use Rattle.sorting_bounds.proofs.scanner_bound.fill_scanner_table.Statement.{statement}
+use Rattle.sorting_bounds.proofs.scanner_bound.fill_scanner_table.Tie as tie
+use Rattle.sorting_bounds.proofs.scanner_bound.fill_scanner_table.Reads as reads
+use Rattle.sorting_bounds.proofs.scanner_bound.fill_scanner_table.Lts as lts
+use Rattle.sorting_bounds.proofs.scanner_bound.scanner_entry.Reads as scanner-entry-reads
 
 abbrev Inv-loop : tie.InvT-loop
-Inv-loop jobs m₀ k₀ m k = Filled jobs m₀ m k
+Inv-loop jobs m₀ k₀ m k = Filling jobs m₀ m k
 
 abbrev μ-loop : tie.MeasureT-loop
 μ-loop jobs m₀ k₀ m k = k
 
 loop-holds : tie.Need-loop-holds Inv-loop μ-loop
-loop-holds c = search fill-start
+loop-holds c = search filling-start
 
 sub-k : tie.Need-sub-k Inv-loop μ-loop
 sub-k c = omega arith
 
 scanner-entry-requires : tie.Need-scanner-entry-requires Inv-loop μ-loop
-scanner-entry-requires c κs = search fill-enter
+scanner-entry-requires c κs = search filling-enter
 
 add-m : tie.Need-add-m Inv-loop μ-loop
 add-m c = omega arith
@@ -34,13 +34,13 @@ loop-less : tie.Need-loop-less Inv-loop μ-loop
 loop-less c = omega arith
 
 loop-again : tie.Need-loop-again Inv-loop μ-loop
-loop-again c = search fill-more
+loop-again c = search filling-more
 
 same-length : tie.Need-same-length Inv-loop μ-loop
 same-length c = omega arith
 
 returns : tie.Need-returns Inv-loop μ-loop
-returns c = search fill-end
+returns c = search filling-end
 
 pub fill-scanner-table-spec : {M : Type 1} → statement M
 fill-scanner-table-spec =

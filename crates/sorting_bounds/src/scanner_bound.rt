@@ -3,14 +3,14 @@ ghost use mathlib.Core.Path.{_≡_};
 ghost use Prim.Native.Nat.{_+_, _≤_, _<_};
 ghost use lib.ListN.{length};
 ghost use Rattle.interleaving.specs.Instance.{Instance};
-ghost use Rattle.sorting_search.specs.ScannerBound.{Entry, scannerBound};
-ghost use Rattle.sorting_search.specs.ScannerTable.{ScanSum, Strip, Through, Entering, Filled, Bounding};
-ghost use Rattle.sorting_search.specs.DeskBound.{boundCap};
+ghost use Rattle.sorting_bounds.specs.ScannerBound.{lesserOf, throughOf, entryOf, filledFrom, scannerBound};
+ghost use Rattle.sorting_bounds.specs.ScannerTable.{ScanSum, Strip, Entering, Bounding};
+ghost use Rattle.sorting_bounds.specs.DeskBound.{boundCap};
 ghost use Rattle.sheet.specs.Limits.{tableLength};
 use interleaving::State;
 
 fn lesser(a: u64, b: u64) -> u64
-    ensures { λ r. ⌜ (r ≤ a) × (r ≤ b) ⌝ }
+    ensures { λ r. ⌜ r ≡ lesserOf a b ⌝ }
 {
     if a < b { a } else { b }
 }
@@ -32,7 +32,7 @@ fn scan_sum(jobs: &[u64], d: usize, n: usize) -> u64
 // The rest that starts with strip i of desk d, scanned from the time on and done at once, with the rest behind it; the cap where there is no such strip.
 fn through(jobs: &[u64], time: u64, d: usize, i: usize, next: u64) -> u64
     requires { ⌜ Strip (now jobs) time d i next ⌝ }
-    ensures { λ r. ⌜ Through (now (jobs .entry)) time d i next r ⌝ }
+    ensures { λ r. ⌜ r ≡ throughOf (now (jobs .entry)) time d i next ⌝ }
 {
     if jobs[d] <= i as u64 {
         return 1099511627776;
@@ -45,7 +45,7 @@ fn through(jobs: &[u64], time: u64, d: usize, i: usize, next: u64) -> u64
 // The least rest at the count vector k.
 fn scanner_entry(jobs: &[u64], k: usize, m: &[u64]) -> u64
     requires { ⌜ Entering (now jobs) (now m) k ⌝ }
-    ensures { λ r. ⌜ Entry (now (jobs .entry)) (now (m .entry)) k r ⌝ }
+    ensures { λ r. ⌜ r ≡ entryOf (now (jobs .entry)) (now (m .entry)) k ⌝ }
 {
     let a = k / 49;
     let b = k / 7 % 7;
@@ -63,7 +63,7 @@ fn scanner_entry(jobs: &[u64], k: usize, m: &[u64]) -> u64
 // All entries, from the last count vector down.
 pub fn fill_scanner_table(jobs: &[u64], m: &mut [u64])
     requires { ⌜ Instance (now jobs) × (length (now m) ≡ tableLength) ⌝ }
-    ensures { λ _. ⌜ Filled (now (jobs .entry)) (now (m .entry)) (now (m .exit)) 0 ⌝ }
+    ensures { λ _. ⌜ now (m .exit) ≡ filledFrom (now (jobs .entry)) (now (m .entry)) 343 ⌝ }
 {
     let mut k: usize = 343;
     while 0 < k {

@@ -1,11 +1,13 @@
 -- The second lower bound: the cost so far, and the rest as if every desk were always free. What the scanner has done is known from the counts alone,
 -- so that rest is a table over count vectors. An entry is no more than a strip's share and the entry behind that strip, which is all the bound needs.
 use mathlib.Core.Path.{_≡_, refl, sym, ap, subst, _∙_}
+use mathlib.Core.Bool.{cond}
 use mathlib.Core.List.{List}
 use Prim.Native.Nat.{ℕ, zero, suc, _+_, _-_, _*_, _/_, _%_, _≤_, _<_}
 use native.Mathlib.Nat.{le-refl, le-trans, mul-le-mul-left, mul-le-mul-right}
 use native.Mathlib.Decide.{ℕ-discrete}
 use native.Mathlib.Omega.{arith}
+use lib.Dec.{ltb, leb}
 use lib.ListN.{length, getD, set}
 use lib.Seq.{getD-set-same, getD-set-other}
 use Rattle.interleaving.specs.declared.State.{State}
@@ -13,7 +15,7 @@ use Rattle.interleaving.specs.Instance.{Instance, scanOf, deskOf, weightOf, tim
 use Rattle.interleaving.specs.Search.{maxOf, StripLeft, scanned, finish, stepOf, LowerBound}
 use Rattle.interleaving.specs.SearchLaws.{max-right, step-left, bound-down}
 use Rattle.interleaving.specs.Consistent.{Consistent, consistent-step, sum3, scanSum}
-use Rattle.sorting_search.specs.Labels.{countKey, labelsLength, key-digits}
+use Rattle.sorting_bounds.specs.Layout.{countKey, labelsLength, key-digits}
 
 -- an entry is at most this
 abbrev pub entryCap : ℕ
@@ -39,6 +41,25 @@ share J t d i = weightOf J d i * (t + scanOf J d i + deskOf J d i)
 
 abbrev pub entryAt : List ℕ → ℕ → ℕ
 entryAt M k = getD M (labelsLength + k) 0
+
+-- the lesser of two
+unfoldable pub lesserOf : ℕ → ℕ → ℕ
+lesserOf a b = cond (ltb a b) a b
+
+-- the rest that starts with strip i of desk d, and goes on with the rest behind it; the cap where there is no such strip
+unfoldable pub throughOf : List ℕ → ℕ → ℕ → ℕ → ℕ → ℕ
+throughOf J t d i rest = cond (leb (getD J d 0) i) entryCap (lesserOf (share J t d i + rest) entryCap)
+
+-- the least rest at the count vector k, from the entries behind it
+unfoldable pub entryOf : List ℕ → List ℕ → ℕ → ℕ
+entryOf J M k =
+    cond (leb (getD J 0 0 + getD J 1 0 + getD J 2 0) (firstCount k + secondCount k + thirdCount k)) 0
+    (lesserOf (lesserOf (throughOf J (timeAt J k) 0 (firstCount k) (entryAt M (k + 49))) (throughOf J (timeAt J k) 1 (secondCount k) (entryAt M (k + 7)))) (throughOf J (timeAt J k) 2 (thirdCount k) (entryAt M (k + 1))))
+
+-- the table with its last n entries written, from the last count vector, 342, down
+unfoldable pub filledFrom : List ℕ → List ℕ → ℕ → List ℕ
+filledFrom J M zero = M
+filledFrom J M (suc n) = set (filledFrom J M n) (labelsLength + (342 - n)) (entryOf J (filledFrom J M n) (342 - n))
 
 -- what holds of a number v as the entry at the count vector k
 pub record Entry (J M : List ℕ) (k v : ℕ) : Type 0 where

@@ -1,8 +1,8 @@
-use Rattle.sorting_search.specs.DeskBound.{deskBound}
+use Rattle.sorting_bounds.specs.DeskBound.{deskBound}
 use native.Mathlib.Omega.{arith}
 use borrow.Author.Needs.{needs}
-use Rattle.sorting_search.proofs.desk_bound.desk_bound.Statement.{statement}
-use Rattle.sorting_search.proofs.desk_bound.desk_bound.Tie as tie
+use Rattle.sorting_bounds.proofs.desk_bound.desk_bound.Statement.{statement}
+use Rattle.sorting_bounds.proofs.desk_bound.desk_bound.Tie as tie
 
 desk-rest-requires : tie.Need-desk-rest-requires
 desk-rest-requires c κs = search needs

@@ -1,14 +1,14 @@
+use Rattle.sorting_bounds.specs.ScannerTable.{enter-first, enter-second, enter-third, entry-none, entry-some}
 use mathlib.Core.Path.{refl}
-use Rattle.sorting_search.specs.ScannerTable.{enter-first, enter-second, enter-third, entry-least}
 use native.Mathlib.Omega.{arith}
 use borrow.Author.Needs.{needs}
-use Rattle.sorting_search.proofs.scanner_bound.scanner_entry.Statement.{statement}
-use Rattle.sorting_search.proofs.scanner_bound.scanner_entry.Tie as tie
-use Rattle.sorting_search.proofs.scanner_bound.scanner_entry.Reads as reads
-use Rattle.sorting_search.proofs.scanner_bound.scanner_entry.Lts as lts
-use Rattle.sorting_search.proofs.scanner_bound.lesser.Reads as lesser-reads
-use Rattle.sorting_search.proofs.scanner_bound.scan_sum.Reads as scan-sum-reads
-use Rattle.sorting_search.proofs.scanner_bound.through.Reads as through-reads
+use Rattle.sorting_bounds.proofs.scanner_bound.scanner_entry.Statement.{statement}
+use Rattle.sorting_bounds.proofs.scanner_bound.scanner_entry.Tie as tie
+use Rattle.sorting_bounds.proofs.scanner_bound.scanner_entry.Reads as reads
+use Rattle.sorting_bounds.proofs.scanner_bound.scanner_entry.Lts as lts
+use Rattle.sorting_bounds.proofs.scanner_bound.lesser.Reads as lesser-reads
+use Rattle.sorting_bounds.proofs.scanner_bound.scan_sum.Reads as scan-sum-reads
+use Rattle.sorting_bounds.proofs.scanner_bound.through.Reads as through-reads
 
 shared-slice-read-if1 : tie.Need-shared-slice-read-if1
 shared-slice-read-if1 c = search needs
@@ -32,7 +32,7 @@ add-if1-4 : tie.Need-add-if1-4
 add-if1-4 c = search needs
 
 returns : tie.Need-returns
-returns c = search needs
+returns c = search entry-none
 
 scan-sum-requires : tie.Need-scan-sum-requires
 scan-sum-requires c κs = search needs
@@ -101,7 +101,7 @@ lesser-requires-2 : tie.Need-lesser-requires-2
 lesser-requires-2 c κs = search needs
 
 returns-2 : tie.Need-returns-2
-returns-2 c = entry-least (c .lesser2 .ensures) (c .before .lesser .ensures) (c .before .before .before .before .before .before .through .ensures) (c .before .before .before .before .through2 .ensures) (c .before .before .through3 .ensures) (c .before .before .before .before .before .before .before .before .before .before .scan-sum .ensures) (c .before .before .before .before .before .before .before .before .before .scan-sum2 .ensures) (c .before .before .before .before .before .before .before .before .scan-sum3 .ensures) refl (omega arith)
+returns-2 c = entry-some (c .before .before .before .before .before .before .before .before .before .before .before .before .before .before .before .before .before .pre) (c .lesser2 .ensures) (c .before .lesser .ensures) (c .before .before .before .before .before .before .through .ensures) (c .before .before .before .before .through2 .ensures) (c .before .before .through3 .ensures) (c .before .before .before .before .before .before .before .before .before .before .scan-sum .ensures) (c .before .before .before .before .before .before .before .before .before .scan-sum2 .ensures) (c .before .before .before .before .before .before .before .before .scan-sum3 .ensures) refl (omega arith)
 
 pub scanner-entry-spec : {M : Type 1} → statement M
 scanner-entry-spec =

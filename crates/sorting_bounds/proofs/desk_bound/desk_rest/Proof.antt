@@ -1,11 +1,11 @@
-use Rattle.sorting_search.specs.DeskBound.{aloneSum, deskRest, RestSoFar, rest-none, rest-more, rest-all, rest-small, strip-small, later-small, weighed-small}
+use Rattle.sorting_bounds.specs.DeskBound.{aloneSum, deskRest, RestSoFar, rest-none, rest-more, rest-all, rest-small, strip-small, later-small, weighed-small}
 use lib.ListN.{length, getD}
 use borrow.Author.Needs.{needs}
 use mathlib.Core.Path.{_≡_, refl, ap, _∙_}
 use Prim.Native.Nat.{_≤_, _<_, _-_, _+_}
 use native.Mathlib.Omega.{arith}
-use Rattle.sorting_search.proofs.desk_bound.desk_rest.Statement.{statement}
-use Rattle.sorting_search.proofs.desk_bound.desk_rest.Tie as tie
+use Rattle.sorting_bounds.proofs.desk_bound.desk_rest.Statement.{statement}
+use Rattle.sorting_bounds.proofs.desk_bound.desk_rest.Tie as tie
 
 abbrev Inv-loop : tie.InvT-loop
 Inv-loop jobs d n i₀ t₀ f₀ sum₀ i t f sum = (n ≡ getD jobs d 0) × RestSoFar jobs (aloneSum jobs d (getD jobs d 0 - i₀) i₀ t₀ f₀) d i t f sum
