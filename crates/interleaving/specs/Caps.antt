@@ -1,14 +1,14 @@
 -- What keeps the sums of a state and of a step within 64 bits, and that a step keeps it.
 use mathlib.Core.Path.{_≡_}
 use mathlib.Core.List.{List}
-use Prim.Native.Nat.{ℕ, zero, suc, _+_, _-_, _*_, _^_, _≤_, _<_}
+use Prim.Native.Nat.{ℕ, suc, _+_, _-_, _*_, _^_, _≤_, _<_}
 use native.Mathlib.Nat.{le-trans, lt-of-lt-of-le, pow-suc, pow-le-pow-right, mul-le-mul-right}
 use native.Mathlib.Decide.{ℕ-discrete}
 use native.Mathlib.Omega.{arith}
 use lib.ListN.{length, getD, set, length-set}
 use lib.Seq.{getD-set-same, getD-set-other}
 use Rattle.interleaving.specs.declared.State.{State}
-use Rattle.interleaving.specs.Instance.{Instance, scanOf, deskOf, weightOf, instanceLength, timeCap, weightCap, scannerCap, stripSpan, freeCap, stripCost, costCap, pathCap}
+use Rattle.interleaving.specs.Instance.{Instance, scanOf, deskOf, weightOf, instanceLength, timeCap, scannerCap, stripSpan, freeCap, stripCost, costCap, pathCap}
 use Rattle.interleaving.specs.Search.{maxOf, StripLeft, scanned, finish, stepOf}
 use Rattle.interleaving.specs.SearchLaws.{max-least}
 
@@ -30,7 +30,7 @@ pub record StepCapped (J : List ℕ) (s : State) (d : ℕ) : Type 0 where
   pub time : scanned J s d + (s .left - 1) * timeCap ≤ scannerCap
   pub done : finish J s d + (s .left - 1) * stripSpan ≤ freeCap
   pub cost : s .cost + weightOf J d (getD (s .taken) d 0) * finish J s d + (s .left - 1) * stripCost ≤ costCap
-  pub weighed : weightOf J d (getD (s .taken) d 0) * finish J s d ≤ stripCost
+  pub weighted : weightOf J d (getD (s .taken) d 0) * finish J s d ≤ stripCost
   pub path : s .path * 4 + d + 1 < 4 ^ (18 - (s .left - 1))
   pub small : s .path * 4 + d + 1 < pathCap
   pub size : length J ≡ instanceLength
@@ -60,8 +60,8 @@ module _ (J : List ℕ) (j : Instance J) (s : State) (f : Capped s) (d : ℕ) (p
   finish-small =
       omega (arith, max-least (getD (s .free) d 0) (scanned J s d) (freeCap - s .left * stripSpan + timeCap) (omega (arith, f .free d)) (omega (arith, f .time, f .left, scan-small)), f .left, work-small)
 
-  weighed-small : weightOf J d (getD (s .taken) d 0) * finish J s d ≤ stripCost
-  weighed-small = le-trans (mul-le-mul-right (finish J s d) (j .light (d * 6 + getD (s .taken) d 0))) (omega (arith, finish-small))
+  weighted-small : weightOf J d (getD (s .taken) d 0) * finish J s d ≤ stripCost
+  weighted-small = le-trans (mul-le-mul-right (finish J s d) (j .light (d * 6 + getD (s .taken) d 0))) (omega (arith, finish-small))
 
   path-next : s .path * 4 + d + 1 < 4 ^ (18 - (s .left - 1))
   path-next = rw (e, pow-suc 4 (18 - s .left)) (omega (arith, f .path))
@@ -76,8 +76,8 @@ module _ (J : List ℕ) (j : Instance J) (s : State) (f : Capped s) (d : ℕ) (p
     q = work-small;
     time = omega (arith, f .time, scan-small);
     done = finish-small;
-    cost = omega (arith, f .cost, weighed-small);
-    weighed = weighed-small;
+    cost = omega (arith, f .cost, weighted-small);
+    weighted = weighted-small;
     path = path-next;
     small = lt-of-lt-of-le path-next (pow-le-pow-right {n = 4} (omega arith) {i = 18 - (s .left - 1)} {j = 18} (omega arith));
     size = j .size;
@@ -104,5 +104,4 @@ can-serve-capped {J} {s} {d} h = step-capped J (h .jobs) s (h .capped) d (h .des
 
 pub step-capped-by : (J : List ℕ) (s : State) (d m : ℕ) → StepCapped J s d → m ≡ maxOf (getD (s .free) d 0) (scanned J s d)
     → (weightOf J d (getD (s .taken) d 0) * (m + deskOf J d (getD (s .taken) d 0)) ≤ stripCost) × (s .cost + weightOf J d (getD (s .taken) d 0) * (m + deskOf J d (getD (s .taken) d 0)) ≤ costCap)
-step-capped-by J s d m h e = rw e (h .weighed, omega (arith, h .cost))
-
+step-capped-by J s d m h e = rw e (h .weighted, omega (arith, h .cost))

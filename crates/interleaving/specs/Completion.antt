@@ -6,7 +6,7 @@ use Prim.Native.Nat.{ℕ, zero, suc, _+_, _-_, _*_, _^_, _≤_, _<_}
 use native.Mathlib.Nat.{le-refl, le-trans, lt-of-lt-of-le, le-of-lt, mul-le-mul-right, mul-assoc, mul-comm, pow-suc}
 use native.Mathlib.Decide.{decLt, ℕ-discrete}
 use native.Mathlib.Omega.{arith}
-use lib.ListN.{length, getD}
+use lib.ListN.{getD}
 use borrow.Author.Tests.{lt-ltb, le-ltb}
 use Rattle.interleaving.specs.declared.State.{State}
 use Rattle.interleaving.specs.declared.Incumbent.{Incumbent}
@@ -16,14 +16,14 @@ use Rattle.interleaving.specs.SearchLaws.{branch-yes, branch-no, bound-d
 same-incumbent : (u v : Incumbent) → u .figure ≡ v .figure → u .path ≡ v .path → u ≡ v
 same-incumbent u v p q = λ i. record { figure = p i; path = q i }
 
--- r is one of the ends of s
+-- r has the figure and the number of a completion of s
 pub record Attained (J : List ℕ) (k : ℕ) (s : State) (r : Incumbent) : Type 0 where
   pub end : State
   pub ends : Completes J k s end
   pub figure : r .figure ≡ end .cost
   pub path : r .path ≡ end .path
 
--- among the ends of s of the same figure none has a smaller path
+-- among the completions of s of the same figure none has a smaller number
 abbrev pub First : List ℕ → ℕ → State → Incumbent → Type 0
 First J k s r = (e : State) → Completes J k s e → r .figure ≡ e .cost → r .path ≤ e .path
 
@@ -63,7 +63,7 @@ module _ (J : List ℕ) where
       go d p r (yes l) (inl e) = inl (branch-yes J (searchFrom J k) s d r l ∙ e)
       go d p r (yes l) (inr a) = inr (subst (Attained J (suc k) s) (sym (branch-yes J (searchFrom J k) s d r l)) (record { end = a .end; ends = (d, p, l, a .ends); figure = a .figure; path = a .path }))
 
-  -- the paths below a state lie between two numbers
+  -- the numbers of a state's completions lie between two numbers
   pub path-range : (k : ℕ) (s e : State) → Completes J k s e → (s .path * 4 ^ k ≤ e .path) × (e .path < (s .path + 1) * 4 ^ k)
   unfolding Completes
   path-range zero s e q = rw q (omega arith, omega arith)
@@ -87,7 +87,7 @@ module _ (J : List ℕ) where
   search-same : (k : ℕ) (s : State) (b : Incumbent) → searchFrom J k s b .figure ≡ b .figure → searchFrom J k s b ≡ b
   search-same k s b e = search-stays J k s b (subst (LowerBound J k s) e (search-bound J k s b))
 
-  -- what holds once the desks below d have had their turn
+  -- what holds once the desks below d were searched
   record Stage (k : ℕ) (s : State) (d : ℕ) (r : Incumbent) : Type 0 where
     pub low : r .path ≤ (s .path * 4 + d + 1) * 4 ^ k
     pub bound : (x : ℕ) → x < d → StripLeft J s x → LowerBound J k (stepOf J s x) (r .figure)

@@ -1,16 +1,16 @@
 -- A state whose scanner time and number of strips left are those of its counts, as every state that the search reaches is.
-use mathlib.Core.Path.{_≡_, refl, sym, ap, _∙_}
+use mathlib.Core.Path.{_≡_, refl, ap}
 use mathlib.Core.List.{List}
-use Prim.Native.Nat.{ℕ, zero, suc, _+_, _-_, _*_, _^_, _≤_, _<_}
-use native.Mathlib.Nat.{le-refl, le-trans, one-le-pow}
+use Prim.Native.Nat.{ℕ, zero, suc, _+_, _-_, _≤_, _<_}
+use native.Mathlib.Nat.{one-le-pow}
 use native.Mathlib.Numerals.{add-one}
 use native.Mathlib.Decide.{ℕ-discrete}
 use native.Mathlib.Omega.{arith}
-use lib.ListN.{length, getD, set, length-set, replicate}
+use lib.ListN.{length, getD, set, replicate}
 use lib.Seq.{getD-set-same, getD-set-other}
 use Rattle.interleaving.specs.declared.State.{State}
 use Rattle.interleaving.specs.Instance.{Instance, scanOf}
-use Rattle.interleaving.specs.Search.{StripLeft, scanned, finish, stepOf, startState}
+use Rattle.interleaving.specs.Search.{StripLeft, stepOf, startState}
 use Rattle.interleaving.specs.Caps.{Capped, capped-step}
 
 -- a sum over the desks
@@ -54,6 +54,7 @@ module _ (J : List ℕ) (j : Instance J) (s : State) (g : Consistent J s) (d : �
       go : (e : ℕ) → e < 3 → Dec (e ≡ d) → getD (set (s .taken) d (getD (s .taken) d 0 + 1)) e 0 ≤ getD J e 0
       go e q (yes w) = rw (w, getD-set-same (s .taken) d (getD (s .taken) d 0 + 1) 0 (omega (arith, g .fits .takens))) (omega arith)
       go e q (no w) = rw (getD-set-other (s .taken) d e (getD (s .taken) d 0 + 1) 0 w) (g .within e q)
+
 pub consistent-start : (J : List ℕ) → Instance J → Consistent J (startState J)
 unfolding startState scanSum
 consistent-start J j = record {
@@ -79,5 +80,6 @@ consistent-start J j = record {
     zeros (suc zero) = refl
     zeros (suc (suc zero)) = refl
     zeros (suc (suc (suc d))) = refl
+
 pub start-sum : (J : List ℕ) → Instance J → getD J 0 0 + getD J 1 0 + getD J 2 0 ≤ 18
 start-sum J j = omega (arith, j .few 0 (omega arith), j .few 1 (omega arith), j .few 2 (omega arith))

@@ -17,6 +17,10 @@ weightOf J d i = getD J (3 + (d * 6 + i) + 36) 0
 abbrev pub instanceLength : ℕ
 instanceLength = 57
 
+-- the largest number of 64 bits
+abbrev pub largest : ℕ
+largest = 18_446_744_073_709_551_615
+
 -- What keeps every sum of the search within 64 bits: no time above timeCap, no weight above weightCap. The other caps are those of 18 strips:
 -- the scanner's time, what one strip adds to a desk's free time, a desk's free time, what one strip adds to the cost, the cost, and the number of a list.
 abbrev pub timeCap : ℕ

@@ -1,6 +1,6 @@
 -- Laws of the search. It never worsens its incumbent; what it returns bounds what it searched; and an incumbent that bounds a state from below stays, which is what every cut asks.
 use mathlib.Core.Path.{_≡_, refl, sym, ap, _∙_}
-use mathlib.Core.Bool.{Bool, true, false, cond}
+use mathlib.Core.Bool.{cond}
 use mathlib.Core.List.{List}
 use Prim.Native.Nat.{ℕ, zero, suc, _+_, _-_, _*_, _≤_, _<_}
 use native.Mathlib.Nat.{le-refl, le-trans}
@@ -8,14 +8,14 @@ use native.Mathlib.Numerals.{add-one}
 use native.Mathlib.Decide.{decLt, ℕ-discrete}
 use native.Mathlib.Omega.{arith}
 use lib.Dec.{ltb}
-use lib.ListN.{length, getD, set}
-use borrow.Author.Tests.{lt-ltb, le-ltb, ltb-true}
+use lib.ListN.{getD, set}
+use borrow.Author.Tests.{lt-ltb, le-ltb}
 use Rattle.interleaving.specs.declared.State.{State}
 use Rattle.interleaving.specs.declared.Incumbent.{Incumbent}
-use Rattle.interleaving.specs.Instance.{scanOf, deskOf, weightOf}
-use Rattle.interleaving.specs.Search.{maxOf, StripLeft, scanned, finish, stepOf, keep, overDesks, branch, searchFrom, LowerBound}
+use Rattle.interleaving.specs.Instance.{deskOf, weightOf}
+use Rattle.interleaving.specs.Search.{maxOf, StripLeft, scanned, stepOf, keep, overDesks, branch, searchFrom, LowerBound}
 
--- `max`
+-- the greater of two
 pub max-left : (a b : ℕ) → a ≤ maxOf a b
 unfolding maxOf
 max-left a b = go (decLt a b)
@@ -96,7 +96,7 @@ module _ (J : List ℕ) where
   bound-down zero s B C l h = omega arith
   bound-down (suc k) s B C l h = λ d p m. bound-down k (stepOf J s d) B C l (h d p m)
 
-  -- what the search hands back bounds what it searched
+  -- what the search returns bounds what it searched
   pub search-bound : (k : ℕ) (s : State) (b : Incumbent) → LowerBound J k s (searchFrom J k s b .figure)
   unfolding searchFrom LowerBound
   search-bound zero s b = keep-falls s b .1
@@ -115,12 +115,12 @@ module _ (J : List ℕ) where
       go d p (yes l) i = branch-yes (searchFrom J k) s d b l ∙ i l
       go d p (no l) i = branch-no (searchFrom J k) s d b (omega arith)
 
-  -- one turn of the loop
+  -- the search where no strip is left
   pub search-leaf : (s : State) (b : Incumbent) → s .left ≡ 0 → searchFrom J (s .left) s b ≡ keep s b
   unfolding searchFrom
   search-leaf s b e = rw e
 
--- the loop of `search`
+-- the loop over the desks
 pub over-none : (g : ℕ → Incumbent → Incumbent) (b : Incumbent) → b ≡ overDesks g 0 b
 unfolding overDesks
 over-none g b = refl
@@ -130,7 +130,7 @@ unfolding overDesks
 over-one g d b = rw (add-one d)
 
 module _ (J : List ℕ) where
-  -- a turn that searches, and a turn that does not
+  -- a desk that is searched, and a desk that has no strip left
   pub branch-again-yes : (k : ℕ) (s n : State) (d : ℕ) (b q r : Incumbent) → q ≡ overDesks (branch J (searchFrom J k) s) d b → StripLeft J s d → n ≡ stepOf J s d → r ≡ searchFrom J (n .left) n q → n .left ≡ k
       → r ≡ overDesks (branch J (searchFrom J k) s) (d + 1) b
   branch-again-yes k s n d b q r i m e h z =

@@ -1,15 +1,14 @@
 -- The section as the search reads it is an instance, and has the section's times.
 use mathlib.Core.Path.{_≡_, refl, sym, ap, subst, _∙_}
-use mathlib.Core.List.{List, [], _∷_, _++_}
+use mathlib.Core.List.{List, _++_}
 use Prim.Native.Nat.{ℕ, zero, suc, _+_, _-_, _*_, _≤_, _<_}
-use native.Mathlib.Nat.{le-refl, le-trans}
 use native.Mathlib.Decide.{decLt, ℕ-discrete}
 use native.Mathlib.Omega.{arith}
 use lib.ListN.{length, getD, set, length-set, length-append, List·getD-append, List·getD-eq-default, replicate, length-replicate, getD-replicate}
 use lib.Seq.{getD-append-add, getD-set-same, getD-set-other, ext-getD}
 use Rattle.sheet.specs.declared.SortingSection.{SortingSection}
 use Rattle.sheet.specs.Sound.{SortingSound}
-use Rattle.interleaving.specs.Instance.{Instance, scanOf, deskOf, weightOf, timeCap, weightCap, instanceLength}
+use Rattle.interleaving.specs.Instance.{Instance, scanOf, deskOf, weightOf, weightCap, instanceLength}
 use Rattle.sorting.specs.Plan.{instanceOf}
 
 module _ (s : SortingSection) (h : SortingSound s) where

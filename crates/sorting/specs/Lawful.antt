@@ -1,26 +1,25 @@
 -- The chosen jobs are a lawful timetable, and their figure is the least figure. Each job is read off the state that the list has reached.
-use mathlib.Core.Path.{_≡_, refl, sym, ap, subst, _∙_}
+use mathlib.Core.Path.{_≡_, sym, ap, subst, _∙_}
 use mathlib.Core.List.{List}
 use Prim.Native.Nat.{ℕ, zero, suc, _+_, _-_, _*_, _≤_, _<_}
 use native.Mathlib.Nat.{le-refl, le-trans}
 use native.Mathlib.Decide.{decLt, ℕ-discrete}
 use native.Mathlib.Omega.{arith}
 use lib.ListN.{length, getD}
-use Rattle.sheet.specs.Limits.{ceiling}
 use Rattle.sheet.specs.declared.SortingSection.{SortingSection}
 use Rattle.sheet.specs.Sound.{SortingSound}
 use Rattle.rules.specs.declared.Job.{Job}
 use Rattle.rules.specs.Sums.{sumOver}
-use Rattle.rules.specs.Sorting.{jobAt, jobsOf, noJob, stripsOf, scanTime, deskTime, scanEnd, deskFinish, SortingLawful, sortingFigure}
+use Rattle.rules.specs.Sorting.{jobAt, jobsOf, noJob, stripsOf, scanEnd, deskFinish, SortingLawful, sortingFigure}
 use Rattle.interleaving.specs.declared.State.{State}
-use Rattle.interleaving.specs.Instance.{Instance, scanOf, deskOf, weightOf}
-use Rattle.interleaving.specs.Search.{maxOf, StripLeft, scanned, finish, stepOf, startState, firstBest}
+use Rattle.interleaving.specs.Instance.{Instance, weightOf}
+use Rattle.interleaving.specs.Search.{maxOf, scanned, finish, stepOf, startState}
 use Rattle.interleaving.specs.SearchLaws.{max-left, max-right, max-least}
 use Rattle.interleaving.specs.Consistent.{Consistent, consistent-start}
-use Rattle.sorting.specs.Plan.{instanceOf, leastFigure, reached, jobOf, listed, listedDesk, jobsOfList, chosenJobs}
+use Rattle.sorting.specs.Plan.{instanceOf, leastFigure, reached, jobOf, jobsOfList, chosenJobs}
 use Rattle.sorting.specs.Listed.{listed-length, listed-at}
-use Rattle.sorting.specs.Instance.{instance-sound, count-at, scan-of, desk-of, weight-of}
-use Rattle.sorting.specs.Route.{Serves, reached-next, reached-consistent, reached-left, reached-lengths, step-time, step-cost, taken-same, taken-other, free-same, free-other, taken-is}
+use Rattle.sorting.specs.Instance.{instance-sound, scan-of, desk-of, weight-of}
+use Rattle.sorting.specs.Route.{reached-consistent, reached-left, reached-lengths, step-time, step-cost, free-same, free-other, taken-is}
 use Rattle.sorting.specs.Chosen.{chosenDesk, chosenState, Chosen, chosen}
 use Rattle.sorting.specs.Times.{scan-time, desk-time, strips-of, no-strips, start-taken, start-free, start-time, start-cost}
 

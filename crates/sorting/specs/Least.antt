@@ -11,19 +11,19 @@ use Rattle.sheet.specs.declared.SortingSection.{SortingSection}
 use Rattle.sheet.specs.Sound.{SortingSound}
 use Rattle.rules.specs.declared.Job.{Job}
 use Rattle.rules.specs.Sums.{sumOver}
-use Rattle.rules.specs.Sorting.{jobAt, jobsOf, stripsOf, scanTime, deskTime, scanEnd, deskFinish, SortingLawful, sortingFigure}
+use Rattle.rules.specs.Sorting.{jobAt, jobsOf, scanEnd, deskFinish, SortingLawful, sortingFigure}
 use Rattle.interleaving.specs.declared.State.{State}
-use Rattle.interleaving.specs.Instance.{Instance, scanOf, deskOf, weightOf}
-use Rattle.interleaving.specs.Search.{maxOf, StripLeft, scanned, finish, stepOf, startState, noIncumbent, searchFrom, firstBest, Completes}
+use Rattle.interleaving.specs.Instance.{Instance, scanOf, deskOf}
+use Rattle.interleaving.specs.Search.{maxOf, scanned, finish, stepOf, startState, noIncumbent, firstBest, Completes}
 use Rattle.interleaving.specs.SearchLaws.{max-least, search-bound}
 use Rattle.interleaving.specs.Consistent.{Consistent, consistent-start}
 use Rattle.interleaving.specs.Completion.{bound-completes, search-first, step-path}
 use Rattle.sorting.specs.Plan.{instanceOf, leastFigure, reached, chosenJobs}
 use Rattle.sorting.specs.Instance.{instance-sound, weight-of}
 use Rattle.sorting.specs.Route.{Serves, reached-same, reached-next, reached-consistent, reached-left, reached-lengths, reached-completes, step-time, step-cost, free-same, free-other, jobs-same, jobs-other, taken-is, path-begins}
-use Rattle.sorting.specs.Chosen.{chosenDesk, chosenState, Chosen, chosen}
-use Rattle.sorting.specs.Times.{scan-time, desk-time, strips-of, no-strips, start-taken, start-free, start-time, start-cost, start-path}
-use Rattle.sorting.specs.Lawful.{chosen-length, desk-is, scan-is, start-is}
+use Rattle.sorting.specs.Chosen.{chosenDesk, chosenState, chosen}
+use Rattle.sorting.specs.Times.{scan-time, desk-time, strips-of, no-strips, start-taken, start-free, start-time, start-cost}
+use Rattle.sorting.specs.Lawful.{desk-is, scan-is, start-is}
 
 jobs-next : (js : List Job) (desk i : ℕ) → jobsOf js desk i ≤ jobsOf js desk (suc i)
 jobs-next js desk i = go (ℕ-discrete (jobAt js i .desk) desk)

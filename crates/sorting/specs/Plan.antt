@@ -1,11 +1,10 @@
 -- The least figure and the chosen jobs of a sorting section, by the search over interleavings without any cut (crate interleaving).
 use mathlib.Core.List.{List, [], _∷_, _++_}
-use Prim.Native.Nat.{ℕ, zero, suc, _+_, _-_, _*_, _/_, _%_, _^_}
+use Prim.Native.Nat.{ℕ, zero, suc, _+_, _-_, _/_, _%_, _^_}
 use lib.ListN.{getD, replicate}
 use Rattle.sheet.specs.declared.SortingSection.{SortingSection}
 use Rattle.rules.specs.declared.Job.{Job}
 use Rattle.interleaving.specs.declared.State.{State}
-use Rattle.interleaving.specs.declared.Incumbent.{Incumbent}
 use Rattle.interleaving.specs.Search.{maxOf, scanned, stepOf, startState, firstBest}
 use Rattle.sorting.specs.declared.SortingPlan.{SortingPlan}
 

@@ -1,7 +1,7 @@
 -- What the planner's choice is, against the rules of the sorting (crate rules), for every sound section.
 use mathlib.Core.Path.{_≡_, refl, sym, ap, _∙_}
 use mathlib.Core.List.{List, [], _∷_}
-use Prim.Native.Nat.{ℕ, zero, suc, _+_, _≤_, _<_}
+use Prim.Native.Nat.{ℕ, _≤_, _<_}
 use native.Mathlib.Omega.{arith}
 use lib.ListN.{length, getD}
 use Rattle.sheet.specs.declared.SortingSection.{SortingSection}
@@ -11,7 +11,7 @@ use Rattle.rules.specs.Sums.{sumOver}
 use Rattle.rules.specs.Sorting.{jobAt, deskFinish, SortingLawful, sortingFigure}
 use Rattle.interleaving.specs.Search.{startState}
 use Rattle.interleaving.specs.Consistent.{consistent-start}
-use Rattle.sorting.specs.Plan.{instanceOf, leastFigure, listed, jobsOfList, chosenJobs}
+use Rattle.sorting.specs.Plan.{instanceOf, leastFigure, chosenJobs}
 use Rattle.sorting.specs.Instance.{instance-sound, count-at}
 use Rattle.sorting.specs.Lawful.{chosen-length, chosen-early, chosen-lawful, chosen-figure}
 use Rattle.sorting.specs.Least.{lawful-least, lawful-length, lawful-later, lawful-first}

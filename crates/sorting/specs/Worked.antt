@@ -1,9 +1,8 @@
 -- The sorting cases of 01, "Sheets worked through", computed from the definitions.
 use mathlib.Core.Path.{_≡_, refl}
-use mathlib.Core.List.{List, [], _∷_}
-use Prim.Native.Nat.{ℕ, zero, suc, _+_}
+use mathlib.Core.List.{[], _∷_}
+use Prim.Native.Nat.{ℕ}
 use Rattle.sheet.specs.declared.SortingSection.{SortingSection}
-use Rattle.rules.specs.declared.Job.{Job}
 use Rattle.rules.specs.Sums.{sumOver}
 use Rattle.rules.specs.Sorting.{slot, scanTime, deskTime, scanEnd, deskFinish, noJob, jobAt, sortingFigure}
 use Rattle.interleaving.specs.Search.{maxOf, stepOf, keep, overDesks, branch, searchFrom, startState, firstBest}

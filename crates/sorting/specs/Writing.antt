@@ -1,25 +1,24 @@
 -- How the plan is written: one job after another, each from the state that the list has reached.
 use mathlib.Core.Path.{_≡_, refl, sym, ap, subst, _∙_}
 use mathlib.Core.List.{List, [], _∷_, _++_}
-use Prim.Native.Nat.{ℕ, zero, suc, _+_, _-_, _*_, _^_, _/_, _%_, _≤_, _<_}
-use native.Mathlib.Nat.{le-refl, le-trans, div-div-eq-div-mul, pow-suc, div-one}
+use Prim.Native.Nat.{ℕ, suc, _+_, _-_, _^_, _/_, _%_, _≤_, _<_}
+use native.Mathlib.Nat.{div-div-eq-div-mul, pow-suc, div-one}
 use native.Mathlib.Numerals.{add-one}
-use native.Mathlib.Decide.{ℕ-discrete}
 use native.Mathlib.Omega.{arith}
 use lib.ListN.{length, getD, set, length-set, replicate}
 use lib.Seq.{getD-set-same, getD-set-other}
 use Rattle.rules.specs.declared.Job.{Job}
 use Rattle.interleaving.specs.declared.State.{State}
 use Rattle.interleaving.specs.declared.Incumbent.{Incumbent}
-use Rattle.interleaving.specs.Instance.{Instance, scanOf, timeCap, scannerCap}
-use Rattle.interleaving.specs.Search.{maxOf, StripLeft, scanned, stepOf, startState, firstBest}
+use Rattle.interleaving.specs.Instance.{Instance}
+use Rattle.interleaving.specs.Search.{maxOf, scanned, stepOf, startState, firstBest}
 use Rattle.interleaving.specs.SearchLaws.{step-left}
 use Rattle.interleaving.specs.Caps.{CanServe, StepCapped, can-serve-capped}
 use Rattle.interleaving.specs.Consistent.{Consistent, consistent-start}
 use Rattle.sorting.specs.declared.SortingPlan.{SortingPlan}
 use Rattle.sorting.specs.Plan.{reached, jobOf, listed, listedDesk, jobsOfList, jobsOfPlan}
 use Rattle.sorting.specs.Listed.{listed-same}
-use Rattle.sorting.specs.Route.{reached-next, reached-consistent, reached-left, reached-more}
+use Rattle.sorting.specs.Route.{reached-next, reached-consistent, reached-left}
 use Rattle.sorting.specs.Chosen.{chosenDesk, chosenState, Chosen, chosen}
 
 -- digit: what is left of a number once its last i digits are cut off

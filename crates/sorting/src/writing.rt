@@ -3,7 +3,8 @@ ghost use mathlib.Core.Path.{_≡_};
 ghost use Prim.Native.Nat.{_/_, _%_, _^_};
 ghost use Rattle.sorting.specs.Writing.{Listed, Appending, Written, withJob};
 use super::SortingPlan;
-use interleaving::{Incumbent, State};
+use interleaving::Incumbent;
+use interleaving::State;
 
 // The digit k, from the low end, of a number in base 4.
 fn digit(path: u64, k: usize) -> u64

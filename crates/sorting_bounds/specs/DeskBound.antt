@@ -1,13 +1,13 @@
 -- The first lower bound: the cost so far, and the rest of each desk as if the scanner served that desk alone. A step never lowers it.
-use mathlib.Core.Path.{_≡_, refl, sym, ap, subst, _∙_}
+use mathlib.Core.Path.{_≡_, refl, ap, subst, _∙_}
 use mathlib.Core.List.{List}
 use Prim.Native.Nat.{ℕ, zero, suc, _+_, _-_, _*_, _≤_, _<_}
 use native.Mathlib.Nat.{le-refl, le-trans, mul-le-mul-left, mul-le-mul-right}
 use native.Mathlib.Omega.{arith}
-use lib.ListN.{length, getD, set}
+use lib.ListN.{length, getD}
 use lib.Seq.{getD-set-same, getD-set-other}
 use Rattle.interleaving.specs.declared.State.{State}
-use Rattle.interleaving.specs.Instance.{Instance, scanOf, deskOf, weightOf, instanceLength, timeCap, weightCap, scannerCap, stripSpan, freeCap, stripCost, costCap}
+use Rattle.interleaving.specs.Instance.{Instance, scanOf, deskOf, weightOf, instanceLength, timeCap, scannerCap, stripSpan, freeCap}
 use Rattle.interleaving.specs.Search.{maxOf, StripLeft, scanned, finish, stepOf, LowerBound}
 use Rattle.interleaving.specs.SearchLaws.{max-left, max-right, max-least, step-left, bound-down}
 use Rattle.interleaving.specs.Consistent.{Consistent, consistent-step}
@@ -23,11 +23,11 @@ restCap = 322_122_547_200
 abbrev pub boundCap : ℕ
 boundCap = 4_398_046_511_104
 
--- where the strip i of desk d ends, scanned from t on, the desk being free from f on
+-- when strip i of desk d is done, scanned from t on, the desk being free from f on
 abbrev pub finishAlone : List ℕ → ℕ → ℕ → ℕ → ℕ → ℕ
 finishAlone J d i t f = maxOf f (t + scanOf J d i) + deskOf J d i
 
--- the sum of the ends of k strips of desk d from i on
+-- the weighted sum of the finishing times of k strips of desk d from i on
 unfoldable pub aloneSum : List ℕ → ℕ → ℕ → ℕ → ℕ → ℕ → ℕ
 aloneSum J d zero i t f = 0
 aloneSum J d (suc k) i t f = weightOf J d i * finishAlone J d i t f + aloneSum J d k (i + 1) (t + scanOf J d i) (finishAlone J d i t f)
@@ -140,8 +140,8 @@ module _ (J : List ℕ) (j : Instance J) (z d : ℕ) where
     pub later-small : maxOf f (t + scanOf J d i) ≤ freeCap + i * stripSpan + timeCap
     later-small = max-least f (t + scanOf J d i) _ (omega (arith, h .free)) (omega (arith, h .time, strip-small))
 
-    pub weighed-small : (v : ℕ) → v ≡ maxOf f (t + scanOf J d i) → weightOf J d i * (v + deskOf J d i) ≤ restSpan
-    weighed-small v q = le-trans (mul-le-mul-right (v + deskOf J d i) (j .light (d * 6 + i))) (omega (arith, q, h .six, later-small, strip-small))
+    pub weighted-small : (v : ℕ) → v ≡ maxOf f (t + scanOf J d i) → weightOf J d i * (v + deskOf J d i) ≤ restSpan
+    weighted-small v q = le-trans (mul-le-mul-right (v + deskOf J d i) (j .light (d * 6 + i))) (omega (arith, q, h .six, later-small, strip-small))
 
     pub rest-more : (u v : ℕ) → u ≡ t + scanOf J d i → v ≡ maxOf f u → RestSoFar J z d (i + 1) u (v + deskOf J d i) (sum + weightOf J d i * (v + deskOf J d i))
     rest-more u v e w = record {
@@ -150,7 +150,7 @@ module _ (J : List ℕ) (j : Instance J) (z d : ℕ) where
       size = h .size;
       time = omega (arith, h .time, strip-small);
       free = omega (arith, q, later-small, strip-small);
-      sums = omega (arith, h .sums, weighed-small v q);
+      sums = omega (arith, h .sums, weighted-small v q);
       is = rw (q, e) (omega (arith, h .is, alone-one J d (getD J d 0) i t f l));
     }
       where

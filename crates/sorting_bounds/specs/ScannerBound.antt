@@ -1,20 +1,19 @@
 -- The second lower bound: the cost so far, and the rest as if every desk were always free. What the scanner has done is known from the counts alone,
 -- so that rest is a table over count vectors. An entry is no more than a strip's share and the entry behind that strip, which is all the bound needs.
-use mathlib.Core.Path.{_≡_, refl, sym, ap, subst, _∙_}
+use mathlib.Core.Path.{_≡_, refl, sym, _∙_}
 use mathlib.Core.Bool.{cond}
 use mathlib.Core.List.{List}
 use Prim.Native.Nat.{ℕ, zero, suc, _+_, _-_, _*_, _/_, _%_, _≤_, _<_}
-use native.Mathlib.Nat.{le-refl, le-trans, mul-le-mul-left, mul-le-mul-right}
-use native.Mathlib.Decide.{ℕ-discrete}
+use native.Mathlib.Nat.{mul-le-mul-left}
 use native.Mathlib.Omega.{arith}
 use lib.Dec.{ltb, leb}
-use lib.ListN.{length, getD, set}
+use lib.ListN.{getD, set}
 use lib.Seq.{getD-set-same, getD-set-other}
 use Rattle.interleaving.specs.declared.State.{State}
-use Rattle.interleaving.specs.Instance.{Instance, scanOf, deskOf, weightOf, timeCap, weightCap}
-use Rattle.interleaving.specs.Search.{maxOf, StripLeft, scanned, finish, stepOf, LowerBound}
+use Rattle.interleaving.specs.Instance.{Instance, scanOf, deskOf, weightOf}
+use Rattle.interleaving.specs.Search.{StripLeft, scanned, finish, stepOf, LowerBound}
 use Rattle.interleaving.specs.SearchLaws.{max-right, step-left, bound-down}
-use Rattle.interleaving.specs.Consistent.{Consistent, consistent-step, sum3, scanSum}
+use Rattle.interleaving.specs.Consistent.{Consistent, consistent-step, scanSum}
 use Rattle.sorting_bounds.specs.Layout.{countKey, labelsLength, key-digits}
 
 -- an entry is at most this

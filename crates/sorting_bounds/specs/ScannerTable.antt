@@ -2,8 +2,8 @@
 use mathlib.Core.Path.{_≡_, refl, sym, ap, subst, _∙_}
 use mathlib.Core.Bool.{cond}
 use mathlib.Core.List.{List}
-use Prim.Native.Nat.{ℕ, zero, suc, _+_, _-_, _*_, _/_, _%_, _≤_, _<_}
-use native.Mathlib.Nat.{le-refl, le-trans, mul-le-mul-left, mul-le-mul-right}
+use Prim.Native.Nat.{ℕ, zero, suc, _+_, _-_, _*_, _≤_, _<_}
+use native.Mathlib.Nat.{le-refl, le-trans, mul-le-mul-right}
 use native.Mathlib.Numerals.{add-one}
 use native.Mathlib.Decide.{decLt, ℕ-discrete}
 use native.Mathlib.Omega.{arith}
@@ -13,7 +13,7 @@ use lib.Seq.{getD-set-same, getD-set-other}
 use borrow.Author.Tests.{lt-ltb, le-ltb, le-leb, lt-leb}
 use Rattle.sheet.specs.Limits.{tableLength}
 use Rattle.interleaving.specs.declared.State.{State}
-use Rattle.interleaving.specs.Instance.{Instance, scanOf, deskOf, weightOf, timeCap, weightCap, scannerCap}
+use Rattle.interleaving.specs.Instance.{Instance, scanOf, deskOf, weightOf, timeCap, scannerCap}
 use Rattle.interleaving.specs.Consistent.{Consistent, scanSum}
 use Rattle.sorting_bounds.specs.Layout.{countKey, labelsLength}
 use Rattle.sorting_bounds.specs.DeskBound.{boundCap}

@@ -7,7 +7,12 @@ ghost use Rattle.sorting_bounds.specs.ScannerBound.{lesserOf, throughOf,
 ghost use Rattle.sorting_bounds.specs.ScannerTable.{ScanSum, Strip, Entering, Bounding};
 ghost use Rattle.sorting_bounds.specs.DeskBound.{boundCap};
 ghost use Rattle.sheet.specs.Limits.{tableLength};
+use super::LABELS_LENGTH;
+use super::VECTORS;
 use interleaving::State;
+
+// An entry is at most this.
+const ENTRY_CAP: u64 = 1_099_511_627_776;
 
 fn lesser(a: u64, b: u64) -> u64
     ensures { λ r. ⌜ r ≡ lesserOf a b ⌝ }
@@ -35,11 +40,11 @@ fn through(jobs: &[u64], time: u64, d: usize, i: usize, next: u64) -> u64
     ensures { λ r. ⌜ r ≡ throughOf (now (jobs .entry)) time d i next ⌝ }
 {
     if jobs[d] <= i as u64 {
-        return 1099511627776;
+        return ENTRY_CAP;
     }
     let at = 3 + (d * 6 + i);
     let done = time + jobs[at] + jobs[at + 18];
-    lesser(jobs[at + 36] * done + next, 1099511627776)
+    lesser(jobs[at + 36] * done + next, ENTRY_CAP)
 }
 
 // The least rest at the count vector k.
@@ -54,9 +59,9 @@ fn scanner_entry(jobs: &[u64], k: usize, m: &[u64]) -> u64
         return 0;
     }
     let time = scan_sum(jobs, 0, a) + scan_sum(jobs, 1, b) + scan_sum(jobs, 2, c);
-    let first = through(jobs, time, 0, a, m[5488 + (k + 49)]);
-    let second = through(jobs, time, 1, b, m[5488 + (k + 7)]);
-    let third = through(jobs, time, 2, c, m[5488 + (k + 1)]);
+    let first = through(jobs, time, 0, a, m[LABELS_LENGTH + (k + 49)]);
+    let second = through(jobs, time, 1, b, m[LABELS_LENGTH + (k + 7)]);
+    let third = through(jobs, time, 2, c, m[LABELS_LENGTH + (k + 1)]);
     lesser(lesser(first, second), third)
 }
 
@@ -65,11 +70,11 @@ pub fn fill_scanner_table(jobs: &[u64], m: &mut [u64])
     requires { ⌜ Instance (now jobs) × (length (now m) ≡ tableLength) ⌝ }
     ensures { λ _. ⌜ now (m .exit) ≡ filledFrom (now (jobs .entry)) (now (m .entry)) 343 ⌝ }
 {
-    let mut k: usize = 343;
+    let mut k: usize = VECTORS;
     while 0 < k {
         k -= 1;
         let v = scanner_entry(jobs, k, m);
-        m[5488 + k] = v;
+        m[LABELS_LENGTH + k] = v;
     }
 }
 
@@ -77,5 +82,5 @@ pub fn scanner_bound(jobs: &[u64], s: State, k: usize, m: &[u64]) -> u64
     requires { ⌜ Bounding (now jobs) s k (now m) ⌝ }
     ensures { λ r. ⌜ (r ≡ scannerBound (now (m .entry)) s) × (r ≤ boundCap) ⌝ }
 {
-    s.cost + m[5488 + k]
+    s.cost + m[LABELS_LENGTH + k]
 }

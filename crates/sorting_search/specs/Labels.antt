@@ -1,10 +1,10 @@
 -- The dominance memory: for each count vector four labels, each the cost and the desks' free times of a state that was explored. A state that a label dominates
 -- has no completion below the label's, so what a label dominates is bounded by the incumbent. That is the memory's invariant: it is stated by its use.
-use mathlib.Core.Path.{_≡_, refl, sym, ap, subst, _∙_}
-use mathlib.Core.Bool.{Bool, true, false}
+use mathlib.Core.Path.{_≡_, sym, ap, subst, _∙_}
+use mathlib.Core.Bool.{true, false}
 use mathlib.Core.List.{List}
 use Prim.Native.Nat.{ℕ, zero, suc, _+_, _-_, _*_, _≤_, _<_}
-use native.Mathlib.Nat.{le-refl, le-trans, mul-le-mul-left}
+use native.Mathlib.Nat.{le-trans, mul-le-mul-left}
 use native.Mathlib.Decide.{ℕ-discrete}
 use native.Mathlib.Omega.{arith}
 use lib.ListN.{length, getD, set, length-set, List·getD-eq-default}
@@ -12,17 +12,17 @@ use lib.Seq.{getD-set-same, getD-set-other, ext-getD}
 use Rattle.sheet.specs.Limits.{tableLength}
 use Rattle.interleaving.specs.declared.State.{State}
 use Rattle.interleaving.specs.declared.Incumbent.{Incumbent}
-use Rattle.interleaving.specs.Instance.{Instance, scanOf, deskOf, weightOf, stripCost, costCap}
-use Rattle.interleaving.specs.Search.{maxOf, StripLeft, scanned, finish, stepOf, searchFrom, LowerBound}
-use Rattle.interleaving.specs.SearchLaws.{max-left, max-right, max-least, bound-down, search-bound, search-stays, search-falls}
+use Rattle.interleaving.specs.Instance.{largest, Instance, deskOf, weightOf}
+use Rattle.interleaving.specs.Search.{maxOf, scanned, finish, stepOf, searchFrom, LowerBound}
+use Rattle.interleaving.specs.SearchLaws.{max-left, max-right, max-least, bound-down, search-bound, search-falls}
 use Rattle.interleaving.specs.Consistent.{Consistent, sum3, scanSum}
 use Rattle.sorting_bounds.specs.Layout.{countKey, labelsLength}
 
 -- a number that no label has
 abbrev pub noLabel : ℕ
-noLabel = 18_446_744_073_709_551_615
+noLabel = largest
 
--- s is no worse than z, at equal counts
+-- s dominates z: the counts are equal, and neither the cost nor a desk's free time is larger
 pub record Dominates (s z : State) : Type 0 where
   pub time : s .time ≡ z .time
   pub taken : s .taken ≡ z .taken
@@ -63,6 +63,7 @@ module _ (J : List ℕ) where
   unfolding LowerBound
   bound-dominates zero s z B m h = omega (arith, m .cost)
   bound-dominates (suc k) s z B m h = λ d p l. bound-dominates k (stepOf J s d) (stepOf J z d) B (dominates-step s z d p m) (h d p (rw (m .taken) l))
+
 -- the label at a dominates s
 pub record LabelDominates (M : List ℕ) (a : ℕ) (s : State) : Type 0 where
   pub cost : getD M a 0 ≤ s .cost
@@ -78,7 +79,7 @@ pub record Dominated (M : List ℕ) (s : State) : Type 0 where
   pub few : slot < 4
   pub under : LabelDominates M (labelPlace (countKey s) slot) s
 
--- what the memory is good for: what a label covers cannot beat B
+-- the memory's invariant: what a label dominates is bounded by B from below
 unfoldable pub LabelsHold : List ℕ → List ℕ → ℕ → Type 0
 LabelsHold J M B = (s : State) → Consistent J s → Dominated M s → LowerBound J (s .left) s B
 
@@ -91,7 +92,7 @@ pub labels-bound : (J M : List ℕ) (s : State) (B : ℕ) → LabelsHold J M B �
 unfolding LabelsHold
 labels-bound J M s B h g c = h s g c
 
--- a label is stored
+-- the label of s, stored at a
 abbrev pub storeLabel : List ℕ → ℕ → State → List ℕ
 storeLabel M a s = set (set (set (set M a (s .cost)) (a + 1) (getD (s .free) 0 0)) (a + 2) (getD (s .free) 1 0)) (a + 3) (getD (s .free) 2 0)
 
@@ -211,6 +212,7 @@ module _ (J : List ℕ) (j : Instance J) where
 
 pub never : {A : Type 0} → false ≡ true → A
 never e = let z : _≡_ {A = ℕ} 0 1 = cc in absurd (omega arith)
+
 pub labels-search : (J M : List ℕ) (k : ℕ) (s : State) (b r : Incumbent) → LabelsHold J M (b .figure) → r ≡ searchFrom J k s b → LabelsHold J M (r .figure)
 labels-search J M k s b r h e = labels-down J M (b .figure) (r .figure) (rw e (search-falls J k s b)) h
 

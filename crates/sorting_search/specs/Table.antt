@@ -2,25 +2,23 @@
 use mathlib.Core.Path.{_≡_, refl, sym, ap, subst, _∙_}
 use mathlib.Core.Bool.{Bool, true}
 use mathlib.Core.List.{List}
-use Prim.Native.Nat.{ℕ, zero, suc, _+_, _-_, _*_, _≤_, _<_}
-use native.Mathlib.Nat.{le-refl, le-trans}
+use Prim.Native.Nat.{ℕ, _+_, _-_, _≤_, _<_}
 use native.Mathlib.Omega.{arith}
-use lib.ListN.{length, getD, set, length-set}
-use lib.Seq.{getD-set-same, getD-set-other}
+use lib.ListN.{length, getD, length-set}
 use lib.Dec.{ltb}
 use borrow.Author.Tests.{ltb-true}
 use Rattle.sheet.specs.Limits.{tableLength}
 use Rattle.interleaving.specs.declared.State.{State}
 use Rattle.interleaving.specs.declared.Incumbent.{Incumbent}
 use Rattle.interleaving.specs.Instance.{Instance}
-use Rattle.interleaving.specs.Search.{StripLeft, stepOf, keep, overDesks, branch, searchFrom, LowerBound, startState, firstBest, noIncumbent}
+use Rattle.interleaving.specs.Search.{StripLeft, stepOf, keep, overDesks, branch, searchFrom, LowerBound}
 use Rattle.interleaving.specs.SearchLaws.{over-none, branch-again-yes, branch-again-no, step-left, search-leaf, search-desks, search-stays, bound-down}
 use Rattle.interleaving.specs.Caps.{CanServe}
-use Rattle.interleaving.specs.Consistent.{Consistent, consistent-step, consistent-start}
+use Rattle.interleaving.specs.Consistent.{Consistent, consistent-step}
 use Rattle.sorting_search.specs.Labels.{labelPlace, LabelsHold, NoLabels, Cleared, Dominated, storeLabel, Stored, store-other, labels-search, labels-done, labels-none, labels-bound}
-use Rattle.sorting_bounds.specs.Layout.{countKey, labelsLength}
+use Rattle.sorting_bounds.specs.Layout.{countKey}
 use Rattle.sorting_bounds.specs.DeskBound.{boundCap, deskBound, desk-bound-holds}
-use Rattle.sorting_bounds.specs.ScannerBound.{filledFrom, EntriesFrom, Entry, entryAt, entries-same, scannerBound, scanner-bound-holds}
+use Rattle.sorting_bounds.specs.ScannerBound.{filledFrom, EntriesFrom, entries-same, scannerBound, scanner-bound-holds}
 use Rattle.sorting_bounds.specs.ScannerTable.{Bounding, Filled, filled}
 
 -- what the table holds while the incumbent's figure is B

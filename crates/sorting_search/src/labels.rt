@@ -9,6 +9,10 @@ ghost use Rattle.sorting_search.specs.Labels.{LabelDominates, Dominated,
 ghost use Rattle.sorting_bounds.specs.Layout.{countKey};
 ghost use Rattle.sheet.specs.Limits.{tableLength};
 use interleaving::State;
+use sorting_bounds::LABELS_LENGTH;
+
+// A number that no label has.
+const NO_LABEL: u64 = 18_446_744_073_709_551_615;
 
 // The number of the count vector of s.
 pub fn count_key(jobs: &[u64], s: State) -> usize
@@ -91,14 +95,14 @@ pub fn store_label(s: State, k: usize, m: &mut [u64])
     write_label(s, m, (k * 4 + j) * 4);
 }
 
-// No label: a cost that no state reaches.
+// No label at any count vector.
 pub fn clear_labels(m: &mut [u64])
     requires { ⌜ length (now m) ≡ tableLength ⌝ }
     ensures { λ _. ⌜ Cleared (now (m .exit)) ⌝ }
 {
     let mut i: usize = 0;
-    while i < 5488 {
-        m[i] = 18446744073709551615;
+    while i < LABELS_LENGTH {
+        m[i] = NO_LABEL;
         i += 1;
     }
 }

@@ -3,7 +3,8 @@ ghost use mathlib.Core.Path.{_≡_};
 ghost use mathlib.Core.Bool.{true};
 ghost use Rattle.interleaving.specs.Search.{LowerBound, firstBest};
 ghost use Rattle.sorting_search.specs.Table.{Searchable, Searched, Cuttable, Lent};
-use interleaving::{Incumbent, State};
+use interleaving::Incumbent;
+use interleaving::State;
 
 mod greedy;
 mod labels;

@@ -1,3 +1,4 @@
+-- `interleaving::keep_better` meets its contract: the incumbent gives way only to a smaller cost, by the test of the definition.
 use borrow.Author.Tests.{lt-ltb, le-ltb}
 use Rattle.interleaving.specs.Search.{keep}
 use Rattle.interleaving.proofs.keep_better.Statement.{statement}

@@ -1,3 +1,4 @@
+-- `interleaving::later` meets its contract: the greater of two, by the test of the definition.
 use borrow.Author.Tests.{lt-ltb, le-ltb}
 use Rattle.interleaving.specs.Search.{maxOf}
 use Rattle.interleaving.proofs.later.Statement.{statement}

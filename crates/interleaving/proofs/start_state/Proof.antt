@@ -1,3 +1,4 @@
+-- `interleaving::start_state` meets its contract: at most 18 strips in all, so that their sum fits.
 use Rattle.interleaving.specs.Search.{startState}
 use Rattle.interleaving.specs.Consistent.{start-sum}
 use mathlib.Core.Path.{refl}

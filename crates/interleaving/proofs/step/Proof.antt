@@ -1,6 +1,7 @@
+-- `interleaving::step` meets its contract. What the strip's sums come to is known from `can-serve-capped`, so that none wraps;
+-- the new state is the definition's.
 use Rattle.interleaving.specs.Caps.{can-serve-capped, step-capped-by}
 use Rattle.interleaving.specs.SearchLaws.{step-is}
-use mathlib.Core.Path.{_≡_, refl, sym, ap, _∙_}
 use native.Mathlib.Omega.{arith}
 use borrow.Author.Needs.{needs}
 use Rattle.interleaving.proofs.step.Statement.{statement}

@@ -1,12 +1,8 @@
+-- `sorting::plan_sorting` meets its contract: the section is an instance, the search returns its first best list, and the list's jobs are written.
 use Rattle.sorting.specs.Contracts.{lent-search, search-listed, planned}
 use borrow.Author.Needs.{needs}
 use Rattle.sorting.proofs.plan_sorting.Statement.{statement}
 use Rattle.sorting.proofs.plan_sorting.Tie as tie
-use Rattle.sorting.proofs.plan_sorting.Reads as reads
-use Rattle.sorting.proofs.plan_sorting.Lts as lts
-use Rattle.sorting.proofs.instance.instance_of.Reads as instance-of-reads
-use Rattle.sorting.proofs.writing.plan_of.Reads as plan-of-reads
-use Rattle.sorting_search.proofs.best_interleaving.Reads as best-interleaving-reads
 
 instance-of-requires : tie.Need-instance-of-requires
 instance-of-requires c κs = search needs

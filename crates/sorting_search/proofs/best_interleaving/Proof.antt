@@ -1,14 +1,9 @@
+-- `sorting_search::best_interleaving` meets its contract: the table holds at the start, and the search from the greedy figure plus one returns
+-- what it returns from no incumbent.
 use Rattle.sorting_search.specs.Greedy.{bounded-start, searchable-start, searched-start}
 use borrow.Author.Needs.{needs}
 use Rattle.sorting_search.proofs.best_interleaving.Statement.{statement}
 use Rattle.sorting_search.proofs.best_interleaving.Tie as tie
-use Rattle.sorting_search.proofs.best_interleaving.Reads as reads
-use Rattle.sorting_search.proofs.best_interleaving.Lts as lts
-use Rattle.interleaving.proofs.start_state.Reads as start-state-reads
-use Rattle.sorting_search.proofs.greedy.greedy.Reads as greedy-reads
-use Rattle.sorting_search.proofs.labels.clear_labels.Reads as clear-labels-reads
-use Rattle.sorting_bounds.proofs.scanner_bound.fill_scanner_table.Reads as fill-scanner-table-reads
-use Rattle.sorting_search.proofs.search.Reads as search-reads
 
 clear-labels-requires : tie.Need-clear-labels-requires
 clear-labels-requires c κs = search needs

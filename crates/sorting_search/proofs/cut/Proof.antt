@@ -1,13 +1,9 @@
+-- `sorting_search::cut` meets its contract: each of its three tests is one law that the figure bounds the state from below.
 use Rattle.sorting_search.specs.Table.{cut-by-scanner, cut-by-label, cut-by-desks}
 use Rattle.sorting_search.specs.Labels.{never}
 use borrow.Author.Needs.{needs}
 use Rattle.sorting_search.proofs.cut.Statement.{statement}
 use Rattle.sorting_search.proofs.cut.Tie as tie
-use Rattle.sorting_search.proofs.cut.Reads as reads
-use Rattle.sorting_search.proofs.cut.Lts as lts
-use Rattle.sorting_bounds.proofs.desk_bound.desk_bound.Reads as desk-bound-reads
-use Rattle.sorting_search.proofs.labels.dominated.Reads as dominated-reads
-use Rattle.sorting_bounds.proofs.scanner_bound.scanner_bound.Reads as scanner-bound-reads
 
 scanner-bound-requires : tie.Need-scanner-bound-requires
 scanner-bound-requires c κs = search needs

@@ -1,11 +1,10 @@
+-- `sorting::instance::instance_of` meets its contract. The loop's invariant: the counts, the times written so far, and weight 1 for each strip.
 use Rattle.sorting.specs.Instance.{Timed, timed-start, timed-more, timed-end}
 use Prim.Native.Nat.{_-_}
 use borrow.Author.Needs.{needs}
 use native.Mathlib.Omega.{arith}
 use Rattle.sorting.proofs.instance.instance_of.Statement.{statement}
 use Rattle.sorting.proofs.instance.instance_of.Tie as tie
-use Rattle.sorting.proofs.instance.instance_of.Reads as reads
-use Rattle.sorting.proofs.instance.instance_of.Lts as lts
 
 abbrev Inv-loop : tie.InvT-loop
 Inv-loop scan desk jobs₀ k₀ jobs k = Timed jobs₀ scan desk jobs k

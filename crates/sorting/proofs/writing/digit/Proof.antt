@@ -1,11 +1,10 @@
+-- `sorting::writing::digit` meets its contract. The loop's invariant: the rest is the number without its last i digits.
 use Rattle.sorting.specs.Writing.{digit-start, digit-more, digit-end}
-use Prim.Native.Nat.{ℕ, _-_, _/_, _%_, _^_, _≤_}
-use mathlib.Core.Path.{_≡_, ap}
+use Prim.Native.Nat.{_-_, _/_, _^_, _≤_}
+use mathlib.Core.Path.{_≡_}
 use native.Mathlib.Omega.{arith}
 use Rattle.sorting.proofs.writing.digit.Statement.{statement}
 use Rattle.sorting.proofs.writing.digit.Tie as tie
-use Rattle.sorting.proofs.writing.digit.Reads as reads
-use Rattle.sorting.proofs.writing.digit.Lts as lts
 
 abbrev Inv-loop : tie.InvT-loop
 Inv-loop path k rest₀ i₀ rest i = (i ≤ k) × (rest ≡ path / 4 ^ i)

@@ -1,14 +1,9 @@
+-- `sorting::writing::plan_of` meets its contract. The loop's invariant: the jobs written are those of the chosen list, and the state is the one that it has reached.
 use Rattle.sorting.specs.Writing.{Begun, begun-start, loop-digit, loop-appending, loop-serves, loop-falls, loop-more, begun-end}
 use borrow.Author.Needs.{needs}
 use native.Mathlib.Omega.{arith}
 use Rattle.sorting.proofs.writing.plan_of.Statement.{statement}
 use Rattle.sorting.proofs.writing.plan_of.Tie as tie
-use Rattle.sorting.proofs.writing.plan_of.Reads as reads
-use Rattle.sorting.proofs.writing.plan_of.Lts as lts
-use Rattle.interleaving.proofs.start_state.Reads as start-state-reads
-use Rattle.interleaving.proofs.step.Reads as step-reads
-use Rattle.sorting.proofs.writing.digit.Reads as digit-reads
-use Rattle.sorting.proofs.writing.with_job.Reads as with-job-reads
 
 abbrev Inv-loop : tie.InvT-loop
 Inv-loop jobs best p₀ s₀ p s = Begun jobs best p s

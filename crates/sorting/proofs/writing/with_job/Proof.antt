@@ -1,11 +1,9 @@
+-- `sorting::writing::with_job` meets its contract: four stores at the plan's end. The step's caps keep the sums from wrapping.
 use Rattle.sorting.specs.Writing.{with-job-is}
 use native.Mathlib.Omega.{arith}
 use borrow.Author.Needs.{needs}
 use Rattle.sorting.proofs.writing.with_job.Statement.{statement}
 use Rattle.sorting.proofs.writing.with_job.Tie as tie
-use Rattle.sorting.proofs.writing.with_job.Reads as reads
-use Rattle.sorting.proofs.writing.with_job.Lts as lts
-use Rattle.interleaving.proofs.later.Reads as later-reads
 
 mul-i : tie.Need-mul-i
 mul-i c = search needs

@@ -1,3 +1,4 @@
+-- `sorting_bounds::desk_bound::desk_bound` meets its contract: the cost and three rests, each at most `restCap`.
 use Rattle.sorting_bounds.specs.DeskBound.{deskBound}
 use native.Mathlib.Omega.{arith}
 use borrow.Author.Needs.{needs}

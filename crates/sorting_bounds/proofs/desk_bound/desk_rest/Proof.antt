@@ -1,8 +1,10 @@
-use Rattle.sorting_bounds.specs.DeskBound.{aloneSum, deskRest, RestSoFar, rest-none, rest-more, rest-all, rest-small, strip-small, later-small, weighed-small}
-use lib.ListN.{length, getD}
+-- `sorting_bounds::desk_bound::desk_rest` meets its contract. The loop's invariant: what is summed and what is left are together the whole rest;
+-- each strip adds at most `restSpan`.
+use Rattle.sorting_bounds.specs.DeskBound.{aloneSum, deskRest, RestSoFar, rest-none, rest-more, rest-all, rest-small, strip-small, later-small, weighted-small}
+use lib.ListN.{getD}
 use borrow.Author.Needs.{needs}
-use mathlib.Core.Path.{_≡_, refl, ap, _∙_}
-use Prim.Native.Nat.{_≤_, _<_, _-_, _+_}
+use mathlib.Core.Path.{_≡_, refl}
+use Prim.Native.Nat.{_-_}
 use native.Mathlib.Omega.{arith}
 use Rattle.sorting_bounds.proofs.desk_bound.desk_rest.Statement.{statement}
 use Rattle.sorting_bounds.proofs.desk_bound.desk_rest.Tie as tie
@@ -68,7 +70,7 @@ add-f-2 : tie.Need-add-f-2 Inv-loop μ-loop
 add-f-2 c = let a = strip-small _ (c .before .before .before .before .before .before .before .before .before .pre .0) _ _ _ _ _ _ (c .before .before .before .before .loop .inv .1) (omega arith) in let b = later-small _ (c .before .before .before .before .before .before .before .before .before .pre .0) _ _ _ _ _ _ (c .before .before .before .before .loop .inv .1) (omega arith) in omega arith
 
 add-sum : tie.Need-add-sum Inv-loop μ-loop
-add-sum c = let e = weighed-small _ (c .before .before .before .before .before .before .before .before .before .pre .0) _ _ _ _ _ _ (c .before .before .before .before .loop .inv .1) (omega arith) _ (c .before .later .ensures) in omega arith
+add-sum c = let e = weighted-small _ (c .before .before .before .before .before .before .before .before .before .pre .0) _ _ _ _ _ _ (c .before .before .before .before .loop .inv .1) (omega arith) _ (c .before .later .ensures) in omega arith
 
 mul-sum : tie.Need-mul-sum Inv-loop μ-loop
 mul-sum c = omega arith
@@ -77,10 +79,10 @@ shared-slice-read-sum : tie.Need-shared-slice-read-sum Inv-loop μ-loop
 shared-slice-read-sum c = omega arith
 
 mul-sum-2 : tie.Need-mul-sum-2 Inv-loop μ-loop
-mul-sum-2 c = let e = weighed-small _ (c .before .before .before .before .before .before .before .before .before .before .pre .0) _ _ _ _ _ _ (c .before .before .before .before .before .loop .inv .1) (omega arith) _ (c .before .before .later .ensures) in omega arith
+mul-sum-2 c = let e = weighted-small _ (c .before .before .before .before .before .before .before .before .before .before .pre .0) _ _ _ _ _ _ (c .before .before .before .before .before .loop .inv .1) (omega arith) _ (c .before .before .later .ensures) in omega arith
 
 add-sum-2 : tie.Need-add-sum-2 Inv-loop μ-loop
-add-sum-2 c = let e = weighed-small _ (c .before .before .before .before .before .before .before .before .before .before .pre .0) _ _ _ _ _ _ (c .before .before .before .before .before .loop .inv .1) (omega arith) _ (c .before .before .later .ensures) in omega arith
+add-sum-2 c = let e = weighted-small _ (c .before .before .before .before .before .before .before .before .before .before .pre .0) _ _ _ _ _ _ (c .before .before .before .before .before .loop .inv .1) (omega arith) _ (c .before .before .later .ensures) in omega arith
 
 add-i : tie.Need-add-i Inv-loop μ-loop
 add-i c = omega arith

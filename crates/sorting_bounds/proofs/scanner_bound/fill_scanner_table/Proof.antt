@@ -1,10 +1,8 @@
+-- `sorting_bounds::scanner_bound::fill_scanner_table` meets its contract. The loop's invariant: the table is the definition's with the entries from k on.
 use Rattle.sorting_bounds.specs.ScannerTable.{Filling, filling-start, filling-enter, filling-more, filling-end}
 use native.Mathlib.Omega.{arith}
 use Rattle.sorting_bounds.proofs.scanner_bound.fill_scanner_table.Statement.{statement}
 use Rattle.sorting_bounds.proofs.scanner_bound.fill_scanner_table.Tie as tie
-use Rattle.sorting_bounds.proofs.scanner_bound.fill_scanner_table.Reads as reads
-use Rattle.sorting_bounds.proofs.scanner_bound.fill_scanner_table.Lts as lts
-use Rattle.sorting_bounds.proofs.scanner_bound.scanner_entry.Reads as scanner-entry-reads
 
 abbrev Inv-loop : tie.InvT-loop
 Inv-loop jobs m₀ k₀ m k = Filling jobs m₀ m k

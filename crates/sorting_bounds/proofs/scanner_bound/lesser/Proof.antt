@@ -1,3 +1,4 @@
+-- `sorting_bounds::scanner_bound::lesser` meets its contract, by the test of the definition.
 use borrow.Author.Tests.{lt-ltb, le-ltb}
 use Rattle.sorting_bounds.specs.ScannerBound.{lesserOf}
 use Rattle.sorting_bounds.proofs.scanner_bound.lesser.Statement.{statement}

@@ -1,10 +1,9 @@
+-- `sorting_bounds::scanner_bound::scan_sum` meets its contract. The loop's invariant: the sum is that of the strips passed, at most `timeCap` each.
 use Rattle.sorting_bounds.specs.ScannerTable.{SumSoFar, sum-start, sum-more, sum-end}
 use Prim.Native.Nat.{_-_}
 use native.Mathlib.Omega.{arith}
 use Rattle.sorting_bounds.proofs.scanner_bound.scan_sum.Statement.{statement}
 use Rattle.sorting_bounds.proofs.scanner_bound.scan_sum.Tie as tie
-use Rattle.sorting_bounds.proofs.scanner_bound.scan_sum.Reads as reads
-use Rattle.sorting_bounds.proofs.scanner_bound.scan_sum.Lts as lts
 
 abbrev Inv-loop : tie.InvT-loop
 Inv-loop jobs d n sum₀ i₀ sum i = SumSoFar jobs d n sum i

@@ -1,10 +1,9 @@
+-- `sorting_bounds::scanner_bound::scanner_bound` meets its contract: the cost and the entry of the state's own count vector.
 use Rattle.sorting_bounds.specs.ScannerTable.{bounding-small, bounding-is}
 use native.Mathlib.Omega.{arith}
 use borrow.Author.Needs.{needs}
 use Rattle.sorting_bounds.proofs.scanner_bound.scanner_bound.Statement.{statement}
 use Rattle.sorting_bounds.proofs.scanner_bound.scanner_bound.Tie as tie
-use Rattle.sorting_bounds.proofs.scanner_bound.scanner_bound.Reads as reads
-use Rattle.sorting_bounds.proofs.scanner_bound.scanner_bound.Lts as lts
 
 add-result : tie.Need-add-result
 add-result c = search needs

@@ -1,14 +1,10 @@
+-- `sorting_bounds::scanner_bound::scanner_entry` meets its contract: where no strip is left the entry is 0, else the least of three rests.
 use Rattle.sorting_bounds.specs.ScannerTable.{enter-first, enter-second, enter-third, entry-none, entry-some}
 use mathlib.Core.Path.{refl}
 use native.Mathlib.Omega.{arith}
 use borrow.Author.Needs.{needs}
 use Rattle.sorting_bounds.proofs.scanner_bound.scanner_entry.Statement.{statement}
 use Rattle.sorting_bounds.proofs.scanner_bound.scanner_entry.Tie as tie
-use Rattle.sorting_bounds.proofs.scanner_bound.scanner_entry.Reads as reads
-use Rattle.sorting_bounds.proofs.scanner_bound.scanner_entry.Lts as lts
-use Rattle.sorting_bounds.proofs.scanner_bound.lesser.Reads as lesser-reads
-use Rattle.sorting_bounds.proofs.scanner_bound.scan_sum.Reads as scan-sum-reads
-use Rattle.sorting_bounds.proofs.scanner_bound.through.Reads as through-reads
 
 shared-slice-read-if1 : tie.Need-shared-slice-read-if1
 shared-slice-read-if1 c = search needs

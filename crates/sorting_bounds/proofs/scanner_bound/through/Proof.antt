@@ -1,11 +1,9 @@
+-- `sorting_bounds::scanner_bound::through` meets its contract: the two cases of the definition. The entry behind is at most `entryCap`, so that no sum wraps.
 use Rattle.sorting_bounds.specs.ScannerTable.{strip-sums, through-none, through-some}
 use native.Mathlib.Omega.{arith}
 use borrow.Author.Needs.{needs}
 use Rattle.sorting_bounds.proofs.scanner_bound.through.Statement.{statement}
 use Rattle.sorting_bounds.proofs.scanner_bound.through.Tie as tie
-use Rattle.sorting_bounds.proofs.scanner_bound.through.Reads as reads
-use Rattle.sorting_bounds.proofs.scanner_bound.through.Lts as lts
-use Rattle.sorting_bounds.proofs.scanner_bound.lesser.Reads as lesser-reads
 
 mul-if1 : tie.Need-mul-if1
 mul-if1 c = search needs

@@ -1,12 +1,8 @@
+-- `sorting_search::greedy::better_desk` meets its contract: both desks have a strip left where they are compared.
 use Rattle.sorting_search.specs.Greedy.{serve-if, bounded-step}
 use borrow.Author.Needs.{needs}
 use Rattle.sorting_search.proofs.greedy.better_desk.Statement.{statement}
 use Rattle.sorting_search.proofs.greedy.better_desk.Tie as tie
-use Rattle.sorting_search.proofs.greedy.better_desk.Reads as reads
-use Rattle.sorting_search.proofs.greedy.better_desk.Lts as lts
-use Rattle.interleaving.proofs.step.Reads as step-reads
-use Rattle.interleaving.proofs.strip_left.Reads as strip-left-reads
-use Rattle.sorting_search.proofs.greedy.lower_bound.Reads as lower-bound-reads
 
 strip-left-requires : tie.Need-strip-left-requires
 strip-left-requires c κs = search needs

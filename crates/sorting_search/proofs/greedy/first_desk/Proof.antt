@@ -1,10 +1,8 @@
+-- `sorting_search::greedy::first_desk` meets its contract: where neither of the first two desks has a strip left, the third has.
 use Rattle.sorting_search.specs.Greedy.{serve-first-if, serve-second-if, serve-last-if}
 use borrow.Author.Needs.{needs}
 use Rattle.sorting_search.proofs.greedy.first_desk.Statement.{statement}
 use Rattle.sorting_search.proofs.greedy.first_desk.Tie as tie
-use Rattle.sorting_search.proofs.greedy.first_desk.Reads as reads
-use Rattle.sorting_search.proofs.greedy.first_desk.Lts as lts
-use Rattle.interleaving.proofs.strip_left.Reads as strip-left-reads
 
 strip-left-requires : tie.Need-strip-left-requires
 strip-left-requires c κs = search needs

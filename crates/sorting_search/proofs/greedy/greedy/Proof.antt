@@ -1,12 +1,8 @@
+-- `sorting_search::greedy::greedy` meets its contract. The loop's invariant: what completes the present state completes the first.
 use borrow.Author.Needs.{needs}
 use Rattle.sorting_search.specs.Greedy.{Leads, leads-start, leads-going, leads-step, leads-less, leads-end}
-use native.Mathlib.Omega.{arith}
 use Rattle.sorting_search.proofs.greedy.greedy.Statement.{statement}
 use Rattle.sorting_search.proofs.greedy.greedy.Tie as tie
-use Rattle.sorting_search.proofs.greedy.greedy.Reads as reads
-use Rattle.sorting_search.proofs.greedy.greedy.Lts as lts
-use Rattle.interleaving.proofs.step.Reads as step-reads
-use Rattle.sorting_search.proofs.greedy.greedy_desk.Reads as greedy-desk-reads
 
 abbrev Inv-loop : tie.InvT-loop
 Inv-loop jobs m t₀ t = Leads jobs t₀ t m

@@ -1,8 +1,9 @@
+-- `sorting_search::labels::clear_labels` meets its contract. The loop's invariant: no label among the numbers passed.
 use Rattle.sorting_search.specs.Labels.{NoLabels, no-labels-more, no-labels-none, cleared}
 use Rattle.sheet.specs.Limits.{tableLength}
 use Rattle.sorting_bounds.specs.Layout.{labelsLength}
 use lib.ListN.{length, length-set}
-use mathlib.Core.Path.{_≡_, refl, ap, _∙_}
+use mathlib.Core.Path.{_≡_}
 use Prim.Native.Nat.{_≤_, _-_}
 use native.Mathlib.Omega.{arith}
 use Rattle.sorting_search.proofs.labels.clear_labels.Statement.{statement}

@@ -1,3 +1,4 @@
+-- `sorting_search::labels::costliest_label` meets its contract: one of the four places. Which one is free: any label may be replaced.
 use mathlib.Core.Logic.{⊎-elim}
 use Prim.Native.Nat.{_≤_, _<_, _-_}
 use native.Mathlib.Omega.{arith}

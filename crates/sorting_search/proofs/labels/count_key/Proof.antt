@@ -1,3 +1,4 @@
+-- `sorting_search::labels::count_key` meets its contract: each count is at most 6.
 use Rattle.sorting_bounds.specs.Layout.{key-digits}
 use native.Mathlib.Omega.{arith}
 use borrow.Author.Needs.{needs}

@@ -1,5 +1,5 @@
-use mathlib.Core.Path.{ap}
-use Rattle.sorting_search.specs.Labels.{never, Dominated}
+-- `sorting_search::labels::dominated` meets its contract: it says so only of a label that dominates.
+use Rattle.sorting_search.specs.Labels.{never}
 use Prim.Native.Nat.{_≤_, _-_}
 use native.Mathlib.Omega.{arith}
 use Rattle.sorting_search.proofs.labels.dominated.Statement.{statement}

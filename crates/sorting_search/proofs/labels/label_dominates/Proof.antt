@@ -1,5 +1,5 @@
+-- `sorting_search::labels::label_dominates` meets its contract: all four comparisons hold where it says so.
 use Rattle.sorting_search.specs.Labels.{never}
-use native.Mathlib.Omega.{arith}
 use borrow.Author.Needs.{needs}
 use Rattle.sorting_search.proofs.labels.label_dominates.Statement.{statement}
 use Rattle.sorting_search.proofs.labels.label_dominates.Tie as tie

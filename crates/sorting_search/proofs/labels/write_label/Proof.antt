@@ -1,3 +1,4 @@
+-- `sorting_search::labels::write_label` meets its contract: four stores, as the definition has them.
 use lib.ListN.{length-set}
 use native.Mathlib.Omega.{arith}
 use borrow.Author.Needs.{needs}
