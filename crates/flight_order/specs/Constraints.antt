@@ -7,7 +7,7 @@ use Prim.Native.Nat.{ℕ, _+_, _-_, _*_}
 use lib.Dec.{ltb, eqb}
 use lib.ListN.{getD}
 use Rattle.order.specs.Order.{bit, seconds, firsts}
-use Rattle.difference.specs.System.{System, leastValues, solvable}
+use Rattle.difference.specs.System.{System, value, leastValues, solvable}
 use Rattle.sheet.specs.declared.FlightSection.{FlightSection}
 use Rattle.flight_order.specs.declared.Constraint.{Constraint}
 
@@ -66,3 +66,8 @@ leastStarts f order = leastValues (systemFor (exactFlight f order))
 
 unfoldable pub possibleIn : FlightSection → ℕ → Bool
 possibleIn f order = solvable (systemFor (exactFlight f order))
+
+-- The end of the last pass, which in every proper order is the second pass of the last block; 0 where there is no block.
+unfoldable pub orderFigure : FlightSection → ℕ → ℕ
+orderFigure f order =
+    cond (eqb (f .blocks) 0) 0 (value (leastStarts f order) (2 * f .blocks - 1) + getD (f .second) (f .blocks - 1) 0)

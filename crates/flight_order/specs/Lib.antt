@@ -7,3 +7,4 @@ pub mod Positions
 pub mod Timetable
 pub mod Lawful
 pub mod Ceiling
+pub mod Planned
