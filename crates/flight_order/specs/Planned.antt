@@ -30,7 +30,7 @@ module _ (f : FlightSection) (w : ℕ) (sound : FlightSound f) (proper : Proper 
   schedule-possible some y s =
       solution-solvable (systemFor (exactFlight f w)) (inside (exactFlight f w) (sound-good f w sound some proper)) y (schedule-solves (exactFlight f w) y s)
 
-  empty-possible : (0 < f .blocks → ⊥) → possibleIn f w ≡ true
+  pub empty-possible : (0 < f .blocks → ⊥) → possibleIn f w ≡ true
   unfolding possibleIn solvable holds
   empty-possible none = ap (λ (m : ℕ). holds (systemFor (exactFlight f w)) m (leastValues (systemFor (exactFlight f w)))) e
     where
