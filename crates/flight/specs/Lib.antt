@@ -3,3 +3,5 @@ pub mod Search
 pub mod Choice
 pub mod Searched
 pub mod Alternate
+pub mod Chosen
+pub mod Theorems

@@ -131,3 +131,8 @@ module _ (f : FlightSection) (w : ℕ) (sound : FlightSound f) (proper : Proper 
             figure-some some,
           )
       go (no none) = omega (arith, figure-none none)
+
+  -- Every pass ends by 960,000.
+  pub least-ends : possibleIn f w ≡ true → (p : ℕ) → p < 2 * f .blocks → passEnd f (leastPasses f w) p ≤ 960000
+  unfolding passEnd
+  least-ends e p l = rw (start-least p l) (least-end f sound w (omega arith) proper e p l)
