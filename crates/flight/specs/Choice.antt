@@ -31,7 +31,16 @@ chosenPasses f = leastPasses f (chosenOrder f)
 unfoldable pub passesOf : ℕ → FlightPlan → List Passes
 passesOf n r = listOf n (λ i. record { first = getD (r .first) i 0; second = getD (r .second) i 0 })
 
--- The planner's promise. Where the plan is not possible, its figure and its passes are no timetable.
+-- The plan in an order: whether the order is possible, and the least starts. Where it is not possible, figure and passes are no timetable's.
+pub record PlannedIn (f : FlightSection) (w : ℕ) (r : FlightPlan) : Type 0 where
+  pub possible : r .possible ≡ possibleIn f w
+  pub figure : r .figure ≡ orderFigure f w
+  pub order : r .order ≡ w
+  pub passes : passesOf (f .blocks) r ≡ leastPasses f w
+  pub no-more-first : (i : ℕ) → f .blocks ≤ i → getD (r .first) i 0 ≡ 0
+  pub no-more-second : (i : ℕ) → f .blocks ≤ i → getD (r .second) i 0 ≡ 0
+
+-- The planner's promise.
 pub record Planned (f : FlightSection) (r : FlightPlan) : Type 0 where
   pub possible : r .possible ≡ isPossible f
   pub figure : r .figure ≡ leastFigure f

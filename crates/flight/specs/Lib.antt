@@ -3,5 +3,6 @@ pub mod Search
 pub mod Choice
 pub mod Searched
 pub mod Alternate
+pub mod Contracts
 pub mod Chosen
 pub mod Theorems

@@ -11,7 +11,8 @@ use borrow.Author.Tests.{lt-ltb, le-ltb, eq-eqb, ne-eqb}
 use Rattle.order.specs.Order.{bit, seconds, firsts, Proper}
 use Rattle.order.specs.Seconds.{bit-cases}
 use Rattle.order.specs.Blocks.{proper-firsts, proper-first, proper-second}
-use Rattle.difference.specs.System.{Inside}
+use Rattle.difference.specs.System.{Inside, value, leastValues}
+use Rattle.difference.specs.Round.{rounds-bound}
 use Rattle.flight_order.specs.Constraints.{OrderedFlight, passOf, timeOf, constraintOf, systemFor}
 use Rattle.flight_order.specs.Schedule.{constraint-least, constraint-most, constraint-order}
 use Rattle.flight_order.specs.declared.Constraint.{Constraint}
@@ -90,3 +91,9 @@ module _ (F : OrderedFlight) (good : Good F) where
     from-in = λ k l. constraint-small k l .from-in;
     to-in = λ k l. constraint-small k l .to-in;
   }
+
+  -- The least values stay far below 64 bits.
+  pub least-low : (p : ℕ) → value (leastValues (systemFor F)) p ≤ 2 ^ 60
+  unfolding leastValues
+  least-low p =
+      omega (arith, rounds-bound (systemFor F) (omega (arith, good .few)) (λ k l. constraint-small k l .up-low) (2 * F .blocks) p, good .few)
