@@ -35,14 +35,20 @@ pub record SearchAsked (n left x : ℕ) (first second delay rows starts : List �
   pub within : left ≤ 2 * n
   pub begun : Beginning n (2 * n - left) x
 
-pub record PlanAsked (f : FlightSection) : Type 0 where
+pub record PlanAsked (f : FlightSection) (rows starts : List ℕ) : Type 0 where
   pub sound : FlightSound f
   pub some : 0 < f .blocks
+  pub rows-length : length rows ≡ 4 * (4 * f .blocks - 1)
+  pub starts-length : length starts ≡ 2 * f .blocks
 
-pub record OrderAsked (f : FlightSection) (order : ℕ) : Type 0 where
-  pub sound : FlightSound f
-  pub some : 0 < f .blocks
+pub record OrderAsked (f : FlightSection) (order : ℕ) (rows starts : List ℕ) : Type 0 where
+  pub plan : PlanAsked f rows starts
   pub proper : Proper (f .blocks) order
+
+pub record CopyAsked (starts : List ℕ) (from n : ℕ) : Type 0 where
+  pub few : n ≤ 32
+  pub within : from + n ≤ length starts
+  pub short : length starts ≤ 64
 
 -- n of the starts from `from` on, and zeros after them.
 pub record Copied (starts : List ℕ) (from n : ℕ) (r : List ℕ) : Type 0 where

@@ -5,7 +5,7 @@ ghost use lib.ListN.{length};
 ghost use Rattle.sheet.specs.Sound.{FlightSound};
 ghost use Rattle.flight.specs.Search.{tried, searched};
 ghost use Rattle.flight.specs.Choice.{ordersOf, chosenOrder, Planned, PlannedIn};
-ghost use Rattle.flight.specs.Contracts.{freeSection, TryAsked, SearchAsked, PlanAsked, OrderAsked, Copied};
+ghost use Rattle.flight.specs.Contracts.{freeSection, TryAsked, SearchAsked, PlanAsked, OrderAsked, CopyAsked, Copied};
 
 use sheet::FlightSection;
 
@@ -88,4 +88,63 @@ fn search<'a>(
     }
     let y = order::append_second(x, at);
     search(n, left - 1, y, first, second, delay, rows, starts, after)
+}
+
+// n starts from `from` on, and zeros after them.
+fn copy_starts(starts: &[u64], from: usize, n: usize) -> [u64; 32]
+    requires { ⌜ CopyAsked (now starts) from n ⌝ }
+    ensures { λ r. ⌜ Copied (now (starts .entry)) from n r ⌝ }
+{
+    let mut copy = [0; 32];
+    let mut i = 0;
+    while i < n {
+        copy[i] = starts[from + i];
+        i += 1;
+    }
+    copy
+}
+
+// The plan in one order, with room for its constraints and starts.
+fn plan_in_order(f: FlightSection, order: u64, rows: &mut [u64], starts: &mut [u64]) -> FlightPlan
+    requires { ⌜ OrderAsked f order (now rows) (now starts) ⌝ }
+    ensures { λ r. ⌜ PlannedIn f order r ⌝ }
+{
+    let n = f.blocks;
+    let first = f.first;
+    let second = f.second;
+    let delay = f.delay;
+    let possible = flight_order::least_starts(n, order, 0, &first, &second, &delay, &delay, rows, starts);
+    let last = 2 * n - 1;
+    let block = n - 1;
+    let figure = starts[last] + second[block];
+    let firsts = copy_starts(starts, 0, n);
+    let seconds = copy_starts(starts, n, n);
+    FlightPlan {
+        possible: possible,
+        figure: figure,
+        order: order,
+        first: firsts,
+        second: seconds,
+    }
+}
+
+// The given order, or the one that the search takes.
+fn choose_order(f: FlightSection, rows: &mut [u64], starts: &mut [u64]) -> u64
+    requires { ⌜ PlanAsked f (now rows) (now starts) ⌝ }
+    ensures { λ r. ⌜ r ≡ chosenOrder f ⌝ }
+{
+    if f.ordered {
+        return f.order;
+    }
+    let n = f.blocks;
+    let first = f.first;
+    let second = f.second;
+    let delay = f.delay;
+    let none = Incumbent {
+        possible: false,
+        figure: 0,
+        order: 0,
+    };
+    let best = search(n, 2 * n, 0, &first, &second, &delay, rows, starts, none);
+    best.order
 }
