@@ -13,7 +13,7 @@ pub record Copying (starts : List ℕ) (from n : ℕ) (copy : List ℕ) (i : ℕ
   pub long : length copy ≡ 32
   pub done : Copied starts from i copy
 
-zeros : (m i : ℕ) → _≡_ {A = ℕ} (getD (replicate m 0) i 0) 0
+pub zeros : (m i : ℕ) → _≡_ {A = ℕ} (getD (replicate m 0) i 0) 0
 zeros zero i = refl
 zeros (suc m) zero = refl
 zeros (suc m) (suc i) = zeros m i

@@ -6,7 +6,8 @@ use Prim.Native.Nat.{ℕ, zero, suc, _+_, _-_, _*_, _^_, _≤_, _<_}
 use native.Mathlib.Nat.{zero-add}
 use native.Mathlib.Omega.{arith}
 use lib.Dec.{eqb}
-use lib.ListN.{length, getD}
+use lib.ListN.{length, getD, take, replicate}
+use lib.Seq.{length-take-le}
 use borrow.Author.Tests.{ne-eqb}
 use Rattle.order.specs.Order.{Proper}
 use Rattle.order.specs.Beginning.{Beginning}
@@ -19,13 +20,15 @@ use Rattle.flight_order.specs.Constraints.{orderedFlight, leastStarts, possible
 use Rattle.flight_order.specs.Timetable.{listOf, passesFrom, leastPasses}
 use Rattle.flight_order.specs.Good.{least-low}
 use Rattle.flight_order.specs.Ceiling.{sound-good}
+use Rattle.flight_order.specs.Planned.{empty-possible, figure-none}
 use Rattle.flight_order.specs.Contracts.{Rooms, Least}
 use Rattle.flight.specs.Search.{noIncumbent, searched}
-use Rattle.flight.specs.Choice.{ordersOf, chosenOrder, passesOf, PlannedIn}
-use Rattle.flight.specs.Chosen.{chosen-given, chosen-free}
-use Rattle.flight.specs.Contracts.{freeSection, SearchRoom, SearchAsked, PlanAsked, OrderAsked, Copied}
+use Rattle.flight.specs.Choice.{ordersOf, chosenOrder, isPossible, leastFigure, chosenPasses, passesOf, PlannedIn, Planned}
+use Rattle.flight.specs.Chosen.{chosen-given, chosen-free, chosen-proper}
+use Rattle.flight.specs.Contracts.{freeSection, SearchRoom, SearchAsked, PlanAsked, OrderAsked, BlocksAsked, Copied}
 use Rattle.flight.specs.declared.Incumbent.{Incumbent}
 use Rattle.flight.specs.declared.FlightPlan.{FlightPlan}
+use Rattle.flight.proofs.Copying.{zeros}
 
 list-agree : (n : ℕ) (g h : ℕ → Passes) → ((i : ℕ) → i < n → g i ≡ h i) → listOf n g ≡ listOf n h
 unfolding listOf
@@ -104,3 +107,63 @@ module _ (f : FlightSection) where
     where
       none : 2 * f .blocks - 2 * f .blocks ≡ 0
       none = omega arith
+
+-- The plan in the chosen order is the plan.
+module _ (f : FlightSection) (w : ℕ) (chosen : w ≡ chosenOrder f) where
+  pub chosen-asked : {rows₀ starts₀ rows starts : List ℕ} → PlanAsked f rows₀ starts₀ → length rows ≡ length rows₀ → length starts ≡ length starts₀
+      → OrderAsked f w rows starts
+  chosen-asked asked lr ls = record {
+    plan = record {
+      sound = asked .sound;
+      some = asked .some;
+      rows-length = lr ∙ asked .rows-length;
+      starts-length = ls ∙ asked .starts-length;
+    };
+    proper = rw chosen (chosen-proper f (asked .sound));
+  }
+
+  pub plan-chosen : (r : FlightPlan) → PlannedIn f w r → Planned f r
+  unfolding isPossible leastFigure chosenPasses
+  plan-chosen r p = record {
+    possible = p .possible ∙ ap (possibleIn f) chosen;
+    figure = p .figure ∙ ap (orderFigure f) chosen;
+    order = p .order ∙ chosen;
+    passes = p .passes ∙ ap (leastPasses f) chosen;
+    no-more-first = p .no-more-first;
+    no-more-second = p .no-more-second;
+  }
+
+module _ (f : FlightSection) (rows starts : List ℕ) (asked : BlocksAsked f rows starts) where
+  pub rows-part : 4 * (4 * f .blocks - 1) ≡ length (take (4 * (4 * f .blocks - 1)) rows)
+  rows-part = sym (length-take-le (4 * (4 * f .blocks - 1)) rows (omega (arith, asked .rows-long, asked .sound .most-blocks)))
+
+  pub starts-part : 2 * f .blocks ≡ length (take (2 * f .blocks) starts)
+  starts-part = sym (length-take-le (2 * f .blocks) starts (omega (arith, asked .starts-long, asked .sound .most-blocks)))
+
+  pub parts-asked : PlanAsked f (take (4 * (4 * f .blocks - 1)) rows) (take (2 * f .blocks) starts)
+  parts-asked = record { sound = asked .sound; some = asked .some; rows-length = sym rows-part; starts-length = sym starts-part }
+
+-- No block, no passes.
+pub plan-none : (f : FlightSection) → FlightSound f → f .blocks ≡ 0
+    → Planned f (record { possible = true; figure = 0; order = 0; first = replicate 32 0; second = replicate 32 0 })
+unfolding isPossible leastFigure chosenPasses passesOf leastPasses passesFrom
+plan-none f sound e = record {
+  possible = sym (empty-possible f (chosenOrder f) sound proper (λ l. omega arith));
+  figure = sym (figure-none f (chosenOrder f) sound proper (λ l. omega arith));
+  order = zero-order;
+  passes = list-agree (f .blocks) _ _ (λ i l. absurd (omega arith));
+  no-more-first = λ i l. zeros 32 i;
+  no-more-second = λ i l. zeros 32 i;
+}
+  where
+    proper : Proper (f .blocks) (chosenOrder f)
+    proper = chosen-proper f sound
+
+    none : 2 * f .blocks ≡ 0
+    none = omega arith
+
+    low : chosenOrder f < 2 ^ 0
+    low = rw none at (proper .no-higher)
+
+    zero-order : 0 ≡ chosenOrder f
+    zero-order = omega (arith, low)

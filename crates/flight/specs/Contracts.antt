@@ -45,6 +45,12 @@ pub record OrderAsked (f : FlightSection) (order : ℕ) (rows starts : List ℕ)
   pub plan : PlanAsked f rows starts
   pub proper : Proper (f .blocks) order
 
+pub record BlocksAsked (f : FlightSection) (rows starts : List ℕ) : Type 0 where
+  pub sound : FlightSound f
+  pub some : 0 < f .blocks
+  pub rows-long : 508 ≤ length rows
+  pub starts-long : 64 ≤ length starts
+
 pub record CopyAsked (starts : List ℕ) (from n : ℕ) : Type 0 where
   pub few : n ≤ 32
   pub within : from + n ≤ length starts

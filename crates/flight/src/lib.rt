@@ -5,7 +5,7 @@ ghost use lib.ListN.{length};
 ghost use Rattle.sheet.specs.Sound.{FlightSound};
 ghost use Rattle.flight.specs.Search.{tried, searched};
 ghost use Rattle.flight.specs.Choice.{ordersOf, chosenOrder, Planned, PlannedIn};
-ghost use Rattle.flight.specs.Contracts.{freeSection, TryAsked, SearchAsked, PlanAsked, OrderAsked, CopyAsked, Copied};
+ghost use Rattle.flight.specs.Contracts.{freeSection, TryAsked, SearchAsked, PlanAsked, OrderAsked, BlocksAsked, CopyAsked, Copied};
 
 use sheet::FlightSection;
 
@@ -147,4 +147,44 @@ fn choose_order(f: FlightSection, rows: &mut [u64], starts: &mut [u64]) -> u64
     };
     let best = search(n, 2 * n, 0, &first, &second, &delay, rows, starts, none);
     best.order
+}
+
+// The plan in the chosen order.
+fn plan_chosen(f: FlightSection, rows: &mut [u64], starts: &mut [u64]) -> FlightPlan
+    requires { ⌜ PlanAsked f (now rows) (now starts) ⌝ }
+    ensures { λ r. ⌜ Planned f r ⌝ }
+{
+    let order = choose_order(f, rows, starts);
+    plan_in_order(f, order, rows, starts)
+}
+
+// The plan of at least one block, with room for the constraints and starts of 32.
+fn plan_blocks(f: FlightSection, rows: &mut [u64], starts: &mut [u64]) -> FlightPlan
+    requires { ⌜ BlocksAsked f (now rows) (now starts) ⌝ }
+    ensures { λ r. ⌜ Planned f r ⌝ }
+{
+    let n = f.blocks;
+    let count = 4 * (4 * n - 1);
+    let passes = 2 * n;
+    plan_chosen(f, &mut rows[..count], &mut starts[..passes])
+}
+
+// The plan of a flight section; an absent one has a plan with no block.
+pub fn plan_flight(f: FlightSection) -> FlightPlan
+    requires { ⌜ FlightSound f ⌝ }
+    ensures { λ r. ⌜ Planned f r ⌝ }
+{
+    if f.blocks == 0 {
+        let zeros = [0; 32];
+        return FlightPlan {
+            possible: true,
+            figure: 0,
+            order: 0,
+            first: zeros,
+            second: zeros,
+        };
+    }
+    let mut rows = [0; 508];
+    let mut starts = [0; 64];
+    plan_blocks(f, &mut rows, &mut starts)
 }

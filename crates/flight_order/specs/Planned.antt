@@ -99,7 +99,7 @@ module _ (f : FlightSection) (w : ℕ) (sound : FlightSound f) (proper : Proper 
   unfolding orderFigure
   figure-some some = rw (ne-eqb (f .blocks) 0 (λ e. omega arith))
 
-  figure-none : (0 < f .blocks → ⊥) → orderFigure f w ≡ 0
+  pub figure-none : (0 < f .blocks → ⊥) → orderFigure f w ≡ 0
   unfolding orderFigure
   figure-none none = rw (eq-eqb (f .blocks) 0 (omega (arith, none)))
 
