@@ -6,3 +6,4 @@ pub mod Alternate
 pub mod Contracts
 pub mod Chosen
 pub mod Theorems
+pub mod Worked
