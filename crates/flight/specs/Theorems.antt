@@ -45,7 +45,7 @@ module _ (f : FlightSection) (sound : FlightSound f) where
   flight-earliest ps law keeps i l = (
     rw (start-first f (chosenPasses f) i l, start-first f ps i l) at (least-earliest f (chosenOrder f) sound (chosen-proper f sound) ps law keeps i (omega arith)),
     rw (start-second f (chosenPasses f) (f .blocks + i) (omega arith), start-second f ps (f .blocks + i) (omega arith), back)
-    at (least-earliest f (chosenOrder f) sound (chosen-proper f sound) ps law keeps (f .blocks + i) (omega arith)),
+        at (least-earliest f (chosenOrder f) sound (chosen-proper f sound) ps law keeps (f .blocks + i) (omega arith)),
   )
     where
       back : f .blocks + i - f .blocks ≡ i

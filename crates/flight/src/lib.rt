@@ -6,7 +6,6 @@ ghost use Rattle.sheet.specs.Sound.{FlightSound};
 ghost use Rattle.flight.specs.Search.{tried, searched};
 ghost use Rattle.flight.specs.Choice.{ordersOf, chosenOrder, Planned, PlannedIn};
 ghost use Rattle.flight.specs.Contracts.{freeSection, TryAsked, SearchAsked, PlanAsked, OrderAsked, BlocksAsked, CopyAsked, Copied};
-
 use sheet::FlightSection;
 
 // The best order so far, if one was possible.
@@ -113,7 +112,17 @@ fn plan_in_order(f: FlightSection, order: u64, rows: &mut [u64], starts: &mut [u
     let first = f.first;
     let second = f.second;
     let delay = f.delay;
-    let possible = flight_order::least_starts(n, order, 0, &first, &second, &delay, &delay, rows, starts);
+    let possible = flight_order::least_starts(
+        n,
+        order,
+        0,
+        &first,
+        &second,
+        &delay,
+        &delay,
+        rows,
+        starts,
+    );
     let last = 2 * n - 1;
     let block = n - 1;
     let figure = starts[last] + second[block];

@@ -94,11 +94,11 @@ module _ (f : FlightSection) where
         omega (
           arith,
           span (systemFor (exactFlight f w)) (inside (exactFlight f w) good) (value (leastStarts f w)) (reach f)
-          (solvable-solves (systemFor (exactFlight f w)) (inside (exactFlight f w) good) e)
-          (λ y h j q. least-below (systemFor (exactFlight f w)) (inside (exactFlight f w) good) y h j)
-          (up-reach w)
-          p
-          l,
+              (solvable-solves (systemFor (exactFlight f w)) (inside (exactFlight f w) good) e)
+              (λ y h j q. least-below (systemFor (exactFlight f w)) (inside (exactFlight f w) good) y h j)
+              (up-reach w)
+              p
+              l,
           time-reach p,
           reach-total,
         )

@@ -131,6 +131,6 @@ module _ (f : FlightSection) (w : ℕ) (proper : Proper (f .blocks) w) where
       omega (
         arith,
         greatest-most (2 * f .blocks) (λ p. passStart f ps p + passTime f p) (passStart f ps (2 * f .blocks - 1) + passTime f (2 * f .blocks - 1))
-        (last-ends (passStart f ps) (lawful-schedule ps law keeps) some),
+            (last-ends (passStart f ps) (lawful-schedule ps law keeps) some),
         greatest-part (2 * f .blocks) (λ p. passStart f ps p + passTime f p) (2 * f .blocks - 1) (omega arith),
       )

@@ -1,14 +1,11 @@
+-- `difference::solve` meets its contract. The loop's invariant: the values are those after r rounds, none of which began at a solution.
+-- A round that began at a solution ends all; after as many rounds as variables there is none.
 use Prim.Native.Nat.{_-_}
 use borrow.Author.Needs.{needs}
-use lib.ListN.{length}
 use Rattle.difference.specs.Rows.{systemOf, InRounds}
 use Rattle.difference.proofs.Steps.{rounds-start, rounds-same-length, round-ready, round-same-length, go-on, stop, give-up}
 use Rattle.difference.proofs.solve.Statement.{statement}
 use Rattle.difference.proofs.solve.Tie as tie
-use Rattle.difference.proofs.solve.Reads as reads
-use Rattle.difference.proofs.solve.Lts as lts
-use Rattle.difference.proofs.clear.Reads as clear-reads
-use Rattle.difference.proofs.round.Reads as round-reads
 
 abbrev Inv-loop : tie.InvT-loop
 Inv-loop rows values₀ variables r₀ values r = InRounds (systemOf variables rows) values r
@@ -16,43 +13,33 @@ Inv-loop rows values₀ variables r₀ values r = InRounds (systemOf variables r
 abbrev μ-loop : tie.MeasureT-loop
 μ-loop rows values₀ variables r₀ values r = variables - r
 
--- src/lib.rt:56:5
 clear-requires : tie.Need-clear-requires Inv-loop μ-loop
 clear-requires c κs = search needs
 
--- src/lib.rt:58:5
 loop-holds : tie.Need-loop-holds Inv-loop μ-loop
 loop-holds c = search rounds-start
 
--- src/lib.rt:59:12
 round-requires : tie.Need-round-requires Inv-loop μ-loop
 round-requires c κs = search round-ready
 
--- src/lib.rt:60:13
 same-length : tie.Need-same-length Inv-loop μ-loop
 same-length c = search round-same-length
 
--- src/lib.rt:60:13
 returns : tie.Need-returns Inv-loop μ-loop
 returns c = search stop
 
--- src/lib.rt:62:9
 add-r : tie.Need-add-r Inv-loop μ-loop
 add-r c = search needs
 
--- src/lib.rt:58:5
 loop-less : tie.Need-loop-less Inv-loop μ-loop
 loop-less c = search needs
 
--- src/lib.rt:58:5
 loop-again : tie.Need-loop-again Inv-loop μ-loop
 loop-again c = search go-on
 
--- src/lib.rt:51:1
 same-length-2 : tie.Need-same-length-2 Inv-loop μ-loop
 same-length-2 c = search rounds-same-length
 
--- src/lib.rt:51:1
 returns-2 : tie.Need-returns-2 Inv-loop μ-loop
 returns-2 c = search give-up
 

@@ -1,3 +1,4 @@
+-- `flight::search` meets its contract: the measure is the number of passes left, and each of the four ways is a step of the definition.
 use native.Mathlib.Omega.{arith}
 use borrow.Author.Needs.{needs}
 use Rattle.flight.proofs.Searching.{leaf-asked, append-within, append-short, first-asked, only-second-asked, second-asked, only-second, only-first, first-then-second, search-end}
@@ -23,7 +24,6 @@ search-at t = and 3 search-kinds.ps (is 3 search-kinds.ps μ-search t) search′
 abbrev search-below : ℕ → In 3 search-kinds.ps
 search-below t = and 3 search-kinds.ps (falls 3 search-kinds.ps _<_ μ-search t) search′.Pre
 
--- src/lib.rt:76:9
 search-try-order-requires : (t : ℕ) → search-lts.Need-try-order-requires (
   try-order-reads.Asked,
   try-order-reads.Learnt,
@@ -38,7 +38,6 @@ search-try-order-requires : (t : ℕ) → search-lts.Need-try-order-requires (
 ) (search-at t) search′.Post
 search-try-order-requires t c κs = search leaf-asked
 
--- src/lib.rt:76:9
 search-same-length : (t : ℕ) → search-lts.Need-same-length (
   try-order-reads.Asked,
   try-order-reads.Learnt,
@@ -53,7 +52,6 @@ search-same-length : (t : ℕ) → search-lts.Need-same-length (
 ) (search-at t) search′.Post
 search-same-length t c = search needs
 
--- src/lib.rt:76:9
 search-same-length-2 : (t : ℕ) → search-lts.Need-same-length-2 (
   try-order-reads.Asked,
   try-order-reads.Learnt,
@@ -68,7 +66,6 @@ search-same-length-2 : (t : ℕ) → search-lts.Need-same-length-2 (
 ) (search-at t) search′.Post
 search-same-length-2 t c = search needs
 
--- src/lib.rt:76:9
 search-returns : (t : ℕ) → search-lts.Need-returns (
   try-order-reads.Asked,
   try-order-reads.Learnt,
@@ -83,7 +80,6 @@ search-returns : (t : ℕ) → search-lts.Need-returns (
 ) (search-at t) search′.Post
 search-returns t c = search search-end
 
--- src/lib.rt:78:15
 search-mul-at : (t : ℕ) → search-lts.Need-mul-at (
   try-order-reads.Asked,
   try-order-reads.Learnt,
@@ -98,7 +94,6 @@ search-mul-at : (t : ℕ) → search-lts.Need-mul-at (
 ) (search-at t) search′.Post
 search-mul-at t c = search needs
 
--- src/lib.rt:78:15
 search-sub-at : (t : ℕ) → search-lts.Need-sub-at (
   try-order-reads.Asked,
   try-order-reads.Learnt,
@@ -113,7 +108,6 @@ search-sub-at : (t : ℕ) → search-lts.Need-sub-at (
 ) (search-at t) search′.Post
 search-sub-at t c = search needs
 
--- src/lib.rt:79:18
 search-firsts-before-requires : (t : ℕ) → search-lts.Need-firsts-before-requires (
   try-order-reads.Asked,
   try-order-reads.Learnt,
@@ -128,7 +122,6 @@ search-firsts-before-requires : (t : ℕ) → search-lts.Need-firsts-before-requ
 ) (search-at t) search′.Post
 search-firsts-before-requires t c κs = search needs
 
--- src/lib.rt:80:19
 search-seconds-before-requires : (t : ℕ) → search-lts.Need-seconds-before-requires (
   try-order-reads.Asked,
   try-order-reads.Learnt,
@@ -143,7 +136,6 @@ search-seconds-before-requires : (t : ℕ) → search-lts.Need-seconds-before-re
 ) (search-at t) search′.Post
 search-seconds-before-requires t c κs = search needs
 
--- src/lib.rt:82:13
 search-append-second-requires : (t : ℕ) → search-lts.Need-append-second-requires (
   try-order-reads.Asked,
   try-order-reads.Learnt,
@@ -158,7 +150,6 @@ search-append-second-requires : (t : ℕ) → search-lts.Need-append-second-requ
 ) (search-at t) search′.Post
 search-append-second-requires t c κs = (search append-within, search append-short)
 
--- src/lib.rt:83:26
 search-sub-search : (t : ℕ) → search-lts.Need-sub-search (
   try-order-reads.Asked,
   try-order-reads.Learnt,
@@ -173,7 +164,6 @@ search-sub-search : (t : ℕ) → search-lts.Need-sub-search (
 ) (search-at t) search′.Post
 search-sub-search t c = search needs
 
--- src/lib.rt:83:9
 search-search-requires : (t : ℕ) → search-lts.Need-search-requires (
   try-order-reads.Asked,
   try-order-reads.Learnt,
@@ -188,7 +178,6 @@ search-search-requires : (t : ℕ) → search-lts.Need-search-requires (
 ) (search-at t) search′.Post
 search-search-requires t c κs = (omega arith, search only-second-asked)
 
--- src/lib.rt:83:9
 search-same-length-3 : (t : ℕ) → search-lts.Need-same-length-3 (
   try-order-reads.Asked,
   try-order-reads.Learnt,
@@ -203,7 +192,6 @@ search-same-length-3 : (t : ℕ) → search-lts.Need-same-length-3 (
 ) (search-at t) search′.Post
 search-same-length-3 t c = search needs
 
--- src/lib.rt:83:9
 search-same-length-4 : (t : ℕ) → search-lts.Need-same-length-4 (
   try-order-reads.Asked,
   try-order-reads.Learnt,
@@ -218,7 +206,6 @@ search-same-length-4 : (t : ℕ) → search-lts.Need-same-length-4 (
 ) (search-at t) search′.Post
 search-same-length-4 t c = search needs
 
--- src/lib.rt:83:9
 search-returns-2 : (t : ℕ) → search-lts.Need-returns-2 (
   try-order-reads.Asked,
   try-order-reads.Learnt,
@@ -233,7 +220,6 @@ search-returns-2 : (t : ℕ) → search-lts.Need-returns-2 (
 ) (search-at t) search′.Post
 search-returns-2 t c = search only-second
 
--- src/lib.rt:85:27
 search-sub-search-2 : (t : ℕ) → search-lts.Need-sub-search-2 (
   try-order-reads.Asked,
   try-order-reads.Learnt,
@@ -248,7 +234,6 @@ search-sub-search-2 : (t : ℕ) → search-lts.Need-sub-search-2 (
 ) (search-at t) search′.Post
 search-sub-search-2 t c = search needs
 
--- src/lib.rt:85:9
 search-search-requires-2 : (t : ℕ) → search-lts.Need-search-requires-2 (
   try-order-reads.Asked,
   try-order-reads.Learnt,
@@ -263,7 +248,6 @@ search-search-requires-2 : (t : ℕ) → search-lts.Need-search-requires-2 (
 ) (search-at t) search′.Post
 search-search-requires-2 t c κs = (omega arith, search first-asked)
 
--- src/lib.rt:87:9
 search-same-length-5 : (t : ℕ) → search-lts.Need-same-length-5 (
   try-order-reads.Asked,
   try-order-reads.Learnt,
@@ -278,7 +262,6 @@ search-same-length-5 : (t : ℕ) → search-lts.Need-same-length-5 (
 ) (search-at t) search′.Post
 search-same-length-5 t c = search needs
 
--- src/lib.rt:87:9
 search-same-length-6 : (t : ℕ) → search-lts.Need-same-length-6 (
   try-order-reads.Asked,
   try-order-reads.Learnt,
@@ -293,7 +276,6 @@ search-same-length-6 : (t : ℕ) → search-lts.Need-same-length-6 (
 ) (search-at t) search′.Post
 search-same-length-6 t c = search needs
 
--- src/lib.rt:87:9
 search-returns-3 : (t : ℕ) → search-lts.Need-returns-3 (
   try-order-reads.Asked,
   try-order-reads.Learnt,
@@ -308,7 +290,6 @@ search-returns-3 : (t : ℕ) → search-lts.Need-returns-3 (
 ) (search-at t) search′.Post
 search-returns-3 t c = search only-first
 
--- src/lib.rt:89:9
 search-append-second-requires-2 : (t : ℕ) → search-lts.Need-append-second-requires-2 (
   try-order-reads.Asked,
   try-order-reads.Learnt,
@@ -323,7 +304,6 @@ search-append-second-requires-2 : (t : ℕ) → search-lts.Need-append-second-re
 ) (search-at t) search′.Post
 search-append-second-requires-2 t c κs = (search append-within, search append-short)
 
--- src/lib.rt:90:15
 search-sub-search-3 : (t : ℕ) → search-lts.Need-sub-search-3 (
   try-order-reads.Asked,
   try-order-reads.Learnt,
@@ -338,7 +318,6 @@ search-sub-search-3 : (t : ℕ) → search-lts.Need-sub-search-3 (
 ) (search-at t) search′.Post
 search-sub-search-3 t c = search needs
 
--- src/lib.rt:90:5
 search-search-requires-3 : (t : ℕ) → search-lts.Need-search-requires-3 (
   try-order-reads.Asked,
   try-order-reads.Learnt,
@@ -353,7 +332,6 @@ search-search-requires-3 : (t : ℕ) → search-lts.Need-search-requires-3 (
 ) (search-at t) search′.Post
 search-search-requires-3 t c κs = (omega arith, search second-asked)
 
--- src/lib.rt:61:1
 search-same-length-7 : (t : ℕ) → search-lts.Need-same-length-7 (
   try-order-reads.Asked,
   try-order-reads.Learnt,
@@ -368,7 +346,6 @@ search-same-length-7 : (t : ℕ) → search-lts.Need-same-length-7 (
 ) (search-at t) search′.Post
 search-same-length-7 t c = search needs
 
--- src/lib.rt:61:1
 search-same-length-8 : (t : ℕ) → search-lts.Need-same-length-8 (
   try-order-reads.Asked,
   try-order-reads.Learnt,
@@ -383,7 +360,6 @@ search-same-length-8 : (t : ℕ) → search-lts.Need-same-length-8 (
 ) (search-at t) search′.Post
 search-same-length-8 t c = search needs
 
--- src/lib.rt:61:1
 search-returns-4 : (t : ℕ) → search-lts.Need-returns-4 (
   try-order-reads.Asked,
   try-order-reads.Learnt,

@@ -1,56 +1,42 @@
+-- `flight::plan_blocks` meets its contract: the parts that are lent have the lengths that are asked.
 use borrow.Author.Needs.{needs}
 use Rattle.flight.proofs.Planning.{rows-part, starts-part, parts-asked}
 use Rattle.flight.proofs.plan_blocks.Statement.{statement}
 use Rattle.flight.proofs.plan_blocks.Tie as tie
-use Rattle.flight.proofs.plan_blocks.Reads as reads
-use Rattle.flight.proofs.plan_blocks.Lts as lts
-use Rattle.flight.proofs.plan_chosen.Reads as plan-chosen-reads
 
--- src/lib.rt:167:22
 mul-count : tie.Need-mul-count
 mul-count c = search needs
 
--- src/lib.rt:167:22
 sub-count : tie.Need-sub-count
 sub-count c = search needs
 
--- src/lib.rt:167:17
 mul-count-2 : tie.Need-mul-count-2
 mul-count-2 c = search needs
 
--- src/lib.rt:168:18
 mul-passes : tie.Need-mul-passes
 mul-passes c = search needs
 
--- src/lib.rt:169:20
 slice-relend-prefix-plan-chosen : tie.Need-slice-relend-prefix-plan-chosen
 slice-relend-prefix-plan-chosen c = search needs
 
--- src/lib.rt:169:20
 slice-aggregate-plan-chosen : tie.Need-slice-aggregate-plan-chosen
 slice-aggregate-plan-chosen c = search rows-part
 
--- src/lib.rt:169:40
 slice-relend-prefix-plan-chosen-2 : tie.Need-slice-relend-prefix-plan-chosen-2
 slice-relend-prefix-plan-chosen-2 c = search needs
 
--- src/lib.rt:169:40
 slice-aggregate-plan-chosen-2 : tie.Need-slice-aggregate-plan-chosen-2
 slice-aggregate-plan-chosen-2 c = search starts-part
 
--- src/lib.rt:169:5
 plan-chosen-requires : tie.Need-plan-chosen-requires
 plan-chosen-requires c κs = search parts-asked
 
--- src/lib.rt:162:1
 same-length : tie.Need-same-length
 same-length c = search needs
 
--- src/lib.rt:162:1
 same-length-2 : tie.Need-same-length-2
 same-length-2 c = search needs
 
--- src/lib.rt:162:1
 returns : tie.Need-returns
 returns c = search needs
 

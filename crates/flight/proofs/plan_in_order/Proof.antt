@@ -1,81 +1,60 @@
+-- `flight::plan_in_order` meets its contract: the starts are the least ones, and the last pass gives the figure.
 use borrow.Author.Needs.{needs}
 use Rattle.flight.proofs.Planning.{order-rooms, plan-figure-fits, plan-made}
 use Rattle.flight.proofs.plan_in_order.Statement.{statement}
 use Rattle.flight.proofs.plan_in_order.Tie as tie
-use Rattle.flight.proofs.plan_in_order.Reads as reads
-use Rattle.flight.proofs.plan_in_order.Lts as lts
-use Rattle.flight.proofs.copy_starts.Reads as copy-starts-reads
-use Rattle.flight_order.proofs.least_starts.Reads as least-starts-reads
 
--- src/lib.rt:116:60
 slice-aggregate-least-starts : tie.Need-slice-aggregate-least-starts
 slice-aggregate-least-starts c = search needs
 
--- src/lib.rt:116:68
 slice-aggregate-least-starts-2 : tie.Need-slice-aggregate-least-starts-2
 slice-aggregate-least-starts-2 c = search needs
 
--- src/lib.rt:116:77
 slice-aggregate-least-starts-3 : tie.Need-slice-aggregate-least-starts-3
 slice-aggregate-least-starts-3 c = search needs
 
--- src/lib.rt:116:85
 slice-aggregate-least-starts-4 : tie.Need-slice-aggregate-least-starts-4
 slice-aggregate-least-starts-4 c = search needs
 
--- src/lib.rt:116:9
 least-starts-requires : tie.Need-least-starts-requires
 least-starts-requires c κs = search order-rooms
 
--- src/lib.rt:117:16
 mul-last : tie.Need-mul-last
 mul-last c = search needs
 
--- src/lib.rt:117:16
 sub-last : tie.Need-sub-last
 sub-last c = search needs
 
--- src/lib.rt:118:17
 sub-block : tie.Need-sub-block
 sub-block c = search needs
 
--- src/lib.rt:119:18
 mul-figure : tie.Need-mul-figure
 mul-figure c = search needs
 
--- src/lib.rt:119:18
 slice-read-figure : tie.Need-slice-read-figure
 slice-read-figure c = search needs
 
--- src/lib.rt:119:33
 mul-figure-2 : tie.Need-mul-figure-2
 mul-figure-2 c = search needs
 
--- src/lib.rt:119:33
 array-read-figure : tie.Need-array-read-figure
 array-read-figure c = search needs
 
--- src/lib.rt:119:18
 add-figure : tie.Need-add-figure
 add-figure c = record { fits = search plan-figure-fits }
 
--- src/lib.rt:120:9
 copy-starts-requires : tie.Need-copy-starts-requires
 copy-starts-requires c κs = search needs
 
--- src/lib.rt:121:9
 copy-starts-requires-2 : tie.Need-copy-starts-requires-2
 copy-starts-requires-2 c κs = search needs
 
--- src/lib.rt:108:1
 same-length : tie.Need-same-length
 same-length c = search needs
 
--- src/lib.rt:108:1
 same-length-2 : tie.Need-same-length-2
 same-length-2 c = search needs
 
--- src/lib.rt:108:1
 returns : tie.Need-returns
 returns c = search plan-made
 

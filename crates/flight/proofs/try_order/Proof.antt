@@ -1,92 +1,69 @@
+-- `flight::try_order` meets its contract: the order is not possible, or is no better than the incumbent, or replaces it.
 use borrow.Author.Needs.{needs}
 use Rattle.flight.proofs.Trying.{try-rooms, figure-fits, try-impossible, try-stays, try-replaces, try-first}
 use Rattle.flight.proofs.try_order.Statement.{statement}
 use Rattle.flight.proofs.try_order.Tie as tie
-use Rattle.flight.proofs.try_order.Reads as reads
-use Rattle.flight.proofs.try_order.Lts as lts
-use Rattle.flight_order.proofs.least_starts.Reads as least-starts-reads
 
--- src/lib.rt:42:9
 least-starts-requires : tie.Need-least-starts-requires
 least-starts-requires c κs = search try-rooms
 
--- src/lib.rt:43:9
 same-length : tie.Need-same-length
 same-length c = search needs
 
--- src/lib.rt:43:9
 same-length-2 : tie.Need-same-length-2
 same-length-2 c = search needs
 
--- src/lib.rt:43:9
 returns : tie.Need-returns
 returns c = search try-impossible
 
--- src/lib.rt:45:16
 mul-last : tie.Need-mul-last
 mul-last c = search needs
 
--- src/lib.rt:45:16
 sub-last : tie.Need-sub-last
 sub-last c = search needs
 
--- src/lib.rt:46:17
 sub-block : tie.Need-sub-block
 sub-block c = search needs
 
--- src/lib.rt:47:18
 mul-figure : tie.Need-mul-figure
 mul-figure c = search needs
 
--- src/lib.rt:47:18
 slice-read-figure : tie.Need-slice-read-figure
 slice-read-figure c = search needs
 
--- src/lib.rt:47:33
 mul-figure-2 : tie.Need-mul-figure-2
 mul-figure-2 c = search needs
 
--- src/lib.rt:47:33
 shared-slice-read-figure : tie.Need-shared-slice-read-figure
 shared-slice-read-figure c = search needs
 
--- src/lib.rt:47:18
 add-figure : tie.Need-add-figure
 add-figure c = record { fits = search figure-fits }
 
--- src/lib.rt:50:13
 same-length-3 : tie.Need-same-length-3
 same-length-3 c = search needs
 
--- src/lib.rt:50:13
 same-length-4 : tie.Need-same-length-4
 same-length-4 c = search needs
 
--- src/lib.rt:50:13
 returns-2 : tie.Need-returns-2
 returns-2 c = search try-stays
 
--- src/lib.rt:29:1
 same-length-5 : tie.Need-same-length-5
 same-length-5 c = search needs
 
--- src/lib.rt:29:1
 same-length-6 : tie.Need-same-length-6
 same-length-6 c = search needs
 
--- src/lib.rt:29:1
 returns-3 : tie.Need-returns-3
 returns-3 c = search try-replaces
 
--- src/lib.rt:29:1
 same-length-7 : tie.Need-same-length-7
 same-length-7 c = search needs
 
--- src/lib.rt:29:1
 same-length-8 : tie.Need-same-length-8
 same-length-8 c = search needs
 
--- src/lib.rt:29:1
 returns-4 : tie.Need-returns-4
 returns-4 c = search try-first
 

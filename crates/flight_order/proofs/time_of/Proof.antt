@@ -1,31 +1,24 @@
+-- `flight_order::time_of` meets its contract: both branches of the definition.
 use borrow.Author.Needs.{needs}
 use Rattle.flight_order.proofs.Passes.{first-time, second-time}
 use Rattle.flight_order.proofs.time_of.Statement.{statement}
 use Rattle.flight_order.proofs.time_of.Tie as tie
-use Rattle.flight_order.proofs.time_of.Reads as reads
-use Rattle.flight_order.proofs.time_of.Lts as lts
 
--- src/lib.rt:33:16
 mul-result : tie.Need-mul-result
 mul-result c = search needs
 
--- src/lib.rt:33:16
 shared-slice-read-result : tie.Need-shared-slice-read-result
 shared-slice-read-result c = search needs
 
--- src/lib.rt:33:34
 mul-result-2 : tie.Need-mul-result-2
 mul-result-2 c = search needs
 
--- src/lib.rt:33:34
 shared-slice-read-result-2 : tie.Need-shared-slice-read-result-2
 shared-slice-read-result-2 c = search needs
 
--- src/lib.rt:29:1
 returns : tie.Need-returns
 returns c = search first-time
 
--- src/lib.rt:29:1
 returns-2 : tie.Need-returns-2
 returns-2 c = search second-time
 

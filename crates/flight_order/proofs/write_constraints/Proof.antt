@@ -1,14 +1,11 @@
-use Prim.Native.Nat.{_-_, _*_}
-use native.Mathlib.Omega.{arith}
+-- `flight_order::write_constraints` meets its contract. The loop's invariant: the first k rows are the first k constraints.
+use Prim.Native.Nat.{_-_}
 use borrow.Author.Needs.{needs}
 use lib.Seq.{lt-length-set}
 use Rattle.flight_order.specs.Constraints.{orderedFlight}
 use Rattle.flight_order.proofs.Writing.{Writing, write-start, write-more, write-end, row-1, row-2, row-3}
 use Rattle.flight_order.proofs.write_constraints.Statement.{statement}
 use Rattle.flight_order.proofs.write_constraints.Tie as tie
-use Rattle.flight_order.proofs.write_constraints.Reads as reads
-use Rattle.flight_order.proofs.write_constraints.Lts as lts
-use Rattle.flight_order.proofs.constraint_at.Reads as constraint-at-reads
 
 abbrev Inv-loop : tie.InvT-loop
 Inv-loop n order turn first second least most rows₀ count k₀ rows k = Writing (orderedFlight n order turn first second least most) rows₀ rows k count
@@ -16,87 +13,66 @@ Inv-loop n order turn first second least most rows₀ count k₀ rows k = Writin
 abbrev μ-loop : tie.MeasureT-loop
 μ-loop n order turn first second least most rows₀ count k₀ rows k = count - k
 
--- src/lib.rt:94:17
 mul-count : tie.Need-mul-count Inv-loop μ-loop
 mul-count c = search needs
 
--- src/lib.rt:94:17
 sub-count : tie.Need-sub-count Inv-loop μ-loop
 sub-count c = search needs
 
--- src/lib.rt:96:5
 loop-holds : tie.Need-loop-holds Inv-loop μ-loop
 loop-holds c = write-start _ _
 
--- src/lib.rt:97:13
 constraint-at-requires : tie.Need-constraint-at-requires Inv-loop μ-loop
 constraint-at-requires c κs = search needs
 
--- src/lib.rt:98:18
 mul-at : tie.Need-mul-at Inv-loop μ-loop
 mul-at c = search needs
 
--- src/lib.rt:99:9
 mul-rows : tie.Need-mul-rows Inv-loop μ-loop
 mul-rows c = search needs
 
--- src/lib.rt:99:9
 slice-write-rows : tie.Need-slice-write-rows Inv-loop μ-loop
 slice-write-rows c = search needs
 
--- src/lib.rt:100:14
 add-rows : tie.Need-add-rows Inv-loop μ-loop
 add-rows c = search needs
 
--- src/lib.rt:100:9
 mul-rows-2 : tie.Need-mul-rows-2 Inv-loop μ-loop
 mul-rows-2 c = search needs
 
--- src/lib.rt:100:9
 slice-write-rows-2 : tie.Need-slice-write-rows-2 Inv-loop μ-loop
 slice-write-rows-2 c = search (lt-length-set, row-1)
 
--- src/lib.rt:101:14
 add-rows-2 : tie.Need-add-rows-2 Inv-loop μ-loop
 add-rows-2 c = search needs
 
--- src/lib.rt:101:9
 mul-rows-3 : tie.Need-mul-rows-3 Inv-loop μ-loop
 mul-rows-3 c = search needs
 
--- src/lib.rt:101:9
 slice-write-rows-3 : tie.Need-slice-write-rows-3 Inv-loop μ-loop
 slice-write-rows-3 c = search (lt-length-set, row-2)
 
--- src/lib.rt:102:14
 add-rows-3 : tie.Need-add-rows-3 Inv-loop μ-loop
 add-rows-3 c = search needs
 
--- src/lib.rt:102:9
 mul-rows-4 : tie.Need-mul-rows-4 Inv-loop μ-loop
 mul-rows-4 c = search needs
 
--- src/lib.rt:102:9
 slice-write-rows-4 : tie.Need-slice-write-rows-4 Inv-loop μ-loop
 slice-write-rows-4 c = search (lt-length-set, row-3)
 
--- src/lib.rt:103:9
 add-k : tie.Need-add-k Inv-loop μ-loop
 add-k c = search needs
 
--- src/lib.rt:96:5
 loop-less : tie.Need-loop-less Inv-loop μ-loop
 loop-less c = search needs
 
--- src/lib.rt:96:5
 loop-again : tie.Need-loop-again Inv-loop μ-loop
 loop-again c = search write-more
 
--- src/lib.rt:81:1
 same-length : tie.Need-same-length Inv-loop μ-loop
 same-length c = search needs
 
--- src/lib.rt:81:1
 returns : tie.Need-returns Inv-loop μ-loop
 returns c = search write-end
 
