@@ -2,11 +2,11 @@
 -- and meets each constraint one round late. Take any solution y, and let z be y, one less wherever it differs from the iterate x r. Either z is
 -- a solution with a smaller sum, and the claim follows by induction on the sum, or a constraint that z breaks starts at a variable that
 -- has its final value and gives one more variable its final value in round r + 1. So after variables - 1 rounds all have it.
-use mathlib.Core.Path.{_≡_, refl, ap}
+use mathlib.Core.Path.{_≡_}
 use mathlib.Core.Logic.{_⊎_, inl, inr}
 use Prim.Native.Nat.{ℕ, zero, suc, _+_, _-_, _≤_, _<_, min, max}
 use native.Mathlib.Omega.{arith}
-use native.Mathlib.Decide.{decLe, ℕ-discrete}
+use native.Mathlib.Decide.{decLe}
 use Rattle.difference.specs.System.{System, Solves, Inside}
 use Rattle.difference.specs.Total.{total, total-le, total-lt, total-full, all-or}
 

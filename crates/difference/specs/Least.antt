@@ -8,7 +8,7 @@ use native.Mathlib.Omega.{arith}
 use native.Mathlib.Decide.{ℕ-discrete}
 use lib.Dec.{leb}
 use borrow.Author.Tests.{le-leb, leb-true}
-use Rattle.difference.specs.System.{System, Solves, Inside, value, relaxed, rounds, holds, leastValues, solvable}
+use Rattle.difference.specs.System.{System, Solves, Inside, value, rounds, holds, leastValues, solvable}
 use Rattle.difference.specs.Round.{relaxed-still, rounds-below, rounds-solve}
 
 -- The test `holds` decides the first k constraints.

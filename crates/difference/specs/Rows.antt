@@ -1,6 +1,6 @@
 -- Constraints as the code has them: constraint k is the row of four numbers at 4 k, `from`, `to`, `up`, `down`.
 use mathlib.Core.Path.{_≡_}
-use mathlib.Core.Bool.{Bool, true, false}
+use mathlib.Core.Bool.{Bool, false}
 use mathlib.Core.List.{List}
 use Prim.Native.Nat.{ℕ, _+_, _*_, _/_, _≤_, _<_, _^_}
 use lib.ListN.{length}

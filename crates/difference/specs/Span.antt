@@ -1,7 +1,7 @@
 -- No value of a least solution is large. Let `reach i` be at least the `up` of every constraint from variable i. Where some value is above v and
 -- no variable i has x i ≤ v < x i + reach i, the values above v could all be one less. So these intervals cover every number below each value,
 -- and a count of the numbers covered shows that x j + reach j is at most the sum of the reaches.
-use mathlib.Core.Path.{_≡_, refl, sym, ap}
+use mathlib.Core.Path.{_≡_}
 use mathlib.Core.Logic.{_⊎_, inl, inr}
 use Prim.Native.Nat.{ℕ, zero, suc, _+_, _-_, _≤_, _<_, min}
 use native.Mathlib.Omega.{arith}

@@ -1,16 +1,14 @@
 -- The plan put together: the least starts of the order, copied by block; and the order, given or searched for.
 use mathlib.Core.Path.{_≡_, refl, sym, ap, ap₂, _∙_}
 use mathlib.Core.Bool.{Bool, true, false}
-use mathlib.Core.List.{List, [], _∷_}
-use Prim.Native.Nat.{ℕ, zero, suc, _+_, _-_, _*_, _^_, _≤_, _<_}
+use mathlib.Core.List.{List, _∷_}
+use Prim.Native.Nat.{ℕ, zero, suc, _+_, _-_, _*_, _^_, _<_}
 use native.Mathlib.Nat.{zero-add}
 use native.Mathlib.Omega.{arith}
-use lib.Dec.{eqb}
 use lib.ListN.{length, getD, take, replicate}
 use lib.Seq.{length-take-le}
 use borrow.Author.Tests.{ne-eqb}
 use Rattle.order.specs.Order.{Proper}
-use Rattle.order.specs.Beginning.{Beginning}
 use Rattle.order.specs.Children.{beginning-empty}
 use Rattle.difference.specs.System.{value}
 use Rattle.sheet.specs.Sound.{FlightSound}
@@ -25,7 +23,7 @@ use Rattle.flight_order.specs.Contracts.{Rooms, Least}
 use Rattle.flight.specs.Search.{noIncumbent, searched}
 use Rattle.flight.specs.Choice.{ordersOf, chosenOrder, isPossible, leastFigure, chosenPasses, passesOf, PlannedIn, Planned}
 use Rattle.flight.specs.Chosen.{chosen-given, chosen-free, chosen-proper}
-use Rattle.flight.specs.Contracts.{freeSection, SearchRoom, SearchAsked, PlanAsked, OrderAsked, BlocksAsked, Copied}
+use Rattle.flight.specs.Contracts.{freeSection, SearchAsked, PlanAsked, OrderAsked, BlocksAsked, Copied}
 use Rattle.flight.specs.declared.Incumbent.{Incumbent}
 use Rattle.flight.specs.declared.FlightPlan.{FlightPlan}
 use Rattle.flight.proofs.Copying.{zeros}

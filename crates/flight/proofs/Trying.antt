@@ -1,15 +1,14 @@
 -- One order tried, as the code does it: what the least starts of the order give for the incumbent.
-use mathlib.Core.Path.{_≡_, refl, sym, ap, _∙_}
+use mathlib.Core.Path.{_≡_, sym, ap, _∙_}
 use mathlib.Core.Bool.{Bool, true, false, cond, not, _&&_, _||_}
 use mathlib.Core.List.{List}
 use Prim.Native.Nat.{ℕ, _+_, _-_, _*_, _^_, _≤_, _<_}
 use native.Mathlib.Omega.{arith}
-use lib.Dec.{ltb, eqb}
+use lib.Dec.{ltb}
 use lib.ListN.{getD}
 use borrow.Author.Tests.{not-true, not-false, lt-ltb, le-ltb, ne-eqb}
 use Rattle.order.specs.Order.{Proper}
-use Rattle.difference.specs.System.{value, leastValues, solvable}
-use Rattle.flight_order.specs.Constraints.{orderedFlight, systemFor, leastStarts, possibleIn, orderFigure}
+use Rattle.flight_order.specs.Constraints.{orderedFlight, leastStarts, possibleIn, orderFigure}
 use Rattle.flight_order.specs.Good.{Good, least-low}
 use Rattle.flight_order.specs.Contracts.{Rooms, Least}
 use Rattle.flight.specs.Search.{Orders, improves, tried}

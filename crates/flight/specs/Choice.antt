@@ -6,7 +6,7 @@ use Prim.Native.Nat.{ℕ, _*_, _≤_}
 use lib.ListN.{getD}
 use Rattle.sheet.specs.declared.FlightSection.{FlightSection}
 use Rattle.rules.specs.declared.Passes.{Passes}
-use Rattle.flight_order.specs.Constraints.{leastStarts, possibleIn, orderFigure}
+use Rattle.flight_order.specs.Constraints.{possibleIn, orderFigure}
 use Rattle.flight_order.specs.Timetable.{listOf, leastPasses}
 use Rattle.flight.specs.Search.{Orders, noIncumbent, searched}
 use Rattle.flight.specs.declared.FlightPlan.{FlightPlan}

@@ -1,6 +1,6 @@
 -- The chosen order is proper and as given; where none is given it is possible, and no proper order that is possible has a smaller figure.
 use mathlib.Core.Path.{_≡_, refl, sym, ap, _∙_}
-use mathlib.Core.Bool.{Bool, true, false, true≢false}
+use mathlib.Core.Bool.{Bool, true, false}
 use Prim.Native.Nat.{ℕ, _*_, _≤_}
 use native.Mathlib.Omega.{arith}
 use Rattle.order.specs.Order.{Proper}

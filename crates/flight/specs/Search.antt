@@ -1,6 +1,5 @@
 -- The search over all proper orders with an incumbent: at each beginning a first pass next is tried before a second pass next, and
 -- only a strictly smaller figure replaces the incumbent.
-use mathlib.Core.Path.{_≡_}
 use mathlib.Core.Bool.{Bool, true, false, cond, not, _&&_, _||_}
 use Prim.Native.Nat.{ℕ, zero, suc, _+_, _-_, _*_, _^_}
 use lib.Dec.{ltb}

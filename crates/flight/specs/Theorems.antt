@@ -7,7 +7,7 @@ use Prim.Native.Nat.{ℕ, _+_, _-_, _*_, _≤_, _<_}
 use native.Mathlib.Omega.{arith}
 use Rattle.sheet.specs.Sound.{FlightSound}
 use Rattle.sheet.specs.declared.FlightSection.{FlightSection}
-use Rattle.rules.specs.Flight.{passesAt, passStart, passEnd, FlightLawful, Keeps, OrderAllowed, flightFigure}
+use Rattle.rules.specs.Flight.{passesAt, passEnd, FlightLawful, Keeps, OrderAllowed, flightFigure}
 use Rattle.rules.specs.declared.Passes.{Passes}
 use Rattle.flight_order.specs.Timetable.{start-first, start-second}
 use Rattle.flight_order.specs.Planned.{possible-lawful, possible-keeps, kept-possible, least-earliest, least-figure, figure-below, least-ends}

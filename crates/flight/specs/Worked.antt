@@ -1,6 +1,6 @@
 -- The worked flights of 01 as one table with a common statement in the words of the rules: the outcome of each is the best allowed plan, or there is none.
 -- The outcomes are computed from the definitions, and the theorems say what they are by the rules.
-use mathlib.Core.Path.{_≡_, refl, sym, _∙_}
+use mathlib.Core.Path.{_≡_, refl, sym}
 use mathlib.Core.Bool.{Bool, true, false, cond, _&&_, true≢false}
 use mathlib.Core.List.{List, [], _∷_, _++_, map}
 use Prim.Native.Nat.{ℕ, zero, suc, _-_, _≤_, _<_}
@@ -9,7 +9,7 @@ use lib.Dec.{leb, eqb}
 use lib.ListN.{length, getD, take, replicate}
 use lib.Seq.{getD-take, length-take-le}
 use borrow.Author.Tests.{leb-true, eqb-true}
-use Rattle.order.specs.Order.{bit, seconds, firsts, Proper, neverMoreSeconds, isProper}
+use Rattle.order.specs.Order.{seconds, firsts, neverMoreSeconds, isProper}
 use Rattle.order.specs.Decided.{proper-true}
 use Rattle.sheet.specs.Limits.{mostTime, mostBlocks, mostBlocksWithoutOrder}
 use Rattle.sheet.specs.Sound.{FlightSound}

@@ -1,12 +1,12 @@
 -- Passes, times and constraints as the code computes them.
-use mathlib.Core.Path.{_≡_, refl, sym, ap, _∙_}
+use mathlib.Core.Path.{_≡_, sym, _∙_}
 use mathlib.Core.List.{List}
 use Prim.Native.Nat.{ℕ, _+_, _-_, _*_, _^_, _≤_, _<_}
 use native.Mathlib.Omega.{arith}
-use lib.ListN.{length, getD}
+use lib.ListN.{getD}
 use borrow.Author.Tests.{lt-ltb, le-ltb}
 use Rattle.order.specs.Order.{bit, seconds, firsts}
-use Rattle.order.specs.Seconds.{seconds-le, firsts-seconds}
+use Rattle.order.specs.Seconds.{seconds-le}
 use Rattle.flight_order.specs.Constraints.{orderedFlight, passOf, timeOf, constraintOf}
 use Rattle.flight_order.specs.Schedule.{constraint-least, constraint-most, constraint-order}
 use Rattle.flight_order.specs.Good.{Good, pass-second, pass-first, pass-in, time-low}

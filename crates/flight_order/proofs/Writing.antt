@@ -1,17 +1,16 @@
 -- Writing the constraints row by row: the first k rows are written, and a row more is written by four stores, which leave the rows before it.
-use mathlib.Core.Path.{_≡_, refl, sym, ap, _∙_}
+use mathlib.Core.Path.{_≡_, refl, ap, _∙_}
 use mathlib.Core.Bool.{Bool}
 use mathlib.Core.List.{List}
-use Prim.Native.Nat.{ℕ, _+_, _-_, _*_, _/_, _^_, _≤_, _<_}
+use Prim.Native.Nat.{ℕ, _+_, _-_, _*_, _/_, _≤_, _<_}
 use native.Mathlib.Decide.{ℕ-discrete}
 use native.Mathlib.Omega.{arith}
 use lib.ListN.{length, getD, set, length-set}
 use lib.Seq.{getD-set-same, getD-set-other}
-use Rattle.difference.specs.System.{leastValues, solvable}
 use Rattle.difference.specs.Agree.{Agree, agree-values, agree-solvable}
 use Rattle.difference.specs.Rows.{systemOf, Fit, SolveDone}
 use Rattle.flight_order.specs.Constraints.{OrderedFlight, constraintOf, systemFor}
-use Rattle.flight_order.specs.Good.{Good, constraint-small}
+use Rattle.flight_order.specs.Good.{constraint-small}
 use Rattle.flight_order.specs.Contracts.{Rows, Room, Rooms, Least}
 use Rattle.flight_order.specs.declared.Constraint.{Constraint}
 

@@ -1,23 +1,23 @@
 -- The least starts never reach the ceiling: a first pass with its delay takes at most 20,000, a second pass at most 10,000, and the last end
 -- is at most the sum of these over 32 blocks, 960,000.
-use mathlib.Core.Path.{_≡_, refl}
+use mathlib.Core.Path.{_≡_}
 use mathlib.Core.Bool.{cond, true}
-use Prim.Native.Nat.{ℕ, zero, suc, _+_, _-_, _*_, _≤_, _<_, _^_}
-use native.Mathlib.Nat.{add-zero, add-suc, suc-mul, zero-mul}
+use Prim.Native.Nat.{ℕ, zero, suc, _+_, _-_, _*_, _≤_, _<_}
+use native.Mathlib.Nat.{add-zero, add-suc}
 use native.Mathlib.Decide.{decLt}
 use native.Mathlib.Omega.{arith}
 use lib.Dec.{ltb}
 use lib.ListN.{getD}
 use borrow.Author.Tests.{lt-ltb, le-ltb}
 use Rattle.order.specs.Order.{Proper}
-use Rattle.difference.specs.System.{Solves, value}
+use Rattle.difference.specs.System.{value}
 use Rattle.difference.specs.Total.{total}
 use Rattle.difference.specs.Least.{solvable-solves, least-below}
 use Rattle.difference.specs.Span.{span}
 use Rattle.sheet.specs.Sound.{FlightSound}
 use Rattle.sheet.specs.declared.FlightSection.{FlightSection}
 use Rattle.rules.specs.Flight.{passTime}
-use Rattle.flight_order.specs.Constraints.{passOf, timeOf, constraintOf, systemFor, exactFlight, leastStarts, possibleIn}
+use Rattle.flight_order.specs.Constraints.{passOf, constraintOf, systemFor, exactFlight, leastStarts, possibleIn}
 use Rattle.flight_order.specs.Schedule.{constraint-least, constraint-most, constraint-order}
 use Rattle.flight_order.specs.Good.{Good, inside}
 use Rattle.flight_order.specs.Timetable.{time-is, time-first, time-second}

@@ -1,6 +1,6 @@
 -- A schedule of the constraints is what the rules call a timetable that keeps the order, and conversely. Consecutive passes of the order are apart by the constraints;
 -- a chain of these, and that every pass has a position, makes all pairs apart. The last pass of the order ends last, and so gives the figure.
-use mathlib.Core.Path.{_≡_, refl, sym, ap, _∙_}
+use mathlib.Core.Path.{_≡_, sym, ap, _∙_}
 use mathlib.Core.List.{List}
 use mathlib.Core.Logic.{_⊎_, inl, inr}
 use Prim.Native.Nat.{ℕ, zero, suc, _+_, _-_, _*_, _≤_, _<_}

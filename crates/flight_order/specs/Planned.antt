@@ -1,13 +1,12 @@
 -- What the least starts of a proper order are by the rules: a lawful timetable that keeps the order, if there is one, in which no pass could
 -- start earlier, and whose figure no other has below it.
-use mathlib.Core.Path.{_≡_, refl, sym, ap, _∙_}
-use mathlib.Core.Bool.{Bool, true, false, cond, true≢false}
+use mathlib.Core.Path.{_≡_, sym, ap, _∙_}
+use mathlib.Core.Bool.{true}
 use mathlib.Core.List.{List}
 use Prim.Native.Nat.{ℕ, _+_, _-_, _*_, _≤_, _<_}
 use native.Mathlib.Decide.{decLt}
 use native.Mathlib.Omega.{arith}
-use lib.Dec.{eqb}
-use lib.ListN.{length, getD}
+use lib.ListN.{getD}
 use borrow.Author.Tests.{eq-eqb, ne-eqb}
 use Rattle.order.specs.Order.{Proper}
 use Rattle.difference.specs.System.{value, holds, leastValues, solvable}
@@ -18,7 +17,7 @@ use Rattle.rules.specs.Flight.{passStart, passTime, passEnd, FlightLawful, Keep
 use Rattle.rules.specs.declared.Passes.{Passes}
 use Rattle.flight_order.specs.Constraints.{exactFlight, systemFor, leastStarts, possibleIn, orderFigure}
 use Rattle.flight_order.specs.Schedule.{Schedule, schedule-solves, solves-schedule}
-use Rattle.flight_order.specs.Good.{Good, inside}
+use Rattle.flight_order.specs.Good.{inside}
 use Rattle.flight_order.specs.Timetable.{passesFrom, leastPasses, passes-length, start-from, time-second, greatest-most}
 use Rattle.flight_order.specs.Lawful.{lawful-schedule, schedule-keeps, schedule-lawful, figure-last}
 use Rattle.flight_order.specs.Ceiling.{sound-good, least-end}

@@ -1,6 +1,5 @@
 -- The numbered constraints say the three rules of a schedule: each delay in its window, and each pass of the order after the pass before it.
-use mathlib.Core.Path.{_≡_, refl}
-use mathlib.Core.Bool.{cond}
+use mathlib.Core.Path.{_≡_}
 use Prim.Native.Nat.{ℕ, _+_, _-_, _*_, _≤_, _<_}
 use native.Mathlib.Decide.{decLt}
 use native.Mathlib.Omega.{arith}
@@ -8,7 +7,6 @@ use lib.ListN.{getD}
 use borrow.Author.Tests.{lt-ltb, le-ltb}
 use Rattle.difference.specs.System.{Solves}
 use Rattle.flight_order.specs.Constraints.{OrderedFlight, passOf, timeOf, constraintOf, systemFor}
-use Rattle.flight_order.specs.declared.Constraint.{Constraint}
 
 -- y p is the start of pass p.
 pub record Schedule (F : OrderedFlight) (y : ℕ → ℕ) : Type 0 where
