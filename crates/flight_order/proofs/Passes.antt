@@ -1,5 +1,5 @@
 -- Passes, times and constraints as the code computes them.
-use mathlib.Core.Path.{_≡_, sym, _∙_}
+use mathlib.Core.Path.{_≡_, sym, ap, _∙_}
 use mathlib.Core.List.{List}
 use Prim.Native.Nat.{ℕ, _+_, _-_, _*_, _^_, _≤_, _<_}
 use native.Mathlib.Omega.{arith}
@@ -57,6 +57,11 @@ module _ (n w turn : ℕ) (first second least most : List ℕ) (k : ℕ) where
   made-least l = sym (constraint-least (orderedFlight n w turn first second least most) k l)
 
   pub made-most : n ≤ k → k < 2 * n
-      → _≡_ {A = Constraint} (record { from = k; to = k - n; up = 0; down = getD first (k - n) 0 + getD most (k - n) 0 })
+      → _≡_ {A = Constraint} (record { from = n + (k - n); to = k - n; up = 0; down = getD first (k - n) 0 + getD most (k - n) 0 })
       (constraintOf (orderedFlight n w turn first second least most) k)
-  made-most g l = sym (constraint-most (orderedFlight n w turn first second least most) k g l)
+  made-most g l =
+      ap (λ (p : ℕ). record { from = p; to = k - n; up = 0; down = getD first (k - n) 0 + getD most (k - n) 0 }) back
+      ∙ sym (constraint-most (orderedFlight n w turn first second least most) k g l)
+    where
+      back : n + (k - n) ≡ k
+      back = omega arith

@@ -59,7 +59,7 @@ fn constraint_at<'a>(
     if k < 2 * n {
         let i = k - n;
         return Constraint {
-            from: k,
+            from: n + i,
             to: i,
             up: 0,
             down: first[i] + most[i],

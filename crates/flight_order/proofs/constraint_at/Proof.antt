@@ -1,4 +1,4 @@
--- `flight_order::constraint_at` meets its contract: one law for each of the three kinds of constraint; the flight's times are low, so no sum wraps.
+-- `flight_order::constraint_at` meets its contract: one law for each of the three kinds of constraint; the times are low, so no sum wraps.
 use borrow.Author.Needs.{needs}
 use Rattle.flight_order.proofs.Passes.{least-fits, most-fits, pass-below, up-fits, made-least, made-most, made-order}
 use Rattle.flight_order.proofs.constraint_at.Statement.{statement}
@@ -28,20 +28,23 @@ returns c = search made-least
 mul-if2 : tie.Need-mul-if2
 mul-if2 c = search needs
 
-mul-t24 : tie.Need-mul-t24
-mul-t24 c = search needs
+add-t24 : tie.Need-add-t24
+add-t24 c = search needs
 
-shared-slice-read-t26 : tie.Need-shared-slice-read-t26
-shared-slice-read-t26 c = search needs
+mul-t25 : tie.Need-mul-t25
+mul-t25 c = search needs
 
-mul-t27 : tie.Need-mul-t27
-mul-t27 c = search needs
+shared-slice-read-t27 : tie.Need-shared-slice-read-t27
+shared-slice-read-t27 c = search needs
 
-shared-slice-read-t29 : tie.Need-shared-slice-read-t29
-shared-slice-read-t29 c = search needs
+mul-t28 : tie.Need-mul-t28
+mul-t28 c = search needs
 
-add-t30 : tie.Need-add-t30
-add-t30 c = record { fits = search most-fits }
+shared-slice-read-t30 : tie.Need-shared-slice-read-t30
+shared-slice-read-t30 c = search needs
+
+add-t31 : tie.Need-add-t31
+add-t31 c = record { fits = search most-fits }
 
 returns-2 : tie.Need-returns-2
 returns-2 c = search made-most
@@ -64,8 +67,8 @@ pass-of-requires-2 c κs = search needs
 time-of-requires : tie.Need-time-of-requires
 time-of-requires c κs = (search needs, search needs, search pass-below)
 
-add-t31 : tie.Need-add-t31
-add-t31 c = record { fits = search up-fits }
+add-t32 : tie.Need-add-t32
+add-t32 c = record { fits = search up-fits }
 
 returns-3 : tie.Need-returns-3
 returns-3 c = search made-order
@@ -82,11 +85,12 @@ constraint-at-spec =
     add-t22
     returns
     mul-if2
-    mul-t24
-    shared-slice-read-t26
-    mul-t27
-    shared-slice-read-t29
-    add-t30
+    add-t24
+    mul-t25
+    shared-slice-read-t27
+    mul-t28
+    shared-slice-read-t30
+    add-t31
     returns-2
     mul-j
     sub-j
@@ -94,5 +98,5 @@ constraint-at-spec =
     add-pass-of
     pass-of-requires-2
     time-of-requires
-    add-t31
+    add-t32
     returns-3)
