@@ -31,19 +31,17 @@ module _ (n : ℕ) (first second : List ℕ) (p : ℕ) where
   unfolding timeOf
   second-time l = rw (le-ltb p n l)
 
+-- Low times have low sums.
+pub times-fit : (s t : List ℕ) (i : ℕ) → ((k : ℕ) → getD s k 0 ≤ 2 ^ 31) → ((k : ℕ) → getD t k 0 ≤ 2 ^ 31) → getD s i 0 + getD t i 0 < 2 ^ 64
+times-fit s t i a b = omega (arith, a i, b i)
+
 module _ (n w turn : ℕ) (first second least most : List ℕ) (good : Good (orderedFlight n w turn first second least most)) where
-  pub least-fits : (k : ℕ) → getD first k 0 + getD least k 0 < 2 ^ 64
-  least-fits k = omega (arith, good .first-low k, good .least-low k)
-
-  pub most-fits : (i : ℕ) → getD first i 0 + getD most i 0 < 2 ^ 64
-  most-fits i = omega (arith, good .first-low i, good .most-low i)
-
   pub pass-below : (k p : ℕ) → 2 * n ≤ k → k < 4 * n - 1 → p ≡ passOf n w (k - 2 * n)
       → p < 2 * n
   pass-below k p g l e = rw e (pass-in (good .proper) (k - 2 * n) (omega arith))
 
-  pub up-fits : (p time : ℕ) → time ≡ timeOf n first second p → time + turn < 2 ^ 64
-  up-fits p time e = omega (arith, good .turn-low, time-low (orderedFlight n w turn first second least most) good p)
+  pub up-fits : (p time more : ℕ) → time ≡ timeOf n first second p → more ≤ 2 ^ 31 → time + more < 2 ^ 64
+  up-fits p time more e l = omega (arith, time-low (orderedFlight n w turn first second least most) good p)
 
   pub made-order : (k p q time : ℕ) → 2 * n ≤ k → p ≡ passOf n w (k - 2 * n) → q ≡ passOf n w (k - 2 * n + 1) → time ≡ timeOf n first second p
       → _≡_ {A = Constraint} (record { from = p; to = q; up = time + turn; down = 0 }) (constraintOf (orderedFlight n w turn first second least most) k)

@@ -1,6 +1,6 @@
 -- `flight_order::constraint_at` meets its contract: one law for each of the three kinds of constraint; the times are low, so no sum wraps.
 use borrow.Author.Needs.{needs}
-use Rattle.flight_order.proofs.Passes.{least-fits, most-fits, pass-below, up-fits, made-least, made-most, made-order}
+use Rattle.flight_order.proofs.Passes.{times-fit, pass-below, up-fits, made-least, made-most, made-order}
 use Rattle.flight_order.proofs.constraint_at.Statement.{statement}
 use Rattle.flight_order.proofs.constraint_at.Tie as tie
 
@@ -20,7 +20,7 @@ shared-slice-read-t21 : tie.Need-shared-slice-read-t21
 shared-slice-read-t21 c = search needs
 
 add-t22 : tie.Need-add-t22
-add-t22 c = record { fits = search least-fits }
+add-t22 c = record { fits = search times-fit }
 
 returns : tie.Need-returns
 returns c = search made-least
@@ -44,7 +44,7 @@ shared-slice-read-t30 : tie.Need-shared-slice-read-t30
 shared-slice-read-t30 c = search needs
 
 add-t31 : tie.Need-add-t31
-add-t31 c = record { fits = search most-fits }
+add-t31 c = record { fits = search times-fit }
 
 returns-2 : tie.Need-returns-2
 returns-2 c = search made-most
@@ -68,7 +68,7 @@ time-of-requires : tie.Need-time-of-requires
 time-of-requires c κs = (search needs, search needs, search pass-below)
 
 add-t32 : tie.Need-add-t32
-add-t32 c = record { fits = search up-fits }
+add-t32 c = record { fits = search (needs, up-fits) }
 
 returns-3 : tie.Need-returns-3
 returns-3 c = search made-order
