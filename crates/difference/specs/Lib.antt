@@ -1,0 +1,9 @@
+-- Difference constraints: their rounds, and that these reach the least solution or show that there is none.
+pub mod System
+pub mod Total
+pub mod Gap
+pub mod Round
+pub mod Least
+pub mod Span
+pub mod Agree
+pub mod Rows

@@ -1,0 +1,64 @@
+// Difference constraints over slices: rounds that raise values from 0 to the least solution.
+// Constraint k stands in `rows` at 4 k: from, to, up, down. It says: value[from] + up <= value[to] + down.
+ghost use mathlib.Core.Path.{_≡_};
+ghost use lib.ListN.{length, replicate};
+ghost use Rattle.difference.specs.Rows.{systemOf, Fit, Ready, RoundDone, SolveDone};
+
+// The numbers of a row.
+const ROW: usize = 4;
+
+fn index(x: u64) -> usize
+    ensures { λ r. ⌜ r ≡ x ⌝ }
+{
+    x as usize
+}
+
+fn clear(values: &mut [u64])
+    ensures { λ _. ⌜ now (values .exit) ≡ replicate (length (now (values .entry))) 0 ⌝ }
+{
+    let mut z = 0;
+    while z < values.len() {
+        values[z] = 0;
+        z += 1;
+    }
+}
+
+// One round over all constraints; true where the values were a solution, and stay as they were.
+fn round(rows: &[u64], values: &mut [u64]) -> bool
+    requires { ⌜ Ready (now values) (now rows) ⌝ }
+    ensures { λ r. ⌜ RoundDone (systemOf (length (now (values .entry))) (now (rows .entry))) (now (values .entry)) (now (values .exit)) r ⌝ }
+{
+    let count = rows.len() / ROW;
+    let mut held = true;
+    let mut k = 0;
+    while k < count {
+        let at = ROW * k;
+        let i = index(rows[at]);
+        let j = index(rows[at + 1]);
+        let down = rows[at + 3];
+        let wanted = values[i] + rows[at + 2];
+        if values[j] + down < wanted {
+            values[j] = wanted - down;
+            held = false;
+        }
+        k += 1;
+    }
+    held
+}
+
+// The least solution, or false where there is none.
+pub fn solve(rows: &[u64], values: &mut [u64]) -> bool
+    requires { ⌜ Fit (length (now values)) (now rows) ⌝ }
+    ensures { λ r. ⌜ SolveDone (systemOf (length (now (values .entry))) (now (rows .entry))) (now (values .exit)) r ⌝ }
+{
+    let variables = values.len();
+    clear(values);
+    let mut r = 0;
+    while r < variables {
+        if round(rows, values) {
+            return true;
+        }
+        r += 1;
+    }
+    false
+}

@@ -1,0 +1,5 @@
+-- Laws that the proofs of the functions cite.
+pub mod Trying
+pub mod Searching
+pub mod Copying
+pub mod Planning

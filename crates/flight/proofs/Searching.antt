@@ -1,0 +1,104 @@
+-- The four ways of the search at a beginning, as the code takes them, with `left` passes to come at position 2 n - left.
+use mathlib.Core.Path.{_≡_, sym, ap, _∙_}
+use mathlib.Core.List.{List}
+use Prim.Native.Nat.{ℕ, suc, _+_, _-_, _*_, _^_, _≤_, _<_}
+use native.Mathlib.Omega.{arith}
+use lib.ListN.{length}
+use Rattle.order.specs.Order.{seconds, firsts}
+use Rattle.order.specs.Seconds.{firsts-seconds}
+use Rattle.order.specs.Beginning.{Beginning}
+use Rattle.order.specs.Children.{first-child, second-child, whole-proper}
+use Rattle.flight.specs.Search.{Orders, tried, searched}
+use Rattle.flight.specs.Choice.{ordersOf}
+use Rattle.flight.specs.Searched.{searched-end, searched-both, searched-first, searched-second}
+use Rattle.flight.specs.Contracts.{freeSection, SearchRoom, TryAsked, SearchAsked}
+use Rattle.flight.specs.declared.Incumbent.{Incumbent}
+
+room-again : {n : ℕ} {first second delay rows₀ starts₀ rows starts : List ℕ} → SearchRoom n first second delay rows₀ starts₀
+    → length rows ≡ length rows₀ → length starts ≡ length starts₀ → SearchRoom n first second delay rows starts
+room-again r e d = record {
+  some = r .some;
+  few = r .few;
+  first-long = r .first-long;
+  second-long = r .second-long;
+  delay-long = r .delay-long;
+  first-low = r .first-low;
+  second-low = r .second-low;
+  delay-low = r .delay-low;
+  rows-length = e ∙ r .rows-length;
+  starts-length = d ∙ r .starts-length;
+}
+
+module _ {n left x : ℕ} {first second delay rows₀ starts₀ : List ℕ} (asked : SearchAsked n left x first second delay rows₀ starts₀) where
+  pub leaf-asked : left ≡ 0 → TryAsked n x first second delay rows₀ starts₀
+  leaf-asked e = record { room = asked .room; proper = whole-proper (rw whole at (asked .begun)) }
+    where
+      whole : 2 * n - left ≡ 2 * n
+      whole = omega arith
+
+  module _ (more : left ≡ 0 → ⊥) where
+    pub append-within : 2 * n - left < 64
+    append-within = omega (arith, more, asked .room .few, asked .room .some)
+
+    pub append-short : x < 2 ^ (2 * n - left)
+    append-short = asked .begun .no-higher
+
+    next : 2 * n - left + 1 ≡ 2 * n - (left - 1)
+    next = omega (arith, more, asked .within)
+
+    short : left - 1 ≤ 2 * n
+    short = omega (arith, asked .within)
+
+    -- Where every first pass is taken, a second pass is left.
+    second-left : n ≤ firsts x (2 * n - left) → seconds x (2 * n - left) < firsts x (2 * n - left)
+    second-left l = omega (arith, more, asked .within, firsts-seconds x (2 * n - left))
+
+    pub first-asked : (a : ℕ) → a ≡ firsts x (2 * n - left) → a < n → SearchAsked n (left - 1) x first second delay rows₀ starts₀
+    first-asked a e l = record { room = asked .room; within = short; begun = rw next at (first-child (asked .begun) (omega arith)) }
+
+    second-begun : (y : ℕ) → seconds x (2 * n - left) < firsts x (2 * n - left) → y ≡ x + 2 ^ (2 * n - left) → Beginning n (2 * n - (left - 1)) y
+    second-begun y l e = rw e (rw next at (second-child (asked .begun) l))
+
+    pub only-second-asked : (a y : ℕ) → a ≡ firsts x (2 * n - left) → n ≤ a → y ≡ x + 2 ^ (2 * n - left)
+        → SearchAsked n (left - 1) y first second delay rows₀ starts₀
+    only-second-asked a y e l d = record { room = asked .room; within = short; begun = second-begun y (second-left (omega arith)) d }
+
+    pub second-asked : {rows starts : List ℕ} → length rows ≡ length rows₀ → length starts ≡ length starts₀
+        → (a b y : ℕ) → a ≡ firsts x (2 * n - left) → b ≡ seconds x (2 * n - left) → b < a → y ≡ x + 2 ^ (2 * n - left)
+        → SearchAsked n (left - 1) y first second delay rows starts
+    second-asked lr ls a b y e d l s = record { room = room-again (asked .room) lr ls; within = short; begun = second-begun y (omega arith) s }
+
+    step : left ≡ suc (left - 1)
+    step = omega (arith, more)
+
+    module _ (best r : Incumbent) where
+      abbrev O : Orders
+      O = ordersOf (freeSection n first second delay)
+
+      pub only-second : (a y : ℕ) → a ≡ firsts x (2 * n - left) → n ≤ a → y ≡ x + 2 ^ (2 * n - left)
+          → r ≡ searched (ordersOf (freeSection n first second delay)) (left - 1) y best
+          → r ≡ searched (ordersOf (freeSection n first second delay)) left x best
+      unfolding ordersOf
+      only-second a y e l d q =
+          q ∙ ap (λ (z : ℕ). searched O (left - 1) z best) d ∙ sym (rw (← step) at (searched-second O (left - 1) x best (rw (← step, ← e) l) (rw (← step) (second-left (omega arith)))))
+
+      pub only-first : (a b : ℕ) → a ≡ firsts x (2 * n - left) → b ≡ seconds x (2 * n - left) → a < n → a ≤ b
+          → r ≡ searched (ordersOf (freeSection n first second delay)) (left - 1) x best
+          → r ≡ searched (ordersOf (freeSection n first second delay)) left x best
+      unfolding ordersOf
+      only-first a b e d h l q =
+          q ∙ sym (rw (← step) at (searched-first O (left - 1) x best (rw (← step, ← e) h) (rw (← step, ← e, ← d) l)))
+
+      pub first-then-second : (after : Incumbent) (a b y : ℕ) → a ≡ firsts x (2 * n - left) → b ≡ seconds x (2 * n - left) → a < n → b < a → y ≡ x + 2 ^ (2 * n - left)
+          → after ≡ searched (ordersOf (freeSection n first second delay)) (left - 1) x best
+          → r ≡ searched (ordersOf (freeSection n first second delay)) (left - 1) y after
+          → r ≡ searched (ordersOf (freeSection n first second delay)) left x best
+      unfolding ordersOf
+      first-then-second after a b y e d h l s p q =
+          q
+          ∙ ap (searched O (left - 1) y) p
+          ∙ ap (λ (z : ℕ). searched O (left - 1) z (searched O (left - 1) x best)) s
+          ∙ sym (rw (← step) at (searched-both O (left - 1) x best (rw (← step, ← e) h) (rw (← step, ← e, ← d) l)))
+
+pub search-end : (O : Orders) (left x : ℕ) (best r : Incumbent) → left ≡ 0 → r ≡ tried O x best → r ≡ searched O left x best
+search-end O left x best r e q = q ∙ sym (searched-end O x best) ∙ ap (λ (m : ℕ). searched O m x best) (sym e)

@@ -1,0 +1,104 @@
+-- One order tried, as the code does it: what the least starts of the order give for the incumbent.
+use mathlib.Core.Path.{_≡_, sym, ap, _∙_}
+use mathlib.Core.Bool.{Bool, true, false, cond, not, _&&_, _||_}
+use mathlib.Core.List.{List}
+use Prim.Native.Nat.{ℕ, _+_, _-_, _*_, _^_, _≤_, _<_}
+use native.Mathlib.Omega.{arith}
+use lib.Dec.{ltb}
+use lib.ListN.{getD}
+use borrow.Author.Tests.{not-true, not-false, lt-ltb, le-ltb, ne-eqb}
+use Rattle.order.specs.Order.{Proper}
+use Rattle.flight_order.specs.Constraints.{orderedFlight, leastStarts, possibleIn, orderFigure}
+use Rattle.flight_order.specs.Good.{Good, least-low}
+use Rattle.flight_order.specs.Contracts.{Rooms, Least}
+use Rattle.flight.specs.Search.{Orders, improves, tried}
+use Rattle.flight.specs.Choice.{ordersOf}
+use Rattle.flight.specs.Contracts.{freeSection, SearchRoom, TryAsked}
+use Rattle.flight.specs.declared.Incumbent.{Incumbent}
+
+-- An order that is not possible, or has no smaller figure, leaves the incumbent; another replaces it.
+module _ (O : Orders) (w : ℕ) (b : Incumbent) where
+  stays-impossible : O .possible w ≡ false → b ≡ tried O w b
+  unfolding tried improves
+  stays-impossible e = rw e
+
+  stays-better : O .possible w ≡ true → b .possible ≡ true → b .figure ≤ O .figure w → b ≡ tried O w b
+  unfolding tried improves
+  stays-better e p l = sym (ap (λ (i : Bool). cond i (record { possible = true; figure = O .figure w; order = w }) b) test)
+    where
+      test : O .possible w && (not (b .possible) || ltb (O .figure w) (b .figure)) ≡ false
+      test = rw (e, p, le-ltb (O .figure w) (b .figure) l)
+
+  replaced-none : O .possible w ≡ true → b .possible ≡ false → _≡_ {A = Incumbent} (record { possible = true; figure = O .figure w; order = w }) (tried O w b)
+  unfolding tried improves
+  replaced-none e p = sym (ap (λ (i : Bool). cond i (record { possible = true; figure = O .figure w; order = w }) b) test)
+    where
+      test : O .possible w && (not (b .possible) || ltb (O .figure w) (b .figure)) ≡ true
+      test = rw (e, p)
+
+  replaced-worse : O .possible w ≡ true → b .possible ≡ true → O .figure w < b .figure
+      → _≡_ {A = Incumbent} (record { possible = true; figure = O .figure w; order = w }) (tried O w b)
+  unfolding tried improves
+  replaced-worse e p l = sym (ap (λ (i : Bool). cond i (record { possible = true; figure = O .figure w; order = w }) b) test)
+    where
+      test : O .possible w && (not (b .possible) || ltb (O .figure w) (b .figure)) ≡ true
+      test = rw (e, p, lt-ltb (O .figure w) (b .figure) l)
+
+pub room-good : {n w : ℕ} {first second delay rows starts : List ℕ} → SearchRoom n first second delay rows starts → Proper n w
+    → Good (orderedFlight n w 0 first second delay delay)
+room-good room proper = record {
+  some = room .some;
+  few = room .few;
+  proper = proper;
+  first-long = room .first-long;
+  second-long = room .second-long;
+  least-long = room .delay-long;
+  most-long = room .delay-long;
+  turn-low = omega arith;
+  first-low = room .first-low;
+  second-low = room .second-low;
+  least-low = room .delay-low;
+  most-low = room .delay-low;
+}
+
+module _ {n w : ℕ} {first second delay rows₀ starts₀ : List ℕ} (asked : TryAsked n w first second delay rows₀ starts₀) where
+  pub try-rooms : Rooms (orderedFlight n w 0 first second delay delay) rows₀ starts₀
+  try-rooms = record {
+    room = record { good = room-good (asked .room) (asked .proper); rows-length = asked .room .rows-length };
+    starts-length = asked .room .starts-length;
+  }
+
+  module _ {rows starts : List ℕ} {found : Bool} (least : Least (orderedFlight n w 0 first second delay delay) rows starts found) where
+    pub figure-fits : getD starts (2 * n - 1) 0 + getD second (n - 1) 0 < 2 ^ 64
+    figure-fits = rw (least .starts) (omega (arith, least-low (orderedFlight n w 0 first second delay delay) (room-good (asked .room) (asked .proper)) (2 * n - 1), asked .room .second-low (n - 1)))
+
+    same-possible : ordersOf (freeSection n first second delay) .possible w ≡ found
+    unfolding ordersOf possibleIn
+    same-possible = sym (least .result)
+
+    same-figure : ordersOf (freeSection n first second delay) .figure w ≡ getD starts (2 * n - 1) 0 + getD second (n - 1) 0
+    unfolding ordersOf orderFigure leastStarts
+    same-figure = rw (ne-eqb n 0 (λ e. omega (arith, asked .room .some)), least .starts)
+
+    module _ (b : Incumbent) where
+      pub try-impossible : not found ≡ true → b ≡ tried (ordersOf (freeSection n first second delay)) w b
+      try-impossible e = stays-impossible (ordersOf (freeSection n first second delay)) w b (same-possible ∙ not-true found e)
+
+      module _ (e : not found ≡ false) where
+        pub try-stays : b .possible ≡ true → b .figure ≤ getD starts (2 * n - 1) 0 + getD second (n - 1) 0
+            → b ≡ tried (ordersOf (freeSection n first second delay)) w b
+        try-stays p l = stays-better (ordersOf (freeSection n first second delay)) w b (same-possible ∙ not-false found e) p (rw same-figure l)
+
+        pub try-replaces : b .possible ≡ true → getD starts (2 * n - 1) 0 + getD second (n - 1) 0 < b .figure
+            → _≡_ {A = Incumbent} (record { possible = true; figure = getD starts (2 * n - 1) 0 + getD second (n - 1) 0; order = w })
+            (tried (ordersOf (freeSection n first second delay)) w b)
+        try-replaces p l =
+            ap (λ (v : ℕ). record { possible = true; figure = v; order = w }) (sym same-figure)
+            ∙ replaced-worse (ordersOf (freeSection n first second delay)) w b (same-possible ∙ not-false found e) p (rw same-figure l)
+
+        pub try-first : b .possible ≡ false
+            → _≡_ {A = Incumbent} (record { possible = true; figure = getD starts (2 * n - 1) 0 + getD second (n - 1) 0; order = w })
+            (tried (ordersOf (freeSection n first second delay)) w b)
+        try-first p =
+            ap (λ (v : ℕ). record { possible = true; figure = v; order = w }) (sym same-figure)
+            ∙ replaced-none (ordersOf (freeSection n first second delay)) w b (same-possible ∙ not-false found e) p

@@ -1,0 +1,220 @@
+-- Some order is always possible: each block's two passes one after the other, 1010 .. 10. Its beginnings of 2 i passes are those of i blocks,
+-- and block i starts when all blocks before it have taken their passes and delays.
+use mathlib.Core.Path.{_≡_, _∙_}
+use mathlib.Core.Bool.{true, cond}
+use Prim.Native.Nat.{ℕ, zero, suc, _+_, _-_, _*_, _/_, _%_, _^_, _≤_, _<_}
+use native.Mathlib.Decide.{decLt, ℕ-discrete}
+use native.Mathlib.Numerals.{add-one}
+use native.Mathlib.Omega.{arith}
+use lib.Dec.{ltb}
+use lib.ListN.{getD}
+use borrow.Author.Tests.{lt-ltb, le-ltb}
+use Rattle.order.specs.Order.{bit, seconds, firsts, Proper}
+use Rattle.order.specs.Seconds.{bit-first, bit-second, seconds-more, firsts-seconds, seconds-first, firsts-first, seconds-second, firsts-second}
+use Rattle.order.specs.Beginning.{Beginning, Extends}
+use Rattle.order.specs.Children.{beginning-empty, first-child, second-child, whole-proper, extends-bit, extends-seconds, extends-firsts, extends-itself, first-parent, second-parent}
+use Rattle.sheet.specs.Sound.{FlightSound}
+use Rattle.sheet.specs.declared.FlightSection.{FlightSection}
+use Rattle.rules.specs.Sums.{sumOver}
+use Rattle.flight_order.specs.Constraints.{passOf, timeOf, exactFlight, possibleIn}
+use Rattle.flight_order.specs.Schedule.{Schedule}
+use Rattle.flight_order.specs.Good.{pass-first, pass-second}
+use Rattle.flight_order.specs.Planned.{schedule-possible, empty-possible}
+
+-- The order of i blocks one after the other.
+unfoldable pub alternate : ℕ → ℕ
+alternate zero = 0
+alternate (suc i) = alternate i + 2 ^ (2 * i + 1)
+
+-- A beginning of 2 i passes with i first and i second passes.
+record Half (n i : ℕ) : Type 0 where
+  begun : Beginning n (2 * i) (alternate i)
+  first-count : firsts (alternate i) (2 * i) ≡ i
+  second-count : seconds (alternate i) (2 * i) ≡ i
+
+half : (n i : ℕ) → i ≤ n → Half n i
+unfolding alternate
+half n zero l = record { begun = beginning-empty n; first-count = omega (arith, firsts-seconds 0 0); second-count = omega (arith, firsts-seconds 0 0) }
+half n (suc i) l = go (half n i (omega arith))
+  where
+    go : Half n i → Half n (suc i)
+    go h = record { begun = rw e two; first-count = rw e (omega (arith, more-firsts)); second-count = rw e (omega (arith, more-seconds)) }
+      where
+        e : 2 * suc i ≡ 2 * i + 1 + 1
+        e = omega arith
+
+        one : Beginning n (2 * i + 1) (alternate i)
+        one = first-child (h .begun) (omega (arith, h .first-count))
+
+        one-first : firsts (alternate i) (2 * i + 1) ≡ i + 1
+        one-first = omega (arith, firsts-first (alternate i) (2 * i) (h .begun .no-higher), h .first-count)
+
+        one-second : seconds (alternate i) (2 * i + 1) ≡ i
+        one-second = omega (arith, seconds-first (alternate i) (2 * i) (h .begun .no-higher), h .second-count)
+
+        two : Beginning n (2 * i + 1 + 1) (alternate i + 2 ^ (2 * i + 1))
+        two = second-child one (omega (arith, one-first, one-second))
+
+        more-firsts : firsts (alternate i + 2 ^ (2 * i + 1)) (2 * i + 1 + 1) ≡ i + 1
+        more-firsts = omega (arith, firsts-second (alternate i) (2 * i + 1) (one .no-higher), one-first)
+
+        more-seconds : seconds (alternate i + 2 ^ (2 * i + 1)) (2 * i + 1 + 1) ≡ i + 1
+        more-seconds = omega (arith, seconds-second (alternate i) (2 * i + 1) (one .no-higher), one-second)
+
+pub alternate-proper : (n : ℕ) → Proper n (alternate n)
+alternate-proper n = whole-proper (half n n (omega arith) .begun)
+
+-- The first 2 (i + 1) passes, without the last, and without the last two.
+module _ (n : ℕ) where
+  low : (i : ℕ) → i ≤ n → alternate i < 2 ^ (2 * i)
+  low i l = half n i l .begun .no-higher
+
+  low-more : (i : ℕ) → i < n → alternate i < 2 ^ (2 * i + 1)
+  low-more i l = first-child (half n i (omega arith) .begun) (omega (arith, half n i (omega arith) .first-count)) .no-higher
+
+  extends : (d i : ℕ) → i + d ≡ n → Extends (alternate n) (2 * i) (alternate i)
+  unfolding alternate
+  extends zero i e = rw same (extends-itself (alternate-proper n))
+    where
+      same : i ≡ n
+      same = omega arith
+  extends (suc d) i e = go (extends d (suc i) (omega arith))
+    where
+      next : 2 * suc i ≡ 2 * i + 1 + 1
+      next = omega arith
+
+      go : Extends (alternate n) (2 * suc i) (alternate i + 2 ^ (2 * i + 1)) → Extends (alternate n) (2 * i) (alternate i)
+      go x = first-parent (low i (omega arith)) (second-parent (alternate n) (2 * i + 1) (alternate i) (low-more i (omega arith)) (rw next at x))
+
+  module _ (i : ℕ) (l : i < n) where
+    here : Extends (alternate n) (2 * i) (alternate i)
+    here = extends (n - i) i (omega arith)
+
+    after : Extends (alternate n) (2 * i + 1 + 1) (alternate i + 2 ^ (2 * i + 1))
+    unfolding alternate
+    after = rw next at (extends (n - suc i) (suc i) (omega arith))
+      where
+        next : 2 * suc i ≡ 2 * i + 1 + 1
+        next = omega arith
+
+    between : Extends (alternate n) (2 * i + 1) (alternate i)
+    between = second-parent (alternate n) (2 * i + 1) (alternate i) (low-more i l) after
+
+    even-bit : bit (alternate n) (2 * i) ≡ 0
+    even-bit = extends-bit between (2 * i) (omega arith) ∙ bit-first (alternate i) (2 * i) (low i (omega arith))
+
+    odd-bit : bit (alternate n) (2 * i + 1) ≡ 1
+    odd-bit = extends-bit after (2 * i + 1) (omega arith) ∙ bit-second (alternate i) (2 * i + 1) (low-more i l)
+
+    even-pass : passOf n (alternate n) (2 * i) ≡ i
+    even-pass =
+        pass-first n (alternate n) (2 * i) (λ e. omega (arith, even-bit))
+        ∙ extends-firsts here (2 * i) (omega arith)
+        ∙ half n i (omega arith) .first-count
+
+    odd-pass : passOf n (alternate n) (2 * i + 1) ≡ n + i
+    odd-pass =
+        pass-second n (alternate n) (2 * i + 1) odd-bit
+        ∙ omega (
+          arith,
+          seconds-more (alternate n) (2 * i),
+          even-bit,
+          extends-seconds here (2 * i) (omega arith),
+          half n i (omega arith) .second-count,
+        )
+
+module _ (f : FlightSection) where
+  -- The time from block i's first start to its second end, and the start of pass p.
+  whole : ℕ → ℕ
+  whole i = getD (f .first) i 0 + getD (f .delay) i 0 + getD (f .second) i 0
+
+  starts : ℕ → ℕ
+  starts p =
+      cond (ltb p (f .blocks)) (sumOver p whole)
+      (sumOver (p - f .blocks) whole + getD (f .first) (p - f .blocks) 0 + getD (f .delay) (p - f .blocks) 0)
+
+  starts-first : (i : ℕ) → i < f .blocks → starts i ≡ sumOver i whole
+  unfolding starts
+  starts-first i l = rw (lt-ltb i (f .blocks) l)
+
+  starts-second : (i : ℕ) → starts (f .blocks + i) ≡ sumOver i whole + getD (f .first) i 0 + getD (f .delay) i 0
+  unfolding starts
+  starts-second i = rw (le-ltb (f .blocks + i) (f .blocks) (omega arith), back)
+    where
+      back : f .blocks + i - f .blocks ≡ i
+      back = omega arith
+
+  sum-more : (i : ℕ) → sumOver (i + 1) whole ≡ sumOver i whole + (getD (f .first) i 0 + getD (f .delay) i 0 + getD (f .second) i 0)
+  unfolding sumOver whole
+  sum-more i = rw (add-one i)
+
+  time-first : (i : ℕ) → i < f .blocks → timeOf (f .blocks) (f .first) (f .second) i ≡ getD (f .first) i 0
+  unfolding timeOf
+  time-first i l = rw (lt-ltb i (f .blocks) l)
+
+  time-second : (i : ℕ) → timeOf (f .blocks) (f .first) (f .second) (f .blocks + i) ≡ getD (f .second) i 0
+  unfolding timeOf
+  time-second i = rw (le-ltb (f .blocks + i) (f .blocks) (omega arith), back)
+    where
+      back : f .blocks + i - f .blocks ≡ i
+      back = omega arith
+
+  order-step : (j : ℕ) → j + 1 < 2 * f .blocks
+      → starts (passOf (f .blocks) (alternate (f .blocks)) j)
+      + (timeOf (f .blocks) (f .first) (f .second) (passOf (f .blocks) (alternate (f .blocks)) j) + 0)
+      ≤ starts (passOf (f .blocks) (alternate (f .blocks)) (j + 1))
+  order-step j l = go (ℕ-discrete (j % 2) 0)
+    where
+      i : ℕ
+      i = j / 2
+
+      goal : ℕ → Type 0
+      goal j =
+          starts (passOf (f .blocks) (alternate (f .blocks)) j)
+          + (timeOf (f .blocks) (f .first) (f .second) (passOf (f .blocks) (alternate (f .blocks)) j) + 0)
+          ≤ starts (passOf (f .blocks) (alternate (f .blocks)) (j + 1))
+
+      even : (i : ℕ) → i < f .blocks → goal (2 * i)
+      even i q =
+          rw (even-pass (f .blocks) i q, odd-pass (f .blocks) i q, starts-first i q, starts-second i, time-first i q)
+          (omega arith)
+
+      odd : (i : ℕ) → i + 1 < f .blocks → goal (2 * i + 1)
+      odd i q =
+          rw (
+            odd-pass (f .blocks) i (omega arith),
+            next,
+            even-pass (f .blocks) (i + 1) q,
+            starts-first (i + 1) q,
+            starts-second i,
+            time-second i,
+            sum-more i,
+          )
+          (omega arith)
+        where
+          next : 2 * i + 1 + 1 ≡ 2 * (i + 1)
+          next = omega arith
+
+      go : Dec (j % 2 ≡ 0) → goal j
+      go (yes e) = rw back (even (j / 2) (omega arith))
+        where
+          back : j ≡ 2 * (j / 2)
+          back = omega arith
+      go (no e) = rw back (odd (j / 2) (omega arith))
+        where
+          back : j ≡ 2 * (j / 2) + 1
+          back = omega arith
+
+  alternate-schedule : Schedule (exactFlight f (alternate (f .blocks))) starts
+  alternate-schedule = record {
+    at-least = λ i l. omega (arith, starts-first i l, starts-second i);
+    at-most = λ i l. omega (arith, starts-first i l, starts-second i);
+    in-order = order-step;
+  }
+
+  pub alternate-possible : FlightSound f → possibleIn f (alternate (f .blocks)) ≡ true
+  alternate-possible sound = go (decLt 0 (f .blocks))
+    where
+      go : Dec (0 < f .blocks) → possibleIn f (alternate (f .blocks)) ≡ true
+      go (yes some) = schedule-possible f (alternate (f .blocks)) sound (alternate-proper (f .blocks)) some starts alternate-schedule
+      go (no none) = empty-possible f (alternate (f .blocks)) sound (alternate-proper (f .blocks)) none

@@ -1,0 +1,50 @@
+-- The plan: its order, which is the given one or the one that the search takes, and the least starts in that order.
+use mathlib.Core.Path.{_≡_}
+use mathlib.Core.Bool.{Bool, true, false}
+use mathlib.Core.List.{List}
+use Prim.Native.Nat.{ℕ, _*_, _≤_}
+use lib.ListN.{getD}
+use Rattle.sheet.specs.declared.FlightSection.{FlightSection}
+use Rattle.rules.specs.declared.Passes.{Passes}
+use Rattle.flight_order.specs.Constraints.{possibleIn, orderFigure}
+use Rattle.flight_order.specs.Timetable.{listOf, leastPasses}
+use Rattle.flight.specs.Search.{Orders, noIncumbent, searched}
+use Rattle.flight.specs.declared.FlightPlan.{FlightPlan}
+
+unfoldable pub ordersOf : FlightSection → Orders
+ordersOf f = record { blocks = f .blocks; possible = possibleIn f; figure = orderFigure f }
+
+-- 01: "A given order must be kept; otherwise any proper order may be chosen."
+unfoldable pub chosenOrder : FlightSection → ℕ
+chosenOrder f = elim (f .ordered) [ true ↦ f .order | false ↦ searched (ordersOf f) (2 * f .blocks) 0 noIncumbent .order ]
+
+unfoldable pub isPossible : FlightSection → Bool
+isPossible f = possibleIn f (chosenOrder f)
+
+unfoldable pub leastFigure : FlightSection → ℕ
+leastFigure f = orderFigure f (chosenOrder f)
+
+unfoldable pub chosenPasses : FlightSection → List Passes
+chosenPasses f = leastPasses f (chosenOrder f)
+
+-- The passes that a plan states for n blocks.
+unfoldable pub passesOf : ℕ → FlightPlan → List Passes
+passesOf n r = listOf n (λ i. record { first = getD (r .first) i 0; second = getD (r .second) i 0 })
+
+-- The plan in an order: whether the order is possible, and the least starts. Where it is not possible, figure and passes are no timetable's.
+pub record PlannedIn (f : FlightSection) (w : ℕ) (r : FlightPlan) : Type 0 where
+  pub possible : r .possible ≡ possibleIn f w
+  pub figure : r .figure ≡ orderFigure f w
+  pub order : r .order ≡ w
+  pub passes : passesOf (f .blocks) r ≡ leastPasses f w
+  pub no-more-first : (i : ℕ) → f .blocks ≤ i → getD (r .first) i 0 ≡ 0
+  pub no-more-second : (i : ℕ) → f .blocks ≤ i → getD (r .second) i 0 ≡ 0
+
+-- The planner's promise.
+pub record Planned (f : FlightSection) (r : FlightPlan) : Type 0 where
+  pub possible : r .possible ≡ isPossible f
+  pub figure : r .figure ≡ leastFigure f
+  pub order : r .order ≡ chosenOrder f
+  pub passes : passesOf (f .blocks) r ≡ chosenPasses f
+  pub no-more-first : (i : ℕ) → f .blocks ≤ i → getD (r .first) i 0 ≡ 0
+  pub no-more-second : (i : ℕ) → f .blocks ≤ i → getD (r .second) i 0 ≡ 0

@@ -1,0 +1,73 @@
+-- The theorems on the flight's plan, for every sound flight section f. The program's promise is that its plan is `isPossible f`, `leastFigure f`,
+-- `chosenOrder f` and `chosenPasses f` (Choice.antt); the rules are those of crate rules.
+use mathlib.Core.Path.{_≡_, refl, sym, _∙_}
+use mathlib.Core.Bool.{Bool, true, false, true≢false}
+use mathlib.Core.List.{List}
+use Prim.Native.Nat.{ℕ, _+_, _-_, _*_, _≤_, _<_}
+use native.Mathlib.Omega.{arith}
+use Rattle.sheet.specs.Sound.{FlightSound}
+use Rattle.sheet.specs.declared.FlightSection.{FlightSection}
+use Rattle.rules.specs.Flight.{passesAt, passEnd, FlightLawful, Keeps, OrderAllowed, flightFigure}
+use Rattle.rules.specs.declared.Passes.{Passes}
+use Rattle.flight_order.specs.Timetable.{start-first, start-second}
+use Rattle.flight_order.specs.Planned.{possible-lawful, possible-keeps, kept-possible, least-earliest, least-figure, figure-below, least-ends}
+use Rattle.flight.specs.Choice.{chosenOrder, isPossible, leastFigure, chosenPasses}
+use Rattle.flight.specs.Chosen.{chosen-proper, chosen-allowed, chosen-least, allowed-possible, free-possible}
+
+module _ (f : FlightSection) (sound : FlightSound f) where
+  -- A plan that is possible is a timetable, keeps its order, and the order is the given one or, where none is given, a proper one.
+  pub flight-lawful : isPossible f ≡ true → FlightLawful f (chosenPasses f) × Keeps f (chosenOrder f) (chosenPasses f) × OrderAllowed f (chosenOrder f)
+  unfolding isPossible chosenPasses
+  flight-lawful e = (
+    possible-lawful f (chosenOrder f) sound (chosen-proper f sound) e,
+    possible-keeps f (chosenOrder f) sound (chosen-proper f sound) e,
+    chosen-allowed f sound,
+  )
+
+  -- Its figure is the rules' figure.
+  pub flight-figure : isPossible f ≡ true → flightFigure f (chosenPasses f) ≡ leastFigure f
+  unfolding isPossible chosenPasses leastFigure
+  flight-figure e = least-figure f (chosenOrder f) sound (chosen-proper f sound) e
+
+  -- No timetable that keeps an allowed order has a smaller figure.
+  pub flight-least : (w : ℕ) (ps : List Passes) → FlightLawful f ps → Keeps f w ps → OrderAllowed f w → leastFigure f ≤ flightFigure f ps
+  flight-least w ps law keeps allowed =
+      omega (
+        arith,
+        chosen-least f sound w allowed (kept-possible f w sound (allowed .proper) ps law keeps),
+        figure-below f w sound (allowed .proper) ps law keeps,
+      )
+
+  -- No pass starts earlier in any timetable that keeps the chosen order; where an order is given, in any allowed plan.
+  pub flight-earliest : (ps : List Passes) → FlightLawful f ps → Keeps f (chosenOrder f) ps → (i : ℕ) → i < f .blocks
+      → (passesAt (chosenPasses f) i .first ≤ passesAt ps i .first) × (passesAt (chosenPasses f) i .second ≤ passesAt ps i .second)
+  unfolding chosenPasses
+  flight-earliest ps law keeps i l = (
+    rw (start-first f (chosenPasses f) i l, start-first f ps i l) at (least-earliest f (chosenOrder f) sound (chosen-proper f sound) ps law keeps i (omega arith)),
+    rw (start-second f (chosenPasses f) (f .blocks + i) (omega arith), start-second f ps (f .blocks + i) (omega arith), back)
+        at (least-earliest f (chosenOrder f) sound (chosen-proper f sound) ps law keeps (f .blocks + i) (omega arith)),
+  )
+    where
+      back : f .blocks + i - f .blocks ≡ i
+      back = omega arith
+
+  -- The plan is not possible exactly where no timetable keeps an allowed order.
+  pub flight-impossible : (isPossible f ≡ false → (w : ℕ) (ps : List Passes) → FlightLawful f ps → Keeps f w ps → OrderAllowed f w → ⊥)
+      × (((w : ℕ) (ps : List Passes) → FlightLawful f ps → Keeps f w ps → OrderAllowed f w → ⊥) → isPossible f ≡ false)
+  flight-impossible = (
+    λ e w ps law keeps allowed. true≢false (sym (allowed-possible f sound w allowed (kept-possible f w sound (allowed .proper) ps law keeps)) ∙ e),
+    λ none. go none (isPossible f) refl,
+  )
+    where
+      go : ((w : ℕ) (ps : List Passes) → FlightLawful f ps → Keeps f w ps → OrderAllowed f w → ⊥) → (b : Bool) → isPossible f ≡ b → b ≡ false
+      go none true e = let h = flight-lawful e in absurd (none (chosenOrder f) (chosenPasses f) (h .0) (h .1) (h .2))
+      go none false e = refl
+
+  -- Where no order is given, the plan is always possible.
+  pub flight-free : f .ordered ≡ false → isPossible f ≡ true
+  flight-free = free-possible f sound
+
+  -- The ceiling of 10,000,000 is never met: every pass of the plan ends by 960,000.
+  pub flight-ends : isPossible f ≡ true → (p : ℕ) → p < 2 * f .blocks → passEnd f (chosenPasses f) p ≤ 960000
+  unfolding isPossible chosenPasses
+  flight-ends e p l = least-ends f (chosenOrder f) sound (chosen-proper f sound) e p l

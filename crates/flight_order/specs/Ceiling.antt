@@ -1,0 +1,107 @@
+-- The least starts never reach the ceiling: a first pass with its delay takes at most 20,000, a second pass at most 10,000, and the last end
+-- is at most the sum of these over 32 blocks, 960,000.
+use mathlib.Core.Path.{_≡_}
+use mathlib.Core.Bool.{cond, true}
+use Prim.Native.Nat.{ℕ, zero, suc, _+_, _-_, _*_, _≤_, _<_}
+use native.Mathlib.Nat.{add-zero, add-suc}
+use native.Mathlib.Decide.{decLt}
+use native.Mathlib.Omega.{arith}
+use lib.Dec.{ltb}
+use lib.ListN.{getD}
+use borrow.Author.Tests.{lt-ltb, le-ltb}
+use Rattle.order.specs.Order.{Proper}
+use Rattle.difference.specs.System.{value}
+use Rattle.difference.specs.Total.{total}
+use Rattle.difference.specs.Least.{solvable-solves, least-below}
+use Rattle.difference.specs.Span.{span}
+use Rattle.sheet.specs.Sound.{FlightSound}
+use Rattle.sheet.specs.declared.FlightSection.{FlightSection}
+use Rattle.rules.specs.Flight.{passTime}
+use Rattle.flight_order.specs.Constraints.{passOf, constraintOf, systemFor, exactFlight, leastStarts, possibleIn}
+use Rattle.flight_order.specs.Schedule.{constraint-least, constraint-most, constraint-order}
+use Rattle.flight_order.specs.Good.{Good, inside}
+use Rattle.flight_order.specs.Timetable.{time-is, time-first, time-second}
+
+-- A sound flight is what the code asks for.
+pub sound-good : (f : FlightSection) (w : ℕ) → FlightSound f → 0 < f .blocks → Proper (f .blocks) w → Good (exactFlight f w)
+sound-good f w s some proper = record {
+  some = some;
+  few = s .most-blocks;
+  proper = proper;
+  first-long = omega (arith, s .most-blocks, s .first-length);
+  second-long = omega (arith, s .most-blocks, s .second-length);
+  least-long = omega (arith, s .most-blocks, s .delay-length);
+  most-long = omega (arith, s .most-blocks, s .delay-length);
+  turn-low = omega arith;
+  first-low = λ i. omega (arith, s .most-first i);
+  second-low = λ i. omega (arith, s .most-second i);
+  least-low = λ i. omega (arith, s .most-delay i);
+  most-low = λ i. omega (arith, s .most-delay i);
+}
+
+-- What a pass may hold up: a first pass its delay too.
+reach : FlightSection → ℕ → ℕ
+reach f p = cond (ltb p (f .blocks)) (getD (f .first) p 0 + getD (f .delay) p 0) (getD (f .second) (p - f .blocks) 0)
+
+module _ (f : FlightSection) where
+  reach-first : (p : ℕ) → p < f .blocks → reach f p ≡ getD (f .first) p 0 + getD (f .delay) p 0
+  unfolding reach
+  reach-first p l = rw (lt-ltb p (f .blocks) l)
+
+  reach-second : (p : ℕ) → f .blocks ≤ p → reach f p ≡ getD (f .second) (p - f .blocks) 0
+  unfolding reach
+  reach-second p l = rw (le-ltb p (f .blocks) l)
+
+  time-reach : (p : ℕ) → passTime f p ≤ reach f p
+  time-reach p = go (decLt p (f .blocks))
+    where
+      go : Dec (p < f .blocks) → passTime f p ≤ reach f p
+      go (yes l) = omega (arith, time-first f p l, reach-first p l)
+      go (no l) = omega (arith, time-second f p (omega arith), reach-second p (omega arith))
+
+  up-reach : (w k : ℕ) → k < 4 * f .blocks - 1 → constraintOf (exactFlight f w) k .up ≤ reach f (constraintOf (exactFlight f w) k .from)
+  up-reach w k l = go (decLt k (f .blocks)) (decLt k (2 * f .blocks))
+    where
+      go : Dec (k < f .blocks) → Dec (k < 2 * f .blocks) → constraintOf (exactFlight f w) k .up ≤ reach f (constraintOf (exactFlight f w) k .from)
+      go (yes q) e = rw (constraint-least (exactFlight f w) k q) (omega (arith, reach-first k q))
+      go (no g) (yes q) = rw (constraint-most (exactFlight f w) k (omega arith) q) (omega arith)
+      go (no g) (no h) = rw (constraint-order (exactFlight f w) k (omega arith)) (omega (arith, time-is f p, time-reach p))
+        where
+          p : ℕ
+          p = passOf (f .blocks) w (k - 2 * f .blocks)
+
+  module _ (s : FlightSound f) where
+    firsts-total : (m : ℕ) → m ≤ f .blocks → total m (reach f) ≤ 20000 * m
+    unfolding total
+    firsts-total zero l = omega arith
+    firsts-total (suc m) l = omega (arith, firsts-total m (omega arith), reach-first m l, s .most-first m, s .most-delay m)
+
+    all-total : (m : ℕ) → total (f .blocks + m) (reach f) ≤ 20000 * f .blocks + 10000 * m
+    unfolding total
+    all-total zero = rw (add-zero (f .blocks)) (omega (arith, firsts-total (f .blocks) (omega arith)))
+    all-total (suc m) = rw (add-suc (f .blocks) m) (omega (arith, all-total m, reach-second (f .blocks + m) (omega arith), s .most-second (f .blocks + m - f .blocks)))
+
+    reach-total : total (2 * f .blocks) (reach f) ≤ 960000
+    reach-total = rw e (omega (arith, all-total (f .blocks), s .most-blocks))
+      where
+        e : 2 * f .blocks ≡ f .blocks + f .blocks
+        e = omega arith
+
+    pub least-end : (w : ℕ) → 0 < f .blocks → Proper (f .blocks) w → possibleIn f w ≡ true → (p : ℕ) → p < 2 * f .blocks
+        → value (leastStarts f w) p + passTime f p ≤ 960000
+    unfolding leastStarts possibleIn
+    least-end w some proper e p l =
+        omega (
+          arith,
+          span (systemFor (exactFlight f w)) (inside (exactFlight f w) good) (value (leastStarts f w)) (reach f)
+              (solvable-solves (systemFor (exactFlight f w)) (inside (exactFlight f w) good) e)
+              (λ y h j q. least-below (systemFor (exactFlight f w)) (inside (exactFlight f w) good) y h j)
+              (up-reach w)
+              p
+              l,
+          time-reach p,
+          reach-total,
+        )
+      where
+        good : Good (exactFlight f w)
+        good = sound-good f w s some proper

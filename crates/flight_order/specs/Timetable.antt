@@ -1,0 +1,111 @@
+-- Lists of passes, and the starts and times of the rules by the number of the pass.
+use mathlib.Core.Path.{_≡_, refl, ap, _∙_}
+use mathlib.Core.List.{List, [], _∷_}
+use Prim.Native.Nat.{ℕ, zero, suc, _+_, _-_, _*_, _≤_, _<_, max}
+use native.Mathlib.Decide.{decLt, ℕ-discrete}
+use native.Mathlib.Omega.{arith}
+use lib.ListN.{length, getD}
+use borrow.Author.Tests.{lt-ltb, le-ltb}
+use Rattle.difference.specs.System.{value}
+use Rattle.sheet.specs.declared.FlightSection.{FlightSection}
+use Rattle.sheet.specs.Sound.{FlightSound}
+use Rattle.rules.specs.Sums.{greatestOver}
+use Rattle.rules.specs.Flight.{passesAt, passStart, passTime, passAt, noPasses}
+use Rattle.rules.specs.declared.Passes.{Passes}
+use Rattle.flight_order.specs.Constraints.{passOf, timeOf, leastStarts}
+
+-- The list g 0, g 1, .. g (n - 1).
+unfoldable pub listOf : ℕ → (ℕ → Passes) → List Passes
+listOf zero g = []
+listOf (suc n) g = g 0 ∷ listOf n (λ i. g (suc i))
+
+-- The passes of n blocks where pass p starts at y p.
+unfoldable pub passesFrom : ℕ → (ℕ → ℕ) → List Passes
+passesFrom n y = listOf n (λ i. record { first = y i; second = y (n + i) })
+
+-- The passes of a flight at their least starts in an order.
+unfoldable pub leastPasses : FlightSection → ℕ → List Passes
+leastPasses f order = passesFrom (f .blocks) (value (leastStarts f order))
+
+pub list-length : (n : ℕ) (g : ℕ → Passes) → length (listOf n g) ≡ n
+unfolding listOf
+list-length zero g = refl
+list-length (suc n) g = ap suc (list-length n (λ i. g (suc i)))
+
+pub list-at : (n : ℕ) (g : ℕ → Passes) (d : Passes) (i : ℕ) → i < n → getD (listOf n g) i d ≡ g i
+unfolding listOf
+list-at zero g d i l = absurd (omega arith)
+list-at (suc n) g d zero l = refl
+list-at (suc n) g d (suc i) l = list-at n (λ i. g (suc i)) d i (omega arith)
+
+module _ (n : ℕ) (y : ℕ → ℕ) where
+  pub passes-length : length (passesFrom n y) ≡ n
+  unfolding passesFrom
+  passes-length = list-length n (λ i. record { first = y i; second = y (n + i) })
+
+  passes-at : (i : ℕ) → i < n → passesAt (passesFrom n y) i ≡ record { first = y i; second = y (n + i) }
+  unfolding passesFrom passesAt
+  passes-at i l = list-at n (λ i. record { first = y i; second = y (n + i) }) noPasses i l
+
+  pub passes-first : (i : ℕ) → i < n → passesAt (passesFrom n y) i .first ≡ y i
+  passes-first i l = ap (λ (q : Passes). q .first) (passes-at i l)
+
+  pub passes-second : (i : ℕ) → i < n → passesAt (passesFrom n y) i .second ≡ y (n + i)
+  passes-second i l = ap (λ (q : Passes). q .second) (passes-at i l)
+
+module _ (f : FlightSection) where
+  pub start-first : (ps : List Passes) (p : ℕ) → p < f .blocks → passStart f ps p ≡ passesAt ps p .first
+  unfolding passStart
+  start-first ps p l = rw (lt-ltb p (f .blocks) l)
+
+  pub start-second : (ps : List Passes) (p : ℕ) → f .blocks ≤ p → passStart f ps p ≡ passesAt ps (p - f .blocks) .second
+  unfolding passStart
+  start-second ps p l = rw (le-ltb p (f .blocks) l)
+
+  pub start-from : (y : ℕ → ℕ) (p : ℕ) → p < 2 * f .blocks → passStart f (passesFrom (f .blocks) y) p ≡ y p
+  start-from y p l = go (decLt p (f .blocks))
+    where
+      go : Dec (p < f .blocks) → passStart f (passesFrom (f .blocks) y) p ≡ y p
+      go (yes q) = start-first (passesFrom (f .blocks) y) p q ∙ passes-first (f .blocks) y p q
+      go (no q) = start-second (passesFrom (f .blocks) y) p (omega arith) ∙ passes-second (f .blocks) y (p - f .blocks) (omega arith) ∙ ap y back
+        where
+          back : f .blocks + (p - f .blocks) ≡ p
+          back = omega arith
+
+  pub time-is : (p : ℕ) → passTime f p ≡ timeOf (f .blocks) (f .first) (f .second) p
+  unfolding passTime timeOf
+  time-is p = refl
+
+  pub pass-is : (w k : ℕ) → passAt f w k ≡ passOf (f .blocks) w k
+  unfolding passAt passOf
+  pass-is w k = refl
+
+  pub time-first : (p : ℕ) → p < f .blocks → passTime f p ≡ getD (f .first) p 0
+  unfolding passTime
+  time-first p l = rw (lt-ltb p (f .blocks) l)
+
+  pub time-second : (p : ℕ) → f .blocks ≤ p → passTime f p ≡ getD (f .second) (p - f .blocks) 0
+  unfolding passTime
+  time-second p l = rw (le-ltb p (f .blocks) l)
+
+  pub time-some : FlightSound f → (p : ℕ) → p < 2 * f .blocks → 1 ≤ passTime f p
+  time-some s p l = go (decLt p (f .blocks))
+    where
+      go : Dec (p < f .blocks) → 1 ≤ passTime f p
+      go (yes q) = omega (arith, time-first p q, s .least-first p q)
+      go (no q) = omega (arith, time-second p (omega arith), s .least-second (p - f .blocks) (omega arith))
+
+-- Greatest values.
+pub greatest-most : (m : ℕ) (g : ℕ → ℕ) (b : ℕ) → ((p : ℕ) → p < m → g p ≤ b) → greatestOver m g ≤ b
+unfolding greatestOver
+greatest-most zero g b h = omega arith
+greatest-most (suc m) g b h = omega (arith, h m (omega arith), greatest-most m g b (λ p l. h p (omega arith)))
+
+pub greatest-part : (m : ℕ) (g : ℕ → ℕ) (p : ℕ) → p < m → g p ≤ greatestOver m g
+unfolding greatestOver
+greatest-part zero g p l = absurd (omega arith)
+greatest-part (suc m) g p l = go (ℕ-discrete p m) (greatest-part m g p)
+  where
+    go : Dec (p ≡ m) → (p < m → g p ≤ greatestOver m g) → g p ≤ max (greatestOver m g) (g m)
+    go (yes e) ih = rw e (omega arith)
+    go (no ne) ih = omega (arith, ih (omega arith))

@@ -1,0 +1,124 @@
+// A flight in one pass order: its constraints written out, and the least start of every pass.
+ghost use mathlib.Core.Path.{_≡_};
+ghost use Prim.Native.Nat.{_≤_, _<_, _*_, _-_};
+ghost use lib.ListN.{length};
+ghost use Rattle.flight_order.specs.Constraints.{orderedFlight, passOf, timeOf, constraintOf};
+ghost use Rattle.flight_order.specs.Good.{Good};
+ghost use Rattle.flight_order.specs.Contracts.{Rows, Room, Rooms, Least};
+
+// A constraint: start[from] + up <= start[to] + down.
+pub struct Constraint {
+    pub from: usize,
+    pub to: usize,
+    pub up: u64,
+    pub down: u64,
+}
+
+// The pass at position k: the first pass of block i is pass i, its second pass is pass n + i.
+fn pass_of(n: usize, order: u64, k: usize) -> usize
+    requires { ⌜ (n ≤ 32) × (k < 64) ⌝ }
+    ensures { λ r. ⌜ r ≡ passOf n order k ⌝ }
+{
+    if order::pass_at(order, k as u64) == 1 {
+        return n + order::seconds_before(order, k as u64) as usize;
+    }
+    order::firsts_before(order, k as u64) as usize
+}
+
+// The time that pass p takes.
+fn time_of<'a>(n: usize, first: &'a [u64], second: &'a [u64], p: usize) -> u64
+    requires { ⌜ (n ≤ length (now first)) × (n ≤ length (now second)) × (p < 2 * n) ⌝ }
+    ensures { λ r. ⌜ r ≡ timeOf n (now (first .entry)) (now (second .entry)) p ⌝ }
+{
+    if p < n { first[p] } else { second[p - n] }
+}
+
+// Constraint k: the least delay of a block, the greatest delay of a block, or the next pass after a pass and the turn.
+fn constraint_at<'a>(
+    n: usize,
+    order: u64,
+    turn: u64,
+    first: &'a [u64],
+    second: &'a [u64],
+    least: &'a [u64],
+    most: &'a [u64],
+    k: usize,
+) -> Constraint
+    requires { ⌜ Good (orderedFlight n order turn (now first) (now second) (now least) (now most)) ⌝ }
+    requires { ⌜ k < 4 * n - 1 ⌝ }
+    ensures { λ r. ⌜ r ≡ constraintOf (orderedFlight n order turn (now (first .entry)) (now (second .entry)) (now (least .entry)) (now (most .entry))) k ⌝ }
+{
+    if k < n {
+        return Constraint {
+            from: k,
+            to: n + k,
+            up: first[k] + least[k],
+            down: 0,
+        };
+    }
+    if k < 2 * n {
+        let i = k - n;
+        return Constraint {
+            from: n + i,
+            to: i,
+            up: 0,
+            down: first[i] + most[i],
+        };
+    }
+    let j = k - 2 * n;
+    let p = pass_of(n, order, j);
+    let q = pass_of(n, order, j + 1);
+    let time = time_of(n, first, second, p);
+    Constraint {
+        from: p,
+        to: q,
+        up: time + turn,
+        down: 0,
+    }
+}
+
+// All constraints, each a row of four numbers.
+fn write_constraints<'a>(
+    n: usize,
+    order: u64,
+    turn: u64,
+    first: &'a [u64],
+    second: &'a [u64],
+    least: &'a [u64],
+    most: &'a [u64],
+    rows: &mut [u64],
+)
+    requires { ⌜ Room (orderedFlight n order turn (now first) (now second) (now least) (now most)) (now rows) ⌝ }
+    ensures { λ _. ⌜ Rows (orderedFlight n order turn (now (first .entry)) (now (second .entry)) (now (least .entry)) (now (most .entry))) (now (rows .exit)) (4 * n - 1) ⌝ }
+{
+    let count = 4 * n - 1;
+    let mut k = 0;
+    while k < count {
+        let c = constraint_at(n, order, turn, first, second, least, most, k);
+        let at = 4 * k;
+        rows[at] = c.from as u64;
+        rows[at + 1] = c.to as u64;
+        rows[at + 2] = c.up;
+        rows[at + 3] = c.down;
+        k += 1;
+    }
+}
+
+// The least start of every pass, or false where no schedule keeps the order.
+pub fn least_starts<'a>(
+    n: usize,
+    order: u64,
+    turn: u64,
+    first: &'a [u64],
+    second: &'a [u64],
+    least: &'a [u64],
+    most: &'a [u64],
+    rows: &mut [u64],
+    starts: &mut [u64],
+) -> bool
+    requires { ⌜ Rooms (orderedFlight n order turn (now first) (now second) (now least) (now most)) (now rows) (now starts) ⌝ }
+    ensures { λ r. ⌜ Least (orderedFlight n order turn (now (first .entry)) (now (second .entry)) (now (least .entry)) (now (most .entry))) (now (rows .exit)) (now (starts .exit)) r ⌝ }
+{
+    write_constraints(n, order, turn, first, second, least, most, rows);
+    difference::solve(rows, starts)
+}
