@@ -1,3 +1,4 @@
 -- What the judge answers.
 pub mod Layout
 pub mod Judged
+pub mod LayoutLaws

@@ -1,5 +1,15 @@
 // The judge of a plan: from the rules alone, the number and place of the first fault, or the figure of each section.
 use rules::{Batch, Desks};
+use sheet::Sheet;
+use sheet::numbers::{LAYOUT_WRONG, RULE_BROKEN};
+
+ghost use mathlib.Core.Path.{_≡_};
+ghost use Prim.Native.Nat.{ℕ, _+_, _*_, _≤_, _<_};
+ghost use lib.ListN.{length};
+ghost use Rattle.judge.specs.Judged.{sectionsFrom, layoutVerdict, turnedBack, found, judgedPlan, judged, partAt};
+ghost use Rattle.judge.specs.Layout.{mosaicPart, sortingPart, flightPart};
+
+mod layout;
 
 // What the judge answers: number 0, place 0 and the figure of each section, 0 for an absent one; or the number and place of a fault and no figure.
 pub struct Judged {
@@ -30,3 +40,4 @@ pub struct Verdict {
     pub number: u64,
     pub place: usize,
 }
+
