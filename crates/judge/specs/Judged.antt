@@ -1,100 +1,23 @@
 -- What the judge answers. "The judge .. checks the sheet (3 to 10), then all of 12, then section by section 13 on its members in order, 13 at its
 -- head, then 14. The first field that breaks a rule ends the judging."
-use Prim.Native.Nat.{ℕ, zero, suc, _+_, _-_, _*_}
-use mathlib.Core.Bool.{Bool, true, false, cond}
+use Prim.Native.Nat.{ℕ, zero, suc, _+_}
+use mathlib.Core.Bool.{true, false, cond}
 use mathlib.Core.List.{List}
-use lib.ListN.{length}
-use lib.Dec.{ltb, eqb}
-use Rattle.field.specs.Branch.{check}
-use Rattle.sheet.specs.Refusals.{layoutWrong, ruleBroken, figureUntrue}
+use lib.Dec.{eqb}
+use Rattle.sheet.specs.Refusals.{ruleBroken}
 use Rattle.sheet.specs.Read.{readSheet}
-use Rattle.sheet.specs.Sound.{stripsInAll}
 use Rattle.sheet.specs.declared.Sheet.{Sheet}
-use Rattle.rules.specs.Mosaic.{noBatch}
-use Rattle.rules.specs.Sorting.{deskFinish}
-use Rattle.rules.specs.Flight.{flightFigure}
-use Rattle.rules.specs.PlanRead.{figureFrom, orderFrom, batchFrom, jobFrom, passesFrom, membersFrom}
-use Rattle.rules.specs.Running.{freeDesks, afterJob}
-use Rattle.rules.specs.declared.Batch.{Batch}
-use Rattle.rules.specs.declared.Job.{Job}
-use Rattle.rules.specs.declared.Passes.{Passes}
-use Rattle.judge_rules.specs.Follows.{batchFollows, jobFollows, blockFollows, allDone, flightHead}
-use Rattle.judge.specs.Layout.{mosaicPart, sortingPart, flightPart}
-use Rattle.judge.specs.declared.Part.{Part}
-use Rattle.judge.specs.declared.Progress.{Progress}
-use Rattle.judge.specs.declared.Verdict.{Verdict}
+use Rattle.rules.specs.PlanRead.{figureFrom}
+use Rattle.judge_layout.specs.Layout.{mosaicPart, sortingPart, flightPart, verdict, layoutVerdict}
+use Rattle.judge_layout.specs.declared.Part.{Part}
+use Rattle.judge_layout.specs.declared.Verdict.{Verdict}
+use Rattle.judge_members.specs.Members.{present, memberPlace, begun, memberFollows, afterMember, headNumber}
+use Rattle.judge_members.specs.declared.Progress.{Progress}
 use Rattle.judge.specs.declared.Judged.{Judged}
 
--- The sections are numbered 1, mosaic; 2, sorting; 3, flight.
-unfoldable pub present : Sheet → ℕ → Bool
-present s section =
-    cond (eqb section 1) (ltb 0 (s .mosaic .strips))
-    (cond (eqb section 2) (ltb 0 (stripsInAll (s .sorting)))
-    (ltb 0 (s .flight .blocks)))
-
+-- the section of a plan, by its number
 unfoldable pub partAt : Sheet → List ℕ → ℕ → Part
 partAt s plan section = cond (eqb section 1) (mosaicPart s plan) (cond (eqb section 2) (sortingPart s plan) (flightPart s plan))
-
--- the bytes of a section's head, and of each of its members
-unfoldable pub headBytes : ℕ → ℕ
-headBytes section = cond (eqb section 1) 7 (cond (eqb section 2) 7 15)
-
-unfoldable pub memberBytes : ℕ → ℕ
-memberBytes section = cond (eqb section 1) 12 (cond (eqb section 2) 13 11)
-
--- the place of member k, from 0, of a section whose head stands at an offset
-unfoldable pub memberPlace : ℕ → ℕ → ℕ → ℕ
-memberPlace section head k = head + headBytes section + k * memberBytes section
-
-unfoldable pub begun : Progress
-begun = record { before = noBatch; desks = freeDesks; figure = 0 }
-
--- member k of a section at a place follows what was judged before it
-unfoldable pub memberFollows : Sheet → List ℕ → ℕ → ℕ → ℕ → Progress → Bool
-memberFollows s plan section k place st =
-    cond (eqb section 1) (batchFollows (s .mosaic) (st .before) (batchFrom plan place))
-    (cond (eqb section 2) (jobFollows (s .sorting) (st .desks) (jobFrom plan place))
-    (blockFollows (s .flight) k (passesFrom plan place)))
-
--- a strip is complete when its batch finishes; the figure of a sorting adds up its desks' finishing times
-unfoldable pub afterBatch : Progress → Batch → Progress
-afterBatch st b = record { before = b; desks = st .desks; figure = st .figure + (b .last - st .before .last) * b .finish }
-
-unfoldable pub afterStrip : Sheet → Progress → Job → Progress
-afterStrip s st j = record { before = st .before; desks = afterJob (s .sorting) (st .desks) j; figure = st .figure + deskFinish (s .sorting) j }
-
-unfoldable pub afterMember : Sheet → List ℕ → ℕ → ℕ → Progress → Progress
-afterMember s plan section place st =
-    cond (eqb section 1) (afterBatch st (batchFrom plan place))
-    (cond (eqb section 2) (afterStrip s st (jobFrom plan place))
-    st)
-
--- the passes of a flight whose head stands at an offset
-unfoldable pub passesOf : List ℕ → ℕ → ℕ → List Passes
-passesOf plan head members = membersFrom passesFrom 11 plan (head + 15) members
-
--- what is checked at the head, the members judged
-unfoldable pub headFollows : Sheet → List ℕ → ℕ → Part → Progress → Bool
-headFollows s plan section part st =
-    cond (eqb section 1) (eqb (st .before .last) (s .mosaic .strips))
-    (cond (eqb section 2) (allDone (s .sorting .counts) (st .desks .done) (s .sorting .desks))
-    (flightHead (s .flight) (part .members) (orderFrom plan (part .head)) (passesOf plan (part .head) (part .members))))
-
--- the figure that the rules give
-unfoldable pub figureOf : Sheet → List ℕ → ℕ → Part → Progress → ℕ
-figureOf s plan section part st =
-    cond (eqb section 1) (st .figure)
-    (cond (eqb section 2) (st .figure)
-    (flightFigure (s .flight) (passesOf plan (part .head) (part .members))))
-
-unfoldable pub headNumber : Sheet → List ℕ → ℕ → Part → Progress → ℕ
-headNumber s plan section part st =
-    check (headFollows s plan section part st) ruleBroken
-    (check (eqb (figureFrom plan (part .head)) (figureOf s plan section part st)) figureUntrue
-    0)
-
-unfoldable pub verdict : ℕ → ℕ → Verdict
-verdict number place = record { number = number; place = place }
 
 -- the first of the members left, from member k on, that breaks a rule, else the head's number
 unfoldable pub sectionFrom : ℕ → Sheet → List ℕ → ℕ → Part → ℕ → Progress → Verdict
@@ -117,17 +40,6 @@ sectionsFrom zero s plan section = verdict 0 0
 sectionsFrom (suc left) s plan section =
     elim (eqb (sectionVerdict s plan section .number) 0)
       [ true ↦ sectionsFrom left s plan (section + 1) | false ↦ sectionVerdict s plan section ]
-
--- 12: the head that is not the one due, or what stands behind the last section
-unfoldable pub layoutVerdict : Sheet → List ℕ → Verdict
-layoutVerdict s plan =
-    cond (mosaicPart s plan .right)
-    (cond (sortingPart s plan .right)
-    (cond (flightPart s plan .right)
-    (cond (eqb (flightPart s plan .end) (length plan)) (verdict 0 0) (verdict layoutWrong (flightPart s plan .end)))
-    (verdict layoutWrong (flightPart s plan .head)))
-    (verdict layoutWrong (sortingPart s plan .head)))
-    (verdict layoutWrong (mosaicPart s plan .head))
 
 -- the figure that a plan states for a section, 0 where it is absent
 unfoldable pub statedFigure : Sheet → List ℕ → ℕ → ℕ

@@ -1,4 +1,2 @@
 -- What the judge answers.
-pub mod Layout
 pub mod Judged
-pub mod LayoutLaws

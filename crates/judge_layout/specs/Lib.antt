@@ -1,0 +1,3 @@
+-- The layout of a plan.
+pub mod Layout
+pub mod Laws

@@ -1,0 +1,37 @@
+use Rattle.judge_members.specs.Laws.{head-wrong, figure-asked, figure-wrong, head-right}
+use borrow.Author.Needs.{needs}
+use Rattle.judge_members.proofs.head_number.Statement.{statement}
+use Rattle.judge_members.proofs.head_number.Tie as tie
+
+head-follows-requires : tie.Need-head-follows-requires
+head-follows-requires c κs = search needs
+
+returns : tie.Need-returns
+returns c = search head-wrong
+
+figure-of-requires : tie.Need-figure-of-requires
+figure-of-requires c κs = search figure-asked
+
+add-number : tie.Need-add-number
+add-number c = search needs
+
+number-requires : tie.Need-number-requires
+number-requires c κs = search needs
+
+returns-2 : tie.Need-returns-2
+returns-2 c = search figure-wrong
+
+returns-3 : tie.Need-returns-3
+returns-3 c = search head-right
+
+pub head-number-spec : {M : Type 1} → statement M
+head-number-spec =
+    tie.close
+    (tie.spec
+    head-follows-requires
+    returns
+    figure-of-requires
+    add-number
+    number-requires
+    returns-2
+    returns-3)

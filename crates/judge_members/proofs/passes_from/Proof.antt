@@ -1,0 +1,23 @@
+use Rattle.judge_members.specs.Laws.{passes-read}
+use borrow.Author.Needs.{needs}
+use Rattle.judge_members.proofs.passes_from.Statement.{statement}
+use Rattle.judge_members.proofs.passes_from.Tie as tie
+
+add-number : tie.Need-add-number
+add-number c = search needs
+
+number-requires : tie.Need-number-requires
+number-requires c κs = search needs
+
+add-number-2 : tie.Need-add-number-2
+add-number-2 c = search needs
+
+number-requires-2 : tie.Need-number-requires-2
+number-requires-2 c κs = search needs
+
+returns : tie.Need-returns
+returns c = search passes-read
+
+pub passes-from-spec : {M : Type 1} → statement M
+passes-from-spec =
+    tie.close (tie.spec add-number number-requires add-number-2 number-requires-2 returns)

@@ -1,0 +1,362 @@
+-- What the judge of a member and of a head requires and keeps to, and that what the code reads is what the definitions name.
+use Prim.Native.Nat.{ℕ, zero, suc, _+_, _-_, _*_, _^_, _≤_, _<_}
+use mathlib.Core.Path.{_≡_, refl, sym, ap, _∙_}
+use mathlib.Core.Bool.{Bool, true, false, not, cond, _&&_}
+use mathlib.Core.List.{List, _∷_, []}
+use native.Mathlib.Nat.{mul-le-mul-left}
+use native.Mathlib.Decide.{ℕ-discrete}
+use native.Mathlib.Omega.{arith}
+use lib.ListN.{length, getD, set, length-set}
+use lib.Dec.{ltb, leb, eqb}
+use borrow.Author.Tests.{eq-eqb, ne-eqb, eqb-true, ltb-true, leb-true, not-true, not-false}
+use Rattle.field.specs.Branch.{both, check}
+use Rattle.field.specs.Bytes.{numberAt, NumberRead}
+use Rattle.sheet.specs.Limits.{mostStrips, mostDesks, mostStripsOfDesk, mostTime, ceiling}
+use Rattle.sheet.specs.Refusals.{ruleBroken, figureUntrue}
+use Rattle.sheet.specs.Sound.{SheetSound, SortingSound, stripsInAll}
+use Rattle.sheet.specs.Stores.{set-here, set-there, set-most}
+use Rattle.sheet.specs.declared.SortingSection.{SortingSection}
+use Rattle.sheet.specs.declared.Sheet.{Sheet}
+use Rattle.rules.specs.Mosaic.{noBatch}
+use Rattle.rules.specs.Sorting.{stripsOf, scanEnd, deskFinish, deskTime}
+use Rattle.rules.specs.Flight.{flightFigure}
+use Rattle.rules.specs.PlanRead.{figureFrom, orderFrom, batchFrom, jobFrom, passesFrom}
+use Rattle.rules.specs.Running.{freeDesks, afterJob}
+use Rattle.rules.specs.FunctionLaws.{TimeTold, SlotAsked}
+use Rattle.rules.specs.declared.Batch.{Batch}
+use Rattle.rules.specs.declared.Job.{Job}
+use Rattle.rules.specs.declared.Passes.{Passes}
+use Rattle.rules.specs.declared.Desks.{Desks}
+use Rattle.judge_rules.specs.Follows.{batchInRun, batchInTime, batchFollows, jobInTurn, jobInTime, jobFollows, blockFollows, allDone, flightHead}
+use Rattle.judge_rules.specs.Asked.{BatchFits, JobFits, PassesFit, DesksFit, BatchAsked, JobAsked, JobTaken, BlockAsked}
+use Rattle.judge_flight.specs.Starts as starts
+use Rattle.judge_flight.specs.Starts.{passesOf, FigureTold}
+use Rattle.judge_layout.specs.declared.Part.{Part}
+use Rattle.judge_members.specs.Members.{present, headBytes, memberBytes, memberPlace, begun, memberFollows, afterBatch, afterStrip, afterMember, headFollows, figureOf, headNumber}
+use Rattle.judge_members.specs.declared.Progress.{Progress}
+
+-- members as the plan's bytes give them
+pub record BatchRead (plan : List ℕ) (at : ℕ) (b : Batch) : Type 0 where
+  pub is : b ≡ batchFrom plan at
+  pub fits : BatchFits b
+
+pub record JobRead (plan : List ℕ) (at : ℕ) (j : Job) : Type 0 where
+  pub is : j ≡ jobFrom plan at
+  pub fits : JobFits j
+
+pub record PassesRead (plan : List ℕ) (at : ℕ) (p : Passes) : Type 0 where
+  pub is : p ≡ passesFrom plan at
+  pub fits : PassesFit p
+
+module _ (plan : List ℕ) (at : ℕ) where
+  pub batch-read : (last start finish : ℕ) → NumberRead plan (at + 3) 1 last → NumberRead plan (at + 4) 4 start → NumberRead plan (at + 8) 4 finish → BatchRead plan at (record { last = last; start = start; finish = finish })
+  unfolding batchFrom
+  batch-read last start finish a b c = record { is = rw (a .is, b .is, c .is); fits = record { last = a .fits; start = b .fits; finish = c .fits } }
+
+  pub job-read : (desk number scan start : ℕ) → NumberRead plan (at + 3) 1 desk → NumberRead plan (at + 4) 1 number → NumberRead plan (at + 5) 4 scan → NumberRead plan (at + 9) 4 start → JobRead plan at (record { desk = desk; number = number; scan = scan; start = start })
+  unfolding jobFrom
+  job-read desk number scan start a b c d = record { is = rw (a .is, b .is, c .is, d .is); fits = record { desk = a .fits; number = b .fits; scan = c .fits; start = d .fits } }
+
+  pub passes-read : (first second : ℕ) → NumberRead plan (at + 3) 4 first → NumberRead plan (at + 7) 4 second → PassesRead plan at (record { first = first; second = second })
+  unfolding passesFrom
+  passes-read first second a b = record { is = rw (a .is, b .is); fits = record { first = a .fits; second = b .fits } }
+
+-- what holds as members are judged: the figure so far is within the ceiling for each strip judged
+pub record Kept (p : Progress) : Type 0 where
+  pub desks : DesksFit (p .desks)
+  pub most-last : p .before .last ≤ mostStrips
+  pub most-figure : p .figure ≤ (p .before .last + getD (p .desks .done) 0 0 + getD (p .desks .done) 1 0 + getD (p .desks .done) 2 0) * ceiling
+
+pub record PlaceAsked (head k : ℕ) : Type 0 where
+  pub room : head + 11 * k < 2 ^ 63
+
+pub record MemberAsked (s : Sheet) (place : ℕ) (p : Progress) : Type 0 where
+  pub sound : SheetSound s
+  pub room : place + 16 < 2 ^ 64
+  pub kept : Kept p
+
+pub record AfterAsked (s : Sheet) (plan : List ℕ) (section place : ℕ) (p : Progress) : Type 0 where
+  pub asked : MemberAsked s place p
+  pub index : ℕ
+  pub follows : memberFollows s plan section index place p ≡ true
+
+pub record AfterBatchAsked (p : Progress) (b : Batch) : Type 0 where
+  pub kept : Kept p
+  pub rises : p .before .last ≤ b .last
+  pub most-last : b .last ≤ mostStrips
+  pub within : b .finish ≤ ceiling
+
+pub record AfterStripAsked (s : Sheet) (p : Progress) (j : Job) : Type 0 where
+  pub kept : Kept p
+  pub taken : JobTaken (s .sorting) (p .desks) j
+  pub in-turn : j .number ≡ getD (p .desks .done) (j .desk - 1) 0 + 1
+  pub within : deskFinish (s .sorting) j ≤ ceiling
+
+pub record HeadAsked (s : Sheet) (part : Part) : Type 0 where
+  pub sound : SheetSound s
+  pub room : part .head + 1024 < 2 ^ 64
+
+pub record FigureAsked (s : Sheet) (plan : List ℕ) (section : ℕ) (part : Part) (p : Progress) : Type 0 where
+  pub asked : HeadAsked s part
+  pub follows : headFollows s plan section part p ≡ true
+
+-- the section by its number
+module _ (s : Sheet) (section : ℕ) where
+  pub present-mosaic : section ≡ 1 → ltb 0 (s .mosaic .strips) ≡ present s section
+  unfolding present
+  present-mosaic e = rw e
+
+  pub present-sorting : (n : ℕ) → section ≡ 2 → n ≡ stripsInAll (s .sorting) → ltb 0 n ≡ present s section
+  unfolding present
+  present-sorting n e en = rw (e, en)
+
+  pub present-flight : (section ≡ 1 → ⊥) → (section ≡ 2 → ⊥) → ltb 0 (s .flight .blocks) ≡ present s section
+  unfolding present
+  present-flight h₁ h₂ = rw (ne-eqb _ _ h₁, ne-eqb _ _ h₂)
+
+module _ (section head k : ℕ) where
+  pub place-mosaic : section ≡ 1 → head + 7 + k * 12 ≡ memberPlace section head k
+  unfolding memberPlace headBytes memberBytes
+  place-mosaic e = rw e
+
+  pub place-sorting : section ≡ 2 → head + 7 + k * 13 ≡ memberPlace section head k
+  unfolding memberPlace headBytes memberBytes
+  place-sorting e = rw e
+
+  pub place-flight : (section ≡ 1 → ⊥) → (section ≡ 2 → ⊥) → head + 15 + k * 11 ≡ memberPlace section head k
+  unfolding memberPlace headBytes memberBytes
+  place-flight h₁ h₂ = rw (ne-eqb _ _ h₁, ne-eqb _ _ h₂)
+
+-- members
+
+module _ (s : Sheet) (plan : List ℕ) (section k place : ℕ) (p : Progress) (r : Bool) where
+  pub member-batch : (b : Batch) → section ≡ 1 → BatchRead plan place b → r ≡ batchFollows (s .mosaic) (p .before) b → r ≡ memberFollows s plan section k place p
+  unfolding memberFollows
+  member-batch b e t h = h ∙ rw (e, t .is)
+
+  pub member-job : (j : Job) → section ≡ 2 → JobRead plan place j → r ≡ jobFollows (s .sorting) (p .desks) j → r ≡ memberFollows s plan section k place p
+  unfolding memberFollows
+  member-job j e t h = h ∙ rw (e, t .is)
+
+  pub member-block : (q : Passes) → (section ≡ 1 → ⊥) → (section ≡ 2 → ⊥) → PassesRead plan place q → r ≡ blockFollows (s .flight) k q → r ≡ memberFollows s plan section k place p
+  unfolding memberFollows
+  member-block q h₁ h₂ t h = h ∙ rw (ne-eqb _ _ h₁, ne-eqb _ _ h₂, t .is)
+
+module _ (s : Sheet) (plan : List ℕ) (place : ℕ) (p : Progress) (a : MemberAsked s place p) where
+  pub batch-asked : (b : Batch) → BatchRead plan place b → BatchAsked (s .mosaic) b
+  batch-asked b t = record { sound = a .sound .mosaic; fits = t .fits }
+
+  pub job-asked : (j : Job) → JobRead plan place j → JobAsked (s .sorting) (p .desks) j
+  job-asked j t = record { sound = a .sound .sorting; desks = a .kept .desks; fits = t .fits }
+
+  pub block-asked : (q : Passes) → PassesRead plan place q → BlockAsked (s .flight) q
+  block-asked q t = record { sound = a .sound .flight; fits = t .fits }
+
+-- after a member that follows
+
+batch-within : (readyAt before start finish due : ℕ) → batchInTime readyAt before start finish due ≡ true → finish ≤ ceiling
+unfolding batchInTime
+batch-within readyAt before start finish due e =
+    let u = both (leb readyAt start) (leb before start && (eqb finish due && leb finish ceiling)) e in
+    let v = both (leb before start) (eqb finish due && leb finish ceiling) (u .1) in
+    leb-true finish ceiling (both (eqb finish due) (leb finish ceiling) (v .1) .1)
+
+job-within : (scanner free scan scanned start finish : ℕ) → jobInTime scanner free scan scanned start finish ≡ true → finish ≤ ceiling
+unfolding jobInTime
+job-within scanner free scan scanned start finish e =
+    let u = both (leb scanner scan) (leb scanned start && (leb free start && leb finish ceiling)) e in
+    let v = both (leb scanned start) (leb free start && leb finish ceiling) (u .1) in
+    leb-true finish ceiling (both (leb free start) (leb finish ceiling) (v .1) .1)
+
+batch-facts : (s : Sheet) (p : Progress) (b : Batch) → batchFollows (s .mosaic) (p .before) b ≡ true → (p .before .last < b .last) × (b .last ≤ s .mosaic .strips) × (b .finish ≤ ceiling)
+unfolding batchFollows batchInRun
+batch-facts s p b e =
+    let x = both _ _ e in
+    let y = both _ _ (x .0) in
+    (ltb-true _ _ (y .0), leb-true _ _ (y .1), batch-within _ _ _ _ _ (x .1))
+
+job-facts : (s : Sheet) (p : Progress) (j : Job) → jobFollows (s .sorting) (p .desks) j ≡ true → (1 ≤ j .desk) × (j .desk ≤ s .sorting .desks) × (j .number ≡ getD (p .desks .done) (j .desk - 1) 0 + 1) × (j .number ≤ stripsOf (s .sorting) (j .desk)) × (deskFinish (s .sorting) j ≤ ceiling)
+unfolding jobFollows jobInTurn
+job-facts s p j e =
+    let x = both _ _ e in
+    let t = both _ _ (x .0) in
+    let u = both _ _ (t .1) in
+    let v = both _ _ (u .1) in
+    (leb-true _ _ (t .0), leb-true _ _ (u .0), eqb-true _ _ (v .0), leb-true _ _ (v .1), job-within _ _ _ _ _ _ (x .1))
+
+module _ (s : Sheet) (plan : List ℕ) (section place : ℕ) (p : Progress) (a : AfterAsked s plan section place p) where
+  pub after-batch-asked : (b : Batch) → section ≡ 1 → BatchRead plan place b → AfterBatchAsked p b
+  unfolding memberFollows
+  after-batch-asked b e t =
+      let f = batch-facts s p b (rw (t .is) (rw e at (a .follows))) in
+      record { kept = a .asked .kept; rises = omega (arith, f .0); most-last = omega (arith, f .1, a .asked .sound .mosaic .most-strips); within = f .2 }
+
+  pub after-strip-asked : (j : Job) → section ≡ 2 → JobRead plan place j → AfterStripAsked s p j
+  unfolding memberFollows stripsOf
+  after-strip-asked j e t =
+      let f = job-facts s p j (rw (t .is) (rw e at (a .follows))) in
+      let S = a .asked .sound .sorting in
+      record
+        { kept = a .asked .kept
+        ; taken =
+            record
+              { asked = job-asked s plan place p (a .asked) j t
+              ; least-desk = f .0
+              ; most-desk = omega (arith, f .1, S .most-desks)
+              ; least-number = omega (arith, f .2)
+              ; most-number = omega (arith, f .3, S .most-strips (j .desk - 1))
+              }
+        ; in-turn = f .2
+        ; within = f .4
+        }
+
+  pub after-mosaic : (b : Batch) (r : Progress) → section ≡ 1 → BatchRead plan place b → r ≡ afterBatch p b → r ≡ afterMember s plan section place p
+  unfolding afterMember
+  after-mosaic b r e t h = h ∙ rw (e, t .is)
+
+  pub after-sorting : (j : Job) (r : Progress) → section ≡ 2 → JobRead plan place j → r ≡ afterStrip s p j → r ≡ afterMember s plan section place p
+  unfolding afterMember
+  after-sorting j r e t h = h ∙ rw (e, t .is)
+
+  pub after-flight : (section ≡ 1 → ⊥) → (section ≡ 2 → ⊥) → p ≡ afterMember s plan section place p
+  unfolding afterMember
+  after-flight h₁ h₂ = rw (ne-eqb _ _ h₁, ne-eqb _ _ h₂)
+
+product-most : (x y : ℕ) → y ≤ ceiling → x * y ≤ x * ceiling
+product-most x y h = mul-le-mul-left x h
+
+sums-few : (d : Desks) → DesksFit d → getD (d .done) 0 0 + getD (d .done) 1 0 + getD (d .done) 2 0 ≤ 18
+sums-few d f = omega (arith, f .most-done 0, f .most-done 1, f .most-done 2)
+
+module _ (p : Progress) (b : Batch) (a : AfterBatchAsked p b) where
+  most : (b .last - p .before .last) * b .finish ≤ (b .last - p .before .last) * ceiling
+  most = product-most (b .last - p .before .last) (b .finish) (a .within)
+
+  pub completions-fit : (b .last - p .before .last) * b .finish < 2 ^ 64
+  completions-fit = let l = a .most-last in omega (arith, most)
+
+  pub figure-fits : p .figure + (b .last - p .before .last) * b .finish < 2 ^ 64
+  figure-fits = let l = a .most-last in let m = a .kept .most-last in omega (arith, most, a .kept .most-figure, sums-few (p .desks) (a .kept .desks))
+
+  pub after-batch-is : _≡_ {A = Progress} (record { before = b; desks = p .desks; figure = p .figure + (b .last - p .before .last) * b .finish }) (afterBatch p b)
+  unfolding afterBatch
+  after-batch-is = refl
+
+  pub batch-kept : Kept (afterBatch p b)
+  unfolding afterBatch
+  batch-kept =
+      let k = a .kept .most-figure in
+      let l = a .most-last in
+      let r = a .rises in
+      record { desks = a .kept .desks; most-last = a .most-last; most-figure = omega (arith, most) }
+
+module _ (s : Sheet) (p : Progress) (j : Job) (a : AfterStripAsked s p j) where
+  pub strip-slot : SlotAsked (s .sorting) j
+  strip-slot =
+      let t = a .taken in
+      record { sound = t .asked .sound; least-desk = t .least-desk; most-desk = t .most-desk; least-number = t .least-number; most-number = t .most-number }
+
+  pub strip-taken : JobTaken (s .sorting) (p .desks) j
+  strip-taken = a .taken
+
+  pub strip-finish-fits : (time : ℕ) → TimeTold (deskTime (s .sorting) j) time → j .start + time < 2 ^ 64
+  strip-finish-fits time t = omega (arith, a .taken .asked .fits .start, t .fits)
+
+  pub strip-figure-fits : (time : ℕ) → TimeTold (deskTime (s .sorting) j) time → p .figure + (j .start + time) < 2 ^ 64
+  strip-figure-fits time t =
+      let l = a .kept .most-last in
+      omega (arith, a .taken .asked .fits .start, t .fits, a .kept .most-figure, sums-few (p .desks) (a .kept .desks))
+
+  pub after-strip-is : (time : ℕ) (d : Desks) → TimeTold (deskTime (s .sorting) j) time → d ≡ afterJob (s .sorting) (p .desks) j → _≡_ {A = Progress} (record { before = p .before; desks = d; figure = p .figure + (j .start + time) }) (afterStrip s p j)
+  unfolding afterStrip deskFinish
+  after-strip-is time d t e = rw (e, t .is)
+
+  -- one strip more is done
+  one-more : (l : List ℕ) (d n : ℕ) → length l ≡ 3 → d < 3 → n ≡ getD l d 0 + 1 → getD (set l d n) 0 0 + getD (set l d n) 1 0 + getD (set l d n) 2 0 ≡ getD l 0 0 + getD l 1 0 + getD l 2 0 + 1
+  one-more l zero n long h e =
+      omega (arith, set-here l 0 0 n (omega arith) refl, set-there l 0 1 n (λ q. omega arith), set-there l 0 2 n (λ q. omega arith))
+  one-more l (suc zero) n long h e =
+      omega (arith, set-there l 1 0 n (λ q. omega arith), set-here l 1 1 n (omega arith) refl, set-there l 1 2 n (λ q. omega arith))
+  one-more l (suc (suc zero)) n long h e =
+      omega (arith, set-there l 2 0 n (λ q. omega arith), set-there l 2 1 n (λ q. omega arith), set-here l 2 2 n (omega arith) refl)
+  one-more l (suc (suc (suc d))) n long h e = absurd (omega arith)
+
+  pub strip-kept : Kept (afterStrip s p j)
+  unfolding afterStrip afterJob
+  strip-kept =
+      let k = a .kept .most-figure in
+      let t = a .taken in
+      let D = a .kept .desks in
+      record
+        { desks =
+            record
+              { done-length = simp length-set (D .done-length)
+              ; free-length = simp length-set (D .free-length)
+              ; most-done = set-most (p .desks .done) mostStripsOfDesk (j .desk - 1) (j .number) (D .most-done) (t .most-number)
+              }
+        ; most-last = a .kept .most-last
+        ; most-figure = omega (arith, a .within, one-more (p .desks .done) (j .desk - 1) (j .number) (D .done-length) (omega (arith, t .least-desk, t .most-desk)) (a .in-turn))
+        }
+
+pub begun-kept : Kept begun
+unfolding begun noBatch freeDesks
+begun-kept = record { desks = record { done-length = refl; free-length = refl; most-done = none }; most-last = omega arith; most-figure = omega arith }
+  where
+    none : (i : ℕ) → getD (0 ∷ 0 ∷ 0 ∷ []) i 0 ≤ mostStripsOfDesk
+    none zero = omega arith
+    none (suc zero) = omega arith
+    none (suc (suc zero)) = omega arith
+    none (suc (suc (suc i))) = omega arith
+
+-- heads
+
+module _ (s : Sheet) (plan : List ℕ) (section : ℕ) (part : Part) (p : Progress) where
+  pub head-mosaic : section ≡ 1 → eqb (p .before .last) (s .mosaic .strips) ≡ headFollows s plan section part p
+  unfolding headFollows
+  head-mosaic e = rw e
+
+  pub head-sorting : (r : Bool) → section ≡ 2 → r ≡ allDone (s .sorting .counts) (p .desks .done) (s .sorting .desks) → r ≡ headFollows s plan section part p
+  unfolding headFollows
+  head-sorting r e h = h ∙ rw e
+
+  pub head-flight : (r : Bool) (order : ℕ) → (section ≡ 1 → ⊥) → (section ≡ 2 → ⊥) → NumberRead plan (part .head + 7) 8 order → r ≡ flightHead (s .flight) (part .members) order (passesOf plan (part .head + 15) (part .members)) → r ≡ headFollows s plan section part p
+  unfolding headFollows orderFrom
+  head-flight r order h₁ h₂ n h = h ∙ rw (ne-eqb _ _ h₁, ne-eqb _ _ h₂, n .is)
+
+  pub figure-mosaic : section ≡ 1 → p .figure ≡ figureOf s plan section part p
+  unfolding figureOf
+  figure-mosaic e = rw e
+
+  pub figure-sorting : section ≡ 2 → p .figure ≡ figureOf s plan section part p
+  unfolding figureOf
+  figure-sorting e = rw e
+
+  pub figure-flight : (r : ℕ) → FigureAsked s plan section part p → (section ≡ 1 → ⊥) → (section ≡ 2 → ⊥) → FigureTold (flightFigure (s .flight) (passesOf plan (part .head + 15) (s .flight .blocks))) r → r ≡ figureOf s plan section part p
+  unfolding figureOf headFollows flightHead
+  figure-flight r a h₁ h₂ t =
+      let q = both _ _ (rw (ne-eqb _ _ h₁, ne-eqb _ _ h₂) at (a .follows)) in
+      t .is ∙ rw (ne-eqb _ _ h₁, ne-eqb _ _ h₂) (ap (λ n. flightFigure (s .flight) (passesOf plan (part .head + 15) n)) (sym (eqb-true _ _ (q .0))))
+
+  module _ (x : Bool) (ex : x ≡ headFollows s plan section part p) where
+    pub head-wrong : not x ≡ true → ruleBroken ≡ headNumber s plan section part p
+    unfolding headNumber check
+    head-wrong h = rw (← ex, not-true x h)
+
+    module _ (hx : not x ≡ false) where
+      pub figure-asked : HeadAsked s part → FigureAsked s plan section part p
+      figure-asked a = record { asked = a; follows = sym ex ∙ not-false x hx }
+
+      pub figure-wrong : (figure stated : ℕ) → figure ≡ figureOf s plan section part p → NumberRead plan (part .head + 3) 4 stated → (stated ≡ figure → ⊥) → figureUntrue ≡ headNumber s plan section part p
+      unfolding headNumber check figureFrom
+      figure-wrong figure stated ef n h = rw (← ex, not-false x hx, ← n .is, ← ef, ne-eqb _ _ h)
+
+      pub head-right : (figure stated : ℕ) → figure ≡ figureOf s plan section part p → NumberRead plan (part .head + 3) 4 stated → stated ≡ figure → 0 ≡ headNumber s plan section part p
+      unfolding headNumber check figureFrom
+      head-right figure stated ef n h = rw (← ex, not-false x hx, ← n .is, ← ef, eq-eqb _ _ h)
+
+module _ (s : Sheet) (part : Part) (a : HeadAsked s part) where
+  pub flight-asked : starts.HeadAsked (s .flight) (part .head + 15)
+  flight-asked = record { sound = a .sound .flight; room = omega (arith, a .room) }
+
+  pub desks-few : s .sorting .desks ≤ 3
+  desks-few = a .sound .sorting .most-desks

@@ -1,0 +1,214 @@
+// The members of a plan's section, one after another, and what is checked at its head. The sections are numbered 1, mosaic; 2, sorting; 3, flight.
+use field::{byte, number};
+use judge_flight::{flight_figure, flight_head};
+use judge_layout::{Part, strips_in_all};
+use judge_rules::{after_job, all_done, batch_follows, block_follows, job_follows};
+use rules::sorting::desk_time;
+use rules::{Batch, Desks, Job, Passes};
+use sheet::Sheet;
+use sheet::numbers::{FIGURE_UNTRUE, RULE_BROKEN};
+
+ghost use mathlib.Core.Path.{_≡_};
+ghost use mathlib.Core.Bool.{true};
+ghost use Prim.Native.Nat.{ℕ, _+_, _*_, _≤_, _<_, _^_};
+ghost use lib.ListN.{length};
+ghost use Rattle.sheet.specs.Sound.{SheetSound};
+ghost use Rattle.judge_members.specs.Members.{present, headBytes, memberBytes, memberPlace, begun, memberFollows, afterBatch, afterStrip, afterMember, headFollows, figureOf, headNumber};
+ghost use Rattle.judge_members.specs.Laws.{BatchRead, JobRead, PassesRead, PlaceAsked, MemberAsked, AfterAsked, AfterBatchAsked, AfterStripAsked, HeadAsked, FigureAsked};
+
+// How far the members of a section have been judged: the batch before, the desks, the figure so far.
+pub struct Progress {
+    pub before: Batch,
+    pub desks: Desks,
+    pub figure: u64,
+}
+
+// Whether the sheet has a section.
+pub fn is_present(s: Sheet, section: u64) -> bool
+    requires { ⌜ SheetSound s ⌝ }
+    ensures { λ r. ⌜ r ≡ present s section ⌝ }
+{
+    if section == 1 {
+        return 0 < s.mosaic.strips;
+    }
+    if section == 2 {
+        let t = s.sorting;
+        return 0 < strips_in_all(t);
+    }
+    0 < s.flight.blocks
+}
+
+// The place of member k, from 0, of a section whose head stands at an offset.
+pub fn member_place(section: u64, head: usize, k: usize) -> usize
+    requires { ⌜ PlaceAsked head k ⌝ }
+    ensures { λ r. ⌜ r ≡ memberPlace section head k ⌝ }
+{
+    if section == 1 {
+        return head + 7 + k * 12;
+    }
+    if section == 2 {
+        return head + 7 + k * 13;
+    }
+    head + 15 + k * 11
+}
+
+// Before the first member.
+pub fn begin() -> Progress
+    ensures { λ r. ⌜ r ≡ begun ⌝ }
+{
+    Progress {
+        before: Batch {
+            last: 0,
+            start: 0,
+            finish: 0,
+        },
+        desks: Desks {
+            done: [0; 3],
+            free: [0; 3],
+            scanner: 0,
+        },
+        figure: 0,
+    }
+}
+
+fn batch_from(plan: &[u8], at: usize) -> Batch
+    requires { ⌜ at + 16 < 2 ^ 64 ⌝ }
+    ensures { λ r. ⌜ BatchRead (now (plan .entry)) at r ⌝ }
+{
+    Batch {
+        last: byte(plan, at + 3),
+        start: number(plan, at + 4, 4),
+        finish: number(plan, at + 8, 4),
+    }
+}
+
+fn job_from(plan: &[u8], at: usize) -> Job
+    requires { ⌜ at + 16 < 2 ^ 64 ⌝ }
+    ensures { λ r. ⌜ JobRead (now (plan .entry)) at r ⌝ }
+{
+    Job {
+        desk: byte(plan, at + 3),
+        number: byte(plan, at + 4),
+        scan: number(plan, at + 5, 4),
+        start: number(plan, at + 9, 4),
+    }
+}
+
+fn passes_from(plan: &[u8], at: usize) -> Passes
+    requires { ⌜ at + 16 < 2 ^ 64 ⌝ }
+    ensures { λ r. ⌜ PassesRead (now (plan .entry)) at r ⌝ }
+{
+    Passes {
+        first: number(plan, at + 3, 4),
+        second: number(plan, at + 7, 4),
+    }
+}
+
+// Whether member k of a section, which stands at a place, follows what was judged before it.
+pub fn member_follows(s: Sheet, plan: &[u8], section: u64, k: usize, place: usize, progress: Progress) -> bool
+    requires { ⌜ MemberAsked s place progress ⌝ }
+    ensures { λ r. ⌜ r ≡ memberFollows s (now (plan .entry)) section k place progress ⌝ }
+{
+    if section == 1 {
+        let m = s.mosaic;
+        let before = progress.before;
+        return batch_follows(m, before, batch_from(plan, place));
+    }
+    if section == 2 {
+        let t = s.sorting;
+        let desks = progress.desks;
+        return job_follows(t, desks, job_from(plan, place));
+    }
+    let f = s.flight;
+    block_follows(f, k, passes_from(plan, place))
+}
+
+fn after_batch(progress: Progress, b: Batch) -> Progress
+    requires { ⌜ AfterBatchAsked progress b ⌝ }
+    ensures { λ r. ⌜ r ≡ afterBatch progress b ⌝ }
+{
+    let desks = progress.desks;
+    let strips = b.last - progress.before.last;
+    Progress {
+        before: b,
+        desks,
+        figure: progress.figure + strips * b.finish,
+    }
+}
+
+fn after_strip(s: Sheet, progress: Progress, j: Job) -> Progress
+    requires { ⌜ AfterStripAsked s progress j ⌝ }
+    ensures { λ r. ⌜ r ≡ afterStrip s progress j ⌝ }
+{
+    let t = s.sorting;
+    let before = progress.before;
+    let desks = progress.desks;
+    let finish = j.start + desk_time(t, j);
+    Progress {
+        before,
+        desks: after_job(t, desks, j),
+        figure: progress.figure + finish,
+    }
+}
+
+// What is judged after a member that follows.
+pub fn after_member(s: Sheet, plan: &[u8], section: u64, place: usize, progress: Progress) -> Progress
+    requires { ⌜ AfterAsked s (now plan) section place progress ⌝ }
+    ensures { λ r. ⌜ r ≡ afterMember s (now (plan .entry)) section place progress ⌝ }
+{
+    if section == 1 {
+        return after_batch(progress, batch_from(plan, place));
+    }
+    if section == 2 {
+        return after_strip(s, progress, job_from(plan, place));
+    }
+    progress
+}
+
+// Whether a head follows its members.
+fn head_follows(s: Sheet, plan: &[u8], section: u64, part: Part, progress: Progress) -> bool
+    requires { ⌜ HeadAsked s part ⌝ }
+    ensures { λ r. ⌜ r ≡ headFollows s (now (plan .entry)) section part progress ⌝ }
+{
+    if section == 1 {
+        return progress.before.last == s.mosaic.strips as u64;
+    }
+    if section == 2 {
+        let counts = s.sorting.counts;
+        let done = progress.desks.done;
+        return all_done(counts, done, s.sorting.desks);
+    }
+    let f = s.flight;
+    let head = part.head;
+    flight_head(f, part.members, number(plan, head + 7, 8), plan, head + 15)
+}
+
+// The figure that the rules give, the head judged.
+fn figure_of(s: Sheet, plan: &[u8], section: u64, part: Part, progress: Progress) -> u64
+    requires { ⌜ FigureAsked s (now plan) section part progress ⌝ }
+    ensures { λ r. ⌜ r ≡ figureOf s (now (plan .entry)) section part progress ⌝ }
+{
+    if section == 1 {
+        return progress.figure;
+    }
+    if section == 2 {
+        return progress.figure;
+    }
+    let f = s.flight;
+    flight_figure(f, plan, part.head + 15)
+}
+
+// 13 or 14 at a head, 0 where it follows and its figure is true.
+pub fn head_number(s: Sheet, plan: &[u8], section: u64, part: Part, progress: Progress) -> u64
+    requires { ⌜ HeadAsked s part ⌝ }
+    ensures { λ r. ⌜ r ≡ headNumber s (now (plan .entry)) section part progress ⌝ }
+{
+    if !head_follows(s, plan, section, part, progress) {
+        return RULE_BROKEN;
+    }
+    let figure = figure_of(s, plan, section, part, progress);
+    if number(plan, part.head + 3, 4) != figure {
+        return FIGURE_UNTRUE;
+    }
+    0
+}
