@@ -16,8 +16,11 @@ use Rattle.judge_members.specs.declared.Progress.{Progress}
 use Rattle.judge.specs.declared.Judged.{Judged}
 
 -- the section of a plan, by its number
+unfoldable pub pickPart : ℕ → Part → Part → Part → Part
+pickPart section mosaic sorting flight = cond (eqb section 1) mosaic (cond (eqb section 2) sorting flight)
+
 unfoldable pub partAt : Sheet → List ℕ → ℕ → Part
-partAt s plan section = cond (eqb section 1) (mosaicPart s plan) (cond (eqb section 2) (sortingPart s plan) (flightPart s plan))
+partAt s plan section = pickPart section (mosaicPart s plan) (sortingPart s plan) (flightPart s plan)
 
 -- the first of the members left, from member k on, that breaks a rule, else the head's number
 unfoldable pub sectionFrom : ℕ → Sheet → List ℕ → ℕ → Part → ℕ → Progress → Verdict

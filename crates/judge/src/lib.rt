@@ -1,4 +1,17 @@
 // The judge of a plan: from the rules alone, the number and place of the first fault, or the figure of each section.
+use field::number;
+use judge_layout::{Part, Verdict, flight_part, layout_verdict, mosaic_part, sorting_part};
+use judge_members::{after_member, begin, head_number, is_present, member_follows, member_place};
+use sheet::Sheet;
+use sheet::numbers::RULE_BROKEN;
+use sheet_reader::read;
+
+ghost use mathlib.Core.Path.{_≡_};
+ghost use Prim.Native.Nat.{ℕ, _+_, _*_, _≤_, _<_, _^_};
+ghost use lib.ListN.{length};
+ghost use Rattle.sheet.specs.Sound.{SheetSound};
+ghost use Rattle.judge.specs.Judged.{pickPart, sectionsFrom, statedFigure, turnedBack, found, judgedPlan, judged};
+ghost use Rattle.judge.specs.Loops.{PartsAsked, StatedAsked};
 
 // What the judge answers: number 0, place 0 and the figure of each section, 0 for an absent one; or the number and place of a fault and no figure.
 pub struct Judged {
@@ -7,4 +20,111 @@ pub struct Judged {
     pub mosaic: u64,
     pub sorting: u64,
     pub flight: u64,
+}
+
+fn turn_back(number: u64, place: usize) -> Judged
+    ensures { λ r. ⌜ r ≡ turnedBack number place ⌝ }
+{
+    Judged {
+        number,
+        place,
+        mosaic: 0,
+        sorting: 0,
+        flight: 0,
+    }
+}
+
+// The section of a plan by its number: 1, mosaic; 2, sorting; 3, flight.
+fn pick_part(section: u64, mosaic: Part, sorting: Part, flight: Part) -> Part
+    ensures { λ r. ⌜ r ≡ pickPart section mosaic sorting flight ⌝ }
+{
+    if section == 1 {
+        return mosaic;
+    }
+    if section == 2 {
+        return sorting;
+    }
+    flight
+}
+
+// Judges section by section the members in order, then the head. The first field that breaks a rule ends the judging.
+fn judge_sections(s: Sheet, plan: &[u8], mosaic: Part, sorting: Part, flight: Part) -> Verdict
+    requires { ⌜ PartsAsked s (now plan) mosaic sorting flight ⌝ }
+    ensures { λ r. ⌜ r ≡ sectionsFrom 3 s (now (plan .entry)) 1 ⌝ }
+{
+    let mut section: u64 = 1;
+    'sections: loop {
+        if 3 < section {
+            break 'sections Verdict { number: 0, place: 0 };
+        }
+        if !is_present(s, section) {
+            section += 1;
+            continue 'sections;
+        }
+        let part = pick_part(section, mosaic, sorting, flight);
+        let head = part.head;
+        let members = part.members;
+        let mut progress = begin();
+        let mut k: usize = 0;
+        while k < members {
+            let place = member_place(section, head, k);
+            if !member_follows(s, plan, section, k, place, progress) {
+                break 'sections Verdict { number: RULE_BROKEN, place };
+            }
+            progress = after_member(s, plan, section, place, progress);
+            k += 1;
+        }
+        let number = head_number(s, plan, section, part, progress);
+        if number != 0 {
+            break 'sections Verdict { number, place: head };
+        }
+        section += 1;
+    }
+}
+
+// The figure that a plan states at the head of a section, 0 for an absent one.
+fn stated_figure(s: Sheet, plan: &[u8], section: u64, head: usize) -> u64
+    requires { ⌜ StatedAsked s (now plan) section head ⌝ }
+    ensures { λ r. ⌜ r ≡ statedFigure s (now (plan .entry)) section ⌝ }
+{
+    if !is_present(s, section) {
+        return 0;
+    }
+    number(plan, head + 3, 4)
+}
+
+// Judges a plan for a sound sheet.
+fn judge_plan(s: Sheet, plan: &[u8]) -> Judged
+    requires { ⌜ SheetSound s ⌝ }
+    ensures { λ r. ⌜ r ≡ judgedPlan s (now (plan .entry)) ⌝ }
+{
+    let mosaic = mosaic_part(s, plan);
+    let sorting = sorting_part(s, plan, mosaic.end);
+    let flight = flight_part(s, plan, sorting.end);
+    let layout = layout_verdict(s, plan, mosaic, sorting, flight);
+    if layout.number != 0 {
+        return turn_back(layout.number, layout.place);
+    }
+    let verdict = judge_sections(s, plan, mosaic, sorting, flight);
+    if verdict.number != 0 {
+        return turn_back(verdict.number, verdict.place);
+    }
+    Judged {
+        number: 0,
+        place: 0,
+        mosaic: stated_figure(s, plan, 1, mosaic.head),
+        sorting: stated_figure(s, plan, 2, sorting.head),
+        flight: stated_figure(s, plan, 3, flight.head),
+    }
+}
+
+// Judges a plan for a sheet, for all contents and lengths of both.
+pub fn judge(sheet: &[u8], plan: &[u8]) -> Judged
+    ensures { λ r. ⌜ r ≡ judged (now (sheet .entry)) (now (plan .entry)) ⌝ }
+{
+    let s = read(sheet);
+    if s.number != 0 {
+        return turn_back(s.number, s.place);
+    }
+    judge_plan(s, plan)
 }

@@ -271,32 +271,49 @@ module _ (s : Sheet) (p : Progress) (j : Job) (a : AfterStripAsked s p j) where
   unfolding afterStrip deskFinish
   after-strip-is time d t e = rw (e, t .is)
 
-  -- one strip more is done
-  one-more : (l : List ℕ) (d n : ℕ) → length l ≡ 3 → d < 3 → n ≡ getD l d 0 + 1 → getD (set l d n) 0 0 + getD (set l d n) 1 0 + getD (set l d n) 2 0 ≡ getD l 0 0 + getD l 1 0 + getD l 2 0 + 1
-  one-more l zero n long h e =
-      omega (arith, set-here l 0 0 n (omega arith) refl, set-there l 0 1 n (λ q. omega arith), set-there l 0 2 n (λ q. omega arith))
-  one-more l (suc zero) n long h e =
-      omega (arith, set-there l 1 0 n (λ q. omega arith), set-here l 1 1 n (omega arith) refl, set-there l 1 2 n (λ q. omega arith))
-  one-more l (suc (suc zero)) n long h e =
-      omega (arith, set-there l 2 0 n (λ q. omega arith), set-there l 2 1 n (λ q. omega arith), set-here l 2 2 n (omega arith) refl)
-  one-more l (suc (suc (suc d))) n long h e = absurd (omega arith)
+-- one strip more is done
+one-more : (l : List ℕ) (d n : ℕ) → length l ≡ 3 → d < 3 → n ≡ getD l d 0 + 1 → getD (set l d n) 0 0 + getD (set l d n) 1 0 + getD (set l d n) 2 0 ≡ getD l 0 0 + getD l 1 0 + getD l 2 0 + 1
+one-more l zero n long h e =
+    omega (arith, set-here l 0 0 n (omega arith) refl, set-there l 0 1 n (λ q. omega arith), set-there l 0 2 n (λ q. omega arith))
+one-more l (suc zero) n long h e =
+    omega (arith, set-there l 1 0 n (λ q. omega arith), set-here l 1 1 n (omega arith) refl, set-there l 1 2 n (λ q. omega arith))
+one-more l (suc (suc zero)) n long h e =
+    omega (arith, set-there l 2 0 n (λ q. omega arith), set-there l 2 1 n (λ q. omega arith), set-here l 2 2 n (omega arith) refl)
+one-more l (suc (suc (suc d))) n long h e = absurd (omega arith)
 
-  pub strip-kept : Kept (afterStrip s p j)
-  unfolding afterStrip afterJob
-  strip-kept =
-      let k = a .kept .most-figure in
-      let t = a .taken in
-      let D = a .kept .desks in
-      record
-        { desks =
-            record
-              { done-length = simp length-set (D .done-length)
-              ; free-length = simp length-set (D .free-length)
-              ; most-done = set-most (p .desks .done) mostStripsOfDesk (j .desk - 1) (j .number) (D .most-done) (t .most-number)
-              }
-        ; most-last = a .kept .most-last
-        ; most-figure = omega (arith, a .within, one-more (p .desks .done) (j .desk - 1) (j .number) (D .done-length) (omega (arith, t .least-desk, t .most-desk)) (a .in-turn))
-        }
+strip-kept : (s : Sheet) (p : Progress) (j : Job) → Kept p → 1 ≤ j .desk → j .desk ≤ mostDesks → j .number ≡ getD (p .desks .done) (j .desk - 1) 0 + 1 → j .number ≤ mostStripsOfDesk → deskFinish (s .sorting) j ≤ ceiling → Kept (afterStrip s p j)
+unfolding afterStrip afterJob
+strip-kept s p j k least most turn few within =
+    let f = k .most-figure in
+    let D = k .desks in
+    record
+      { desks =
+          record
+            { done-length = simp length-set (D .done-length)
+            ; free-length = simp length-set (D .free-length)
+            ; most-done = set-most (p .desks .done) mostStripsOfDesk (j .desk - 1) (j .number) (D .most-done) few
+            }
+      ; most-last = k .most-last
+      ; most-figure = omega (arith, one-more (p .desks .done) (j .desk - 1) (j .number) (D .done-length) (omega arith) turn)
+      }
+
+strips-within : (s : Sheet) (desk : ℕ) → SheetSound s → stripsOf (s .sorting) desk ≤ mostStripsOfDesk
+unfolding stripsOf
+strips-within s desk sound = sound .sorting .most-strips (desk - 1)
+
+-- a member that follows keeps what holds
+pub member-kept : (s : Sheet) (plan : List ℕ) (section k place : ℕ) (p : Progress) → SheetSound s → Kept p → memberFollows s plan section k place p ≡ true → Kept (afterMember s plan section place p)
+unfolding memberFollows afterMember
+member-kept s plan section k place p sound kept e = by-section (eqb section 1) (eqb section 2) e
+  where
+    by-section : (x y : Bool) → cond x (batchFollows (s .mosaic) (p .before) (batchFrom plan place)) (cond y (jobFollows (s .sorting) (p .desks) (jobFrom plan place)) (blockFollows (s .flight) k (passesFrom plan place))) ≡ true → Kept (cond x (afterBatch p (batchFrom plan place)) (cond y (afterStrip s p (jobFrom plan place)) p))
+    by-section true y h =
+        let f = batch-facts s p (batchFrom plan place) h in
+        batch-kept p (batchFrom plan place) (record { kept = kept; rises = omega (arith, f .0); most-last = omega (arith, f .1, sound .mosaic .most-strips); within = f .2 })
+    by-section false true h =
+        let f = job-facts s p (jobFrom plan place) h in
+        strip-kept s p (jobFrom plan place) kept (f .0) (omega (arith, f .1, sound .sorting .most-desks)) (f .2) (omega (arith, f .3, strips-within s (jobFrom plan place .desk) sound)) (f .4)
+    by-section false false h = kept
 
 pub begun-kept : Kept begun
 unfolding begun noBatch freeDesks
