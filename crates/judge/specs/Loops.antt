@@ -119,6 +119,8 @@ module _ (s : Sheet) (plan : List ℕ) (section : ℕ) (o : Outer s plan section
 -- the members of a section from one on
 
 pub record Inner (s : Sheet) (plan : List ℕ) (section : ℕ) (part : Part) (k : ℕ) (p : Progress) : Type 0 where
+  pub sound : SheetSound s
+  pub small : length plan * 1 < 2 ^ 63
   pub outer : Outer s plan section
   pub below : section ≤ 3
   pub here : part ≡ partAt s plan section
@@ -142,11 +144,13 @@ members-judged : (s : Sheet) (plan : List ℕ) (section : ℕ) (part : Part) (k 
 unfolding sectionFrom
 members-judged s plan section part k p = refl
 
-pub inner-start : (s : Sheet) (plan : List ℕ) (section : ℕ) (part mosaic sorting flight : Part) (p : Progress) (x : Bool) → Outer s plan section → section ≤ 3 → x ≡ present s section → not x ≡ false → PartsAsked s plan mosaic sorting flight → part ≡ pickPart section mosaic sorting flight → p ≡ begun → Inner s plan section part 0 p
-inner-start s plan section part mosaic sorting flight p x o h ex hx a ep eb =
+pub inner-start : (s : Sheet) (plan : List ℕ) (section : ℕ) (part mosaic sorting flight : Part) (p : Progress) (x : Bool) → Outer s plan section → section ≤ 3 → x ≡ present s section → not x ≡ false → PartsAsked s plan mosaic sorting flight → length plan * 1 < 2 ^ 63 → part ≡ pickPart section mosaic sorting flight → p ≡ begun → Inner s plan section part 0 p
+inner-start s plan section part mosaic sorting flight p x o h ex hx a small ep eb =
     let e = picked s plan section mosaic sorting flight part (a .parts) ep in
     record
-      { outer = o
+      { sound = a .sound
+      ; small = small
+      ; outer = o
       ; below = h
       ; here = e
       ; within = omega arith
@@ -168,20 +172,23 @@ module _ (s : Sheet) (plan : List ℕ) (section : ℕ) (part : Part) (k : ℕ) (
     opened-member : sectionFrom (suc (part .members - (k + 1))) s plan section part k p ≡ sectionVerdict s plan section
     opened-member = ap (λ n. sectionFrom n s plan section part k p) (sym left-over) ∙ i .same
 
-    pub place-asked : length plan * 1 < 2 ^ 63 → PlaceAsked (part .head) k
-    place-asked small = record { room = omega (arith, fits .within, fits .members) }
+    pub place-asked : PlaceAsked (part .head) k
+    place-asked = record { room = omega (arith, i .small, fits .within, fits .members) }
+
+    pub index-fits : k + 1 < 2 ^ 64
+    index-fits = omega (arith, i .small, fits .within, fits .members)
 
     module _ (place : ℕ) (ep : place ≡ memberPlace section (part .head) k) where
-      pub member-asked : SheetSound s → length plan * 1 < 2 ^ 63 → MemberAsked s place p
-      member-asked sound small =
-          record { sound = sound; room = omega (arith, ep, place-most section (part .head) k, fits .within, fits .members); kept = i .kept }
+      pub member-asked : MemberAsked s place p
+      member-asked =
+          record { sound = i .sound; room = omega (arith, i .small, ep, place-most section (part .head) k, fits .within, fits .members); kept = i .kept }
 
       module _ (x : Bool) (ex : x ≡ memberFollows s plan section k place p) where
         followed : not x ≡ false → memberFollows s plan section k (memberPlace section (part .head) k) p ≡ true
         followed h = ap (λ n. memberFollows s plan section k n p) (sym ep) ∙ sym ex ∙ not-false x h
 
-        pub after-asked : SheetSound s → length plan * 1 < 2 ^ 63 → not x ≡ false → AfterAsked s plan section place p
-        after-asked sound small h = record { asked = member-asked sound small; index = k; follows = sym ex ∙ not-false x h }
+        pub after-asked : not x ≡ false → AfterAsked s plan section place p
+        after-asked h = record { asked = member-asked; index = k; follows = sym ex ∙ not-false x h }
 
         pub inner-wrong : not x ≡ true → _≡_ {A = Verdict} (record { number = ruleBroken; place = place }) (sectionsFrom 3 s plan 1)
         unfolding verdict
@@ -193,22 +200,24 @@ module _ (s : Sheet) (plan : List ℕ) (section : ℕ) (part : Part) (k : ℕ) (
             broken : _≡_ {A = ℕ} ruleBroken 0 → ⊥
             broken z = omega arith
 
-        pub inner-more : (next : Progress) → SheetSound s → not x ≡ false → next ≡ afterMember s plan section place p → Inner s plan section part (k + 1) next
-        inner-more next sound h en =
+        pub inner-more : (next : Progress) → not x ≡ false → next ≡ afterMember s plan section place p → Inner s plan section part (k + 1) next
+        inner-more next h en =
             record
-              { outer = i .outer
+              { sound = i .sound
+              ; small = i .small
+              ; outer = i .outer
               ; below = i .below
               ; here = i .here
               ; within = omega arith
-              ; kept = rw en (member-kept s plan section k place p sound (i .kept) (sym ex ∙ not-false x h))
+              ; kept = rw en (member-kept s plan section k place p (i .sound) (i .kept) (sym ex ∙ not-false x h))
               ; same =
                   ap (λ q. sectionFrom (part .members - (k + 1)) s plan section part (k + 1) q) (en ∙ ap (λ n. afterMember s plan section n p) ep)
                   ∙ sym (member-next (part .members - (k + 1)) s plan section part k p (followed h))
                   ∙ opened-member
               }
 
-  pub head-asked : SheetSound s → length plan * 1 < 2 ^ 63 → HeadAsked s part
-  head-asked sound small = record { sound = sound; room = omega (arith, fits .within, fits .members) }
+  pub head-asked : HeadAsked s part
+  head-asked = record { sound = i .sound; room = omega (arith, i .small, fits .within, fits .members) }
 
   module _ (all : part .members ≤ k) (number : ℕ) (en : number ≡ headNumber s plan section part p) where
     judged-head : sectionVerdict s plan section ≡ verdict number (part .head)
@@ -283,3 +292,9 @@ module _ (sheet plan : List ℕ) (s : Sheet) (es : s ≡ readSheet sheet) where
 
   pub sheet-sound : s .number ≡ 0 → SheetSound s
   sheet-sound h = rw es (read-sound sheet (sym (ap (λ x. x .number) es) ∙ h))
+
+pub sorting-at : (s : Sheet) (plan : List ℕ) (mosaic : Part) → SheetSound s → mosaic ≡ mosaicPart s plan → (SortingSound (s .sorting)) × (mosaic .end ≡ mosaicPart s plan .end)
+sorting-at s plan mosaic sound e = (sound .sorting, ap (λ p. p .end) e)
+
+pub flight-at : (s : Sheet) (plan : List ℕ) (sorting : Part) → sorting ≡ sortingPart s plan → sorting .end ≡ sortingPart s plan .end
+flight-at s plan sorting e = ap (λ p. p .end) e

@@ -1,110 +1,84 @@
+use Rattle.judge.specs.Loops.{index-fits}
+use Prim.Native.Nat.{_-_}
+use borrow.Author.Needs.{needs}
+use Rattle.judge.specs.Loops.{Outer, outer-start, outer-end, outer-absent, Inner, inner-start, place-asked, member-asked, after-asked, inner-wrong, inner-more, head-asked, head-wrong, inner-next}
 use Rattle.judge.proofs.judge_sections.Statement.{statement}
 use Rattle.judge.proofs.judge_sections.Tie as tie
-use Rattle.judge.proofs.judge_sections.Reads as reads
-use Rattle.judge.proofs.judge_sections.Lts as lts
-use Rattle.judge.proofs.pick_part.Reads as pick-part-reads
-use Rattle.judge_members.proofs.after_member.Reads as after-member-reads
-use Rattle.judge_members.proofs.begin.Reads as begin-reads
-use Rattle.judge_members.proofs.head_number.Reads as head-number-reads
-use Rattle.judge_members.proofs.is_present.Reads as is-present-reads
-use Rattle.judge_members.proofs.member_follows.Reads as member-follows-reads
-use Rattle.judge_members.proofs.member_place.Reads as member-place-reads
 
 abbrev Inv-loop : tie.InvT-loop
-Inv-loop s plan mosaic sorting flight section part head members progress₀ k₀ progress k = ?
+Inv-loop s plan mosaic sorting flight section part head members progress₀ k₀ progress k = Inner s plan section part k progress
 
 abbrev μ-loop : tie.MeasureT-loop
-μ-loop s plan mosaic sorting flight section part head members progress₀ k₀ progress k = ?
+μ-loop s plan mosaic sorting flight section part head members progress₀ k₀ progress k = members - k
 
 abbrev Inv-sections : tie.InvT-sections
-Inv-sections s plan mosaic sorting flight section₀ section = ?
+Inv-sections s plan mosaic sorting flight section₀ section = Outer s plan section
 
 abbrev μ-sections : tie.MeasureT-sections
-μ-sections s plan mosaic sorting flight section₀ section = ?
+μ-sections s plan mosaic sorting flight section₀ section = 4 - section
 
--- src/lib.rt:56:5
 sections-holds : tie.Need-sections-holds Inv-loop μ-loop Inv-sections μ-sections
-sections-holds c = ?
+sections-holds c = search outer-start
 
--- src/lib.rt:60:13
 is-present-requires : tie.Need-is-present-requires Inv-loop μ-loop Inv-sections μ-sections
-is-present-requires c κs = ?
+is-present-requires c κs = search needs
 
--- src/lib.rt:61:13
 add-section : tie.Need-add-section Inv-loop μ-loop Inv-sections μ-sections
-add-section c = ?
+add-section c = search needs
 
--- src/lib.rt:56:5
 sections-less : tie.Need-sections-less Inv-loop μ-loop Inv-sections μ-sections
-sections-less c = ?
+sections-less c = search needs
 
--- src/lib.rt:56:5
 sections-again : tie.Need-sections-again Inv-loop μ-loop Inv-sections μ-sections
-sections-again c = ?
+sections-again c = search outer-absent
 
--- src/lib.rt:64:13
 pick-part-requires : tie.Need-pick-part-requires Inv-loop μ-loop Inv-sections μ-sections
-pick-part-requires c κs = ?
+pick-part-requires c κs = search needs
 
--- src/lib.rt:67:13
 begin-requires : tie.Need-begin-requires Inv-loop μ-loop Inv-sections μ-sections
-begin-requires c κs = ?
+begin-requires c κs = search needs
 
--- src/lib.rt:69:9
 loop-holds : tie.Need-loop-holds Inv-loop μ-loop Inv-sections μ-sections
-loop-holds c = ?
+loop-holds c = search inner-start
 
--- src/lib.rt:70:17
 member-place-requires : tie.Need-member-place-requires Inv-loop μ-loop Inv-sections μ-sections
-member-place-requires c κs = ?
+member-place-requires c κs = search place-asked
 
--- src/lib.rt:71:17
 member-follows-requires : tie.Need-member-follows-requires Inv-loop μ-loop Inv-sections μ-sections
-member-follows-requires c κs = ?
+member-follows-requires c κs = search member-asked
 
--- src/lib.rt:74:13
 after-member-requires : tie.Need-after-member-requires Inv-loop μ-loop Inv-sections μ-sections
-after-member-requires c κs = ?
+after-member-requires c κs = after-asked _ _ _ _ _ _ (c .before .before .before .before .loop .inv) (c .before .before .before .loop-test .taken) _ (c .before .before .member-place .ensures) _ (c .before .member-follows .ensures) (c .if3 .left)
 
--- src/lib.rt:75:13
 add-k : tie.Need-add-k Inv-loop μ-loop Inv-sections μ-sections
-add-k c = ?
+add-k c = search index-fits
 
--- src/lib.rt:69:9
 loop-less : tie.Need-loop-less Inv-loop μ-loop Inv-sections μ-sections
-loop-less c = ?
+loop-less c = search needs
 
--- src/lib.rt:69:9
 loop-again : tie.Need-loop-again Inv-loop μ-loop Inv-sections μ-sections
-loop-again c = ?
+loop-again c = inner-more _ _ _ _ _ _ (c .before .before .before .before .before .loop .inv) (c .before .before .before .before .loop-test .taken) _ (c .before .before .before .member-place .ensures) _ (c .before .before .member-follows .ensures) _ (c .before .if3 .left) (c .after-member .ensures)
 
--- src/lib.rt:77:13
 head-number-requires : tie.Need-head-number-requires Inv-loop μ-loop Inv-sections μ-sections
-head-number-requires c κs = ?
+head-number-requires c κs = search head-asked
 
--- src/lib.rt:81:9
 add-section-2 : tie.Need-add-section-2 Inv-loop μ-loop Inv-sections μ-sections
-add-section-2 c = ?
+add-section-2 c = search needs
 
--- src/lib.rt:56:5
 sections-less-2 : tie.Need-sections-less-2 Inv-loop μ-loop Inv-sections μ-sections
-sections-less-2 c = ?
+sections-less-2 c = search needs
 
--- src/lib.rt:56:5
 sections-again-2 : tie.Need-sections-again-2 Inv-loop μ-loop Inv-sections μ-sections
-sections-again-2 c = ?
+sections-again-2 c = search inner-next
 
--- src/lib.rt:51:1
 returns : tie.Need-returns Inv-loop μ-loop Inv-sections μ-sections
-returns c = ?
+returns c = search outer-end
 
--- src/lib.rt:51:1
 returns-2 : tie.Need-returns-2 Inv-loop μ-loop Inv-sections μ-sections
-returns-2 c = ?
+returns-2 c = search inner-wrong
 
--- src/lib.rt:51:1
 returns-3 : tie.Need-returns-3 Inv-loop μ-loop Inv-sections μ-sections
-returns-3 c = ?
+returns-3 c = search head-wrong
 
 pub judge-sections-spec : {M : Type 1} → statement M
 judge-sections-spec =
