@@ -6,7 +6,6 @@
 #include <stdint.h>
 #include <stdio.h>
 #include <stdlib.h>
-#include <string.h>
 #include <time.h>
 
 typedef uint64_t u64;
@@ -116,8 +115,8 @@ static int rising(const void *a, const void *b) {
 
 enum { instances = 60, rounds = 3 };
 
-// Medians over random instances of the best of three rounds each. Times are 0 to `most`; the figures of both must agree.
-static void measure(size_t n, u64 most, const char *kind) {
+// Medians over random instances of the best of three rounds each, in processor time; returns the planner's. Times are 0 to `most`; the figures of both must agree.
+static double measure(size_t n, u64 most, const char *kind) {
     double ours[instances], plain[instances];
     for (int k = 0; k < instances; k++) {
         u64 station[160] = {0}, bench[40] = {0};
@@ -149,13 +148,16 @@ static void measure(size_t n, u64 most, const char *kind) {
     qsort(plain, instances, sizeof *plain, rising);
     double a = ours[instances / 2], b = plain[instances / 2];
     printf("%-10s %2zu strips: planner %8.4f ms, plain C %8.4f ms, ratio %.2f\n", kind, n, a, b, a / b);
+    return a;
+}
+
+static void measure_all(u64 most, const char *kind) {
+    double ten = measure(10, most, kind), twenty = measure(20, most, kind), forty = measure(40, most, kind);
+    printf("%-10s growth from 10 to 20 strips %.1f, from 20 to 40 %.1f\n", kind, twenty / ten, forty / twenty);
 }
 
 int main(void) {
-    size_t counts[] = {10, 20, 40};
-    for (int k = 0; k < 3; k++)
-        measure(counts[k], 10000, "to 10,000");
-    for (int k = 0; k < 3; k++)
-        measure(counts[k], 10, "to 10");
+    measure_all(10000, "to 10,000");
+    measure_all(10, "to 10");
     return 0;
 }

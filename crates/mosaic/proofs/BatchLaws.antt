@@ -107,7 +107,7 @@ module _ {rs sums late row₀ : List ℕ} {s n : ℕ} (P : BatchesPre rs sums la
       inside = h;
     }
 
-    module _ {q : ℕ} (C : First rs sums s n free i q) where
+    module _ {q least : ℕ} (C : First rs sums s n free i q least) where
       pub plan-sub : getD sums i 0 ≤ getD sums q 0
       plan-sub = P .input .rise i q (omega (arith, C .first)) (C .last)
 
@@ -127,7 +127,7 @@ module _ {rs sums late row₀ : List ℕ} {s n : ℕ} (P : BatchesPre rs sums la
         least-is : leastAt (instanceIn rs sums s n) i free
             ≡ (q - i) * (start + s + (getD sums q 0 - getD sums i 0)) + leastAt (instanceIn rs sums s n) q (start + s + (getD sums q 0 - getD sums i 0))
         unfolding closedAt benchStart mountStart
-        least-is = rw e (C .least)
+        least-is = rw e (sym (C .figure) ∙ C .closed)
 
         pub plan-add : AddPre plan (q - i) (start + s + (getD sums q 0 - getD sums i 0))
         plan-add = record {

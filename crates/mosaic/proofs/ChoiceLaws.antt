@@ -1,5 +1,5 @@
 -- The last strip of the first batch taken: the candidate that is below all later ones, as the recursion closes the open batch only if that is better.
-use mathlib.Core.Path.{_≡_, refl, ap, _∙_, sym}
+use mathlib.Core.Path.{_≡_, refl, ap, _∙_}
 use mathlib.Core.List.{List, _∷_}
 use Prim.Native.Nat.{ℕ, _+_, _-_, _≤_, _<_}
 use native.Mathlib.Omega.{arith}
@@ -57,11 +57,12 @@ module _ {rs sums late row : List ℕ} {s n free i : ℕ} (P : FromPre rs sums l
           ∙ ap (λ (k : ℕ). chosenOpenAt (instanceIn rs sums s n) i k free) next ∙ M .batches;
     }
 
-  pub taken-end : {q taken least : ℕ} → TakenSoFar rs sums s n free i q taken least → q ≤ i + 1 → First rs sums s n free i taken
+  pub taken-end : {q last least : ℕ} → TakenSoFar rs sums s n free i q last least → q ≤ i + 1 → First rs sums s n free i last least
   taken-end {q} M k =
       let z : i + 1 ≡ q = omega (arith, M .so-far .from) in record {
         first = M .first;
         last = M .last;
         taken = chosen-open (instanceIn rs sums s n) i free (P .inside) ∙ ap (λ (p : ℕ). chosenOpenAt (instanceIn rs sums s n) i p free) z ∙ M .batches;
-        least = sym (least-end-is P (M .so-far) k) ∙ M .figure;
+        figure = least-end-is P (M .so-far) k;
+        closed = M .figure;
       }

@@ -7,7 +7,7 @@ use native.Mathlib.Omega.{arith}
 use lib.ListN.{length, getD, set, length-set}
 use lib.Seq.{getD-set-same, getD-set-other}
 use Rattle.mosaic.specs.Index.{leastAt}
-use Rattle.mosaic.specs.Tables.{instanceIn, FromPre, RowPre, RowPost}
+use Rattle.mosaic.specs.Tables.{instanceIn, FromPre, First, RowPre, RowPost}
 use Rattle.mosaic.specs.Laws.Recursion.{least-end}
 
 -- the entries lo .. p - 1 are done, those from p on are as they were
@@ -55,9 +55,9 @@ module _ {rs sums late row₀ : List ℕ} {s n begin i lo : ℕ} (P : RowPre rs 
       inside = h;
     }
 
-    pub row-step : {least : ℕ} → least ≡ leastAt (instanceIn rs sums s n) p (begin + (getD sums p 0 - getD sums i 0))
+    pub row-step : {q least : ℕ} → First rs sums s n (begin + (getD sums p 0 - getD sums i 0)) p q least
         → RowSoFar rs sums row₀ (set row p least) s n begin i lo (p + 1)
-    row-step {least} e = record {
+    row-step {least = least} C = record {
       from = omega (arith, M .from);
       to = omega arith;
       len = length-set row p least ∙ M .len;
@@ -65,7 +65,7 @@ module _ {rs sums late row₀ : List ℕ} {s n begin i lo : ℕ} (P : RowPre rs 
         | yes y ↦ getD-set-other row p k least 0 (omega arith) ∙ M .done k l y
         | no y ↦
             let z : k ≡ p = omega arith in
-            rw z (getD-set-same row p least 0 (omega (arith, P .row-long, M .len)) ∙ e)
+            rw z (getD-set-same row p least 0 (omega (arith, P .row-long, M .len)) ∙ C .figure)
       ];
       above = λ k l. getD-set-other row p k least 0 (omega arith) ∙ M .above k (omega arith);
     }

@@ -52,7 +52,7 @@ pub record Ahead (rs sums late row : List ℕ) (s n free i : ℕ) : Type 0 where
   pub row-at : (p : ℕ) → i < p → p ≤ n → getD row p 0 ≡ leastAt (instanceIn rs sums s n) p (free + s + (getD sums p 0 - getD sums i 0))
   pub late-at : (q : ℕ) → i < q → q ≤ n → getD late (width * i + q) 0 ≡ closedAt (instanceIn rs sums s n) (lateStart s (getD rs (q - 1) 0)) i q
 
--- what `least_from` and `choose_batch` ask
+-- what `choose_batch` asks
 pub record FromPre (rs sums late row : List ℕ) (s n free i : ℕ) : Type 0 where
   pub input : Input rs sums s n
   pub ahead : Ahead rs sums late row s n free i
@@ -114,13 +114,14 @@ pub record LatePre (rs sums late row : List ℕ) (s n : ℕ) : Type 0 where
   pub late-long : lateLength ≤ length late
   pub row-long : n < length row
 
--- what `choose_batch` finds: the first batch of those taken after strip i
-pub record First (rs sums : List ℕ) (s n free i q : ℕ) : Type 0 where
+-- what `choose_batch` finds: the last strip q of the first batch of those taken after strip i, and the least figure
+pub record First (rs sums : List ℕ) (s n free i q least : ℕ) : Type 0 where
   pub first : i < q
   pub last : q ≤ n
   pub taken : chosenAt (instanceIn rs sums s n) i free
       ≡ batchOf (instanceIn rs sums s n) free i q ∷ chosenAt (instanceIn rs sums s n) q (finishOf (instanceIn rs sums s n) free i q)
-  pub least : leastAt (instanceIn rs sums s n) i free ≡ closedAt (instanceIn rs sums s n) (benchStart s free (getD rs (q - 1) 0)) i q
+  pub figure : least ≡ leastAt (instanceIn rs sums s n) i free
+  pub closed : least ≡ closedAt (instanceIn rs sums s n) (benchStart s free (getD rs (q - 1) 0)) i q
 
 -- the lengths of a plan's arrays
 pub record Sized (plan : MosaicPlan) : Type 0 where

@@ -19,6 +19,12 @@ pub struct MosaicPlan {
     pub finish: [u64; 40],
 }
 
+// A batch that is taken: its last strip, and the least figure of the strips from its first one on.
+struct Choice {
+    last: usize,
+    figure: u64,
+}
+
 // A plan of the least figure.
 pub fn plan_mosaic(m: MosaicSection) -> MosaicPlan
     requires { ⌜ MosaicSound m ⌝ }

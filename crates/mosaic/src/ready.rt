@@ -1,7 +1,7 @@
 // The times that the planner reads: when each strip is ready, and the bench times added up.
 ghost use mathlib.Core.Path.{_≡_};
-ghost use mathlib.Core.List.{List, [], _∷_};
-ghost use Prim.Native.Nat.{ℕ, _≤_, max};
+ghost use mathlib.Core.List.{[], _∷_};
+ghost use Prim.Native.Nat.{_≤_, max};
 ghost use lib.ListN.{getD};
 ghost use Rattle.sheet.specs.Sound.{MosaicSound};
 ghost use Rattle.rules.specs.Sums.{greatestOver};

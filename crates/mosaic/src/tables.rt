@@ -1,11 +1,12 @@
 // The tables of least figures. A block is a run of batches with no pause: its first batch waits for its last strip, and none of the others waits.
 // `row` holds the least figures after each strip for one block; `late` those that begin with a batch that waits.
 ghost use mathlib.Core.Path.{_≡_};
-ghost use Prim.Native.Nat.{ℕ, _+_, _-_, _<_, _^_};
+ghost use Prim.Native.Nat.{_+_, _-_, _<_, _^_};
 ghost use lib.ListN.{getD};
 ghost use Rattle.mosaic.specs.Least.{benchStart};
-ghost use Rattle.mosaic.specs.Index.{lateStart, leastAt, closedAt};
-ghost use Rattle.mosaic.specs.Tables.{instanceIn, InTime, CandidatePre, FromPre, RowPre, RowPost, BlockPre, RowIs, AfterPre, LatePre, LateFrom};
+ghost use Rattle.mosaic.specs.Index.{lateStart, closedAt};
+ghost use Rattle.mosaic.specs.Tables.{instanceIn, InTime, CandidatePre, FromPre, First, RowPre, RowPost, BlockPre, RowIs, AfterPre, LatePre, LateFrom};
+use crate::Choice;
 
 // The entries of a row, for the strips from 0 to 40, and of `late`, which has a row for each strip from 0 to 39.
 pub const WIDTH: usize = 41;
@@ -51,8 +52,8 @@ pub fn candidate(
     }
 }
 
-// The least figure of the strips after i where the machine is free at `free`.
-fn least_from(
+// The first batch taken after strip i where the machine is free at `free`, with the least figure of the strips after i.
+pub fn choose_batch(
     rs: &[u64],
     sums: &[u64],
     late: &[u64],
@@ -61,20 +62,25 @@ fn least_from(
     n: usize,
     free: u64,
     i: usize,
-) -> u64
+) -> Choice
     requires { ⌜ FromPre (now rs) (now sums) (now late) (now row) s n free i ⌝ }
-    ensures { λ r. ⌜ r ≡ leastAt (instanceIn (now (rs .entry)) (now (sums .entry)) s n) i free ⌝ }
+    ensures { λ choice. ⌜ First (now (rs .entry)) (now (sums .entry)) s n free i (choice .last) (choice .figure) ⌝ }
 {
     let mut q = n;
+    let mut last = q;
     let mut least = candidate(rs, sums, late, row, s, n, free, i, q);
     while i + 1 < q {
         q -= 1;
         let figure = candidate(rs, sums, late, row, s, n, free, i, q);
         if figure < least {
             least = figure;
+            last = q;
         }
     }
-    least
+    Choice {
+        last,
+        figure: least,
+    }
 }
 
 // Turns the row of the block with one batch more into that of this one, in place: entries lo and up.
@@ -95,8 +101,8 @@ fn fill_row(
     let mut p = lo;
     while p < n {
         let free = begin + (sums[p] - sums[i]);
-        let least = least_from(rs, sums, late, &*row, s, n, free, p);
-        row[p] = least;
+        let choice = choose_batch(rs, sums, late, &*row, s, n, free, p);
+        row[p] = choice.figure;
         p += 1;
     }
 }

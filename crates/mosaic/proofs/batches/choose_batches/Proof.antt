@@ -56,22 +56,22 @@ shared-slice-read-finish-2 : tie.Need-shared-slice-read-finish-2 Inv-loop μ-loo
 shared-slice-read-finish-2 c = search needs
 
 sub-finish : tie.Need-sub-finish Inv-loop μ-loop
-sub-finish c = search plan-sub
+sub-finish c = plan-sub (c .before .before .before .before .before .before .before .before .before .before .before .before .before .before .before .before .pre) (c .before .before .before .before .before .before .before .before .before .before .before .loop .inv) (c .before .before .before .before .before .before .before .before .before .before .loop-test .taken) (c .before .before .before .before .choose-batch .ensures)
 
 add-finish-2 : tie.Need-add-finish-2 Inv-loop μ-loop
-add-finish-2 c = search plan-finish
+add-finish-2 c = omega (arith, plan-finish (c .before .before .before .before .before .before .before .before .before .before .before .before .before .before .before .before .pre) (c .before .before .before .before .before .before .before .before .before .before .before .loop .inv) (c .before .before .before .before .before .before .before .before .before .before .loop-test .taken) (c .before .before .before .before .choose-batch .ensures) (c .before .before .later .ensures))
 
 sub-add-batch : tie.Need-sub-add-batch Inv-loop μ-loop
 sub-add-batch c = search needs
 
 add-batch-requires : tie.Need-add-batch-requires Inv-loop μ-loop
-add-batch-requires c κs = search plan-add
+add-batch-requires c κs = plan-add (c .before .before .before .before .before .before .before .before .before .before .before .before .before .before .before .before .pre) (c .before .before .before .before .before .before .before .before .before .before .before .loop .inv) (c .before .before .before .before .before .before .before .before .before .before .loop-test .taken) (c .before .before .before .before .choose-batch .ensures) (c .before .before .later .ensures)
 
 loop-less : tie.Need-loop-less Inv-loop μ-loop
 loop-less c = search needs
 
 loop-again : tie.Need-loop-again Inv-loop μ-loop
-loop-again c = search plan-step
+loop-again c = search (plan-step (c .before .before .before .before .before .before .before .before .before .before .before .before .before .before .before .before .before .pre) (c .before .before .before .before .before .before .before .before .before .before .before .before .loop .inv) (c .before .before .before .before .before .before .before .before .before .before .before .loop-test .taken) (c .before .before .before .before .before .choose-batch .ensures) (c .before .before .before .later .ensures))
 
 same-length : tie.Need-same-length Inv-loop μ-loop
 same-length c = search needs

@@ -32,8 +32,8 @@ sub-free c = search row-sub
 add-free : tie.Need-add-free Inv-loop μ-loop
 add-free c = search row-free
 
-least-from-requires : tie.Need-least-from-requires Inv-loop μ-loop
-least-from-requires c κs = search row-from
+choose-batch-requires : tie.Need-choose-batch-requires Inv-loop μ-loop
+choose-batch-requires c κs = search row-from
 
 mul-row : tie.Need-mul-row Inv-loop μ-loop
 mul-row c = search needs
@@ -69,7 +69,7 @@ fill-row-spec =
     shared-slice-read-free-2
     sub-free
     add-free
-    least-from-requires
+    choose-batch-requires
     mul-row
     slice-write-row
     add-p

@@ -3,14 +3,14 @@ use native.Mathlib.Omega.{arith}
 use borrow.Author.Needs.{needs}
 use Rattle.mosaic.proofs.CandidateLaws.{from-candidate}
 use Rattle.mosaic.proofs.ChoiceLaws.{TakenSoFar, taken-start, taken-less, taken-more, taken-end}
-use Rattle.mosaic.proofs.batches.choose_batch.Statement.{statement}
-use Rattle.mosaic.proofs.batches.choose_batch.Tie as tie
+use Rattle.mosaic.proofs.tables.choose_batch.Statement.{statement}
+use Rattle.mosaic.proofs.tables.choose_batch.Tie as tie
 
 abbrev Inv-loop : tie.InvT-loop
-Inv-loop rs sums late row s n free i q₀ taken₀ least₀ q taken least = TakenSoFar rs sums s n free i q taken least
+Inv-loop rs sums late row s n free i q₀ last₀ least₀ q last least = TakenSoFar rs sums s n free i q last least
 
 abbrev μ-loop : tie.MeasureT-loop
-μ-loop rs sums late row s n free i q₀ taken₀ least₀ q taken least = q
+μ-loop rs sums late row s n free i q₀ last₀ least₀ q last least = q
 
 candidate-requires : tie.Need-candidate-requires Inv-loop μ-loop
 candidate-requires c κs = search (from-candidate, arith)
@@ -31,13 +31,13 @@ loop-less : tie.Need-loop-less Inv-loop μ-loop
 loop-less c = search needs
 
 loop-again : tie.Need-loop-again Inv-loop μ-loop
-loop-again c = search taken-less
+loop-again c = taken-less (c .before .before .before .before .before .before .before .before .before .pre) (c .before .before .before .loop .inv) (omega arith) (c .before .candidate2 .ensures) (c .if1 .taken)
 
 loop-less-2 : tie.Need-loop-less-2 Inv-loop μ-loop
 loop-less-2 c = search needs
 
 loop-again-2 : tie.Need-loop-again-2 Inv-loop μ-loop
-loop-again-2 c = taken-more (c .before .before .before .before .before .before .before .before .before .pre) (c .before .before .before .loop .inv) (c .before .before .loop-test .taken) (c .before .candidate2 .ensures) (c .if1 .left)
+loop-again-2 c = taken-more (c .before .before .before .before .before .before .before .before .before .pre) (c .before .before .before .loop .inv) (omega arith) (c .before .candidate2 .ensures) (c .if1 .left)
 
 returns : tie.Need-returns Inv-loop μ-loop
 returns c = search taken-end
