@@ -229,16 +229,17 @@ def files():
     return {"stdin": sheets, "stdout": lines.encode()}
 
 
-def main():
-    for name, content in files().items():
-        path = FOLDER / name
+def write(folder, contents, count):
+    """Writes the files of a program, or with --check says whether they are as they should be."""
+    for name, content in contents.items():
+        path = folder / name
         if sys.argv[1:] == ["--check"]:
             if not path.is_file() or path.read_bytes() != content:
-                sys.exit("%s is not what tests/sheet_cases.py writes: run it" % path.relative_to(FOLDER.parent.parent))
+                sys.exit("%s is not what %s writes: run it" % (path.relative_to(folder.parent.parent), sys.argv[0]))
         else:
             path.write_bytes(content)
-    print("%d sheets" % len(CASES))
+    print("%d cases" % count)
 
 
 if __name__ == "__main__":
-    main()
+    write(FOLDER, files(), len(CASES))

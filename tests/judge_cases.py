@@ -1,0 +1,174 @@
+#!/usr/bin/env python3
+"""The sheets and plans that the program judge_cases reads, with what it must write for each.
+
+Each case is a name, a sheet, a plan, and the line due: number, place and the three figures. The lines are written by hand from 01.
+
+    judge_cases.py           writes crates/judge_cases/stdin and stdout
+    judge_cases.py --check   says whether they are as written here
+"""
+import struct
+import sys
+
+import sheet_cases as sheets
+from sheet_cases import block, field, flight, job, mosaic, order, sorting, strip, word
+
+FOLDER = sheets.FOLDER.parent / "judge_cases"
+CEILING = 10_000_000
+
+
+def four(*values):
+    return b"".join(struct.pack("<I", value) for value in values)
+
+
+def batches(figure, *members):
+    """Members: last strip, start, finish."""
+    return field(0x90, four(figure)) + b"".join(field(0x91, bytes([last]) + four(start, finish)) for last, start, finish in members)
+
+
+def jobs(figure, *members):
+    """Members: desk, number, scan start, desk start."""
+    return field(0xA0, four(figure)) + b"".join(field(0xA1, bytes([desk, number]) + four(scan, start)) for desk, number, scan, start in members)
+
+
+def passes(figure, order_number, *members):
+    """Members: first start, second start."""
+    return field(0xB0, four(figure) + struct.pack("<Q", order_number)) + b"".join(field(0xB1, four(*starts)) for starts in members)
+
+
+CASES = []
+
+
+def allowed(name, sheet, plan, mosaic_figure=0, sorting_figure=0, flight_figure=0):
+    CASES.append((name, sheet, plan, "0 0 %d %d %d" % (mosaic_figure, sorting_figure, flight_figure)))
+
+
+def refused(name, sheet, plan, number, place):
+    CASES.append((name, sheet, plan, "%d %d 0 0 0" % (number, place)))
+
+
+# The worked sheets of 01.
+M = sheets.FIRST
+BEST = batches(36, (1, 2, 4), (2, 4, 8), (3, 8, 11), (4, 11, 13))
+allowed("four batches", M, BEST, 36)
+allowed("batches 1, 2-3, 4", M, batches(45, (1, 2, 4), (3, 7, 13), (4, 13, 15)), 45)
+allowed("batches 1, 2, 3-4", M, batches(38, (1, 2, 4), (2, 4, 8), (4, 9, 13)), 38)
+S = sorting(2) + job(1, 2, 5) + job(2, 1, 1)
+allowed("desk 2 first", S, jobs(10, (2, 1, 0, 1), (1, 1, 1, 3)), 0, 10)
+allowed("desk 1 first", S, jobs(11, (1, 1, 0, 2), (2, 1, 2, 3)), 0, 11)
+T = sorting(2) + job(1) + job(2)
+allowed("two desks, desk 1 first", T, jobs(5, (1, 1, 0, 1), (2, 1, 1, 2)), 0, 5)
+allowed("two desks, desk 2 first", T, jobs(5, (2, 1, 0, 1), (1, 1, 1, 2)), 0, 5)
+allowed("one block", flight() + block(3, 4, 1), passes(8, 2, (0, 7)), 0, 0, 8)
+F = flight() + block(1, 2, 1) * 2
+allowed("two blocks, interleaved", F, passes(5, 0xC, (0, 3), (1, 4)), 0, 0, 5)
+A = flight() + block(1, 0, 1) + block(1, 5, 1)
+allowed("order A", A + order(0xA), passes(9, 0xA, (0, 1), (2, 8)), 0, 0, 9)
+refused("order C cannot be kept", A + order(0xC), passes(9, 0xC, (0, 1), (2, 8)), 13, 0)
+E = flight() + b"".join(block(*b) for b in sheets.EIGHT)
+STARTS = [0, 6, 8, 9, 12, 19, 21, 22]
+EIGHT = [(first, first + a + l) for first, (a, l, b) in zip(STARTS, sheets.EIGHT)]
+allowed("000's eight blocks", E + order(0xF2C4), passes(30, 0xF2C4, *EIGHT), 0, 0, 30)
+allowed("the same with no order given", E, passes(30, 0xF2C4, *EIGHT), 0, 0, 30)
+ALL = M + S + F
+PLAN = BEST + jobs(10, (2, 1, 0, 1), (1, 1, 1, 3)) + passes(5, 0xC, (0, 3), (1, 4))
+allowed("all three sections", ALL, PLAN, 36, 10, 5)
+
+# Idle time is allowed.
+allowed("mounts that wait", M, batches(4 * 1000 + 10, (4, 992, 1000)).replace(four(4010), four(4000)), 4000)
+allowed("a scanner and desks that wait", S, jobs(27, (2, 1, 5, 10), (1, 1, 7, 11)), 0, 27)
+allowed("passes that wait", F, passes(105, 0xC, (100, 103), (101, 104)), 0, 0, 105)
+
+# The sheet goes first, with its place in the sheet.
+refused("a sheet that is refused", flight() + block() * 9, b"", 10, 0)
+refused("a cut sheet and a good plan", M[:-1], BEST, 3, 33)
+
+# 12: layout.
+refused("an empty plan", M, b"", 12, 0)
+refused("a plan of another section", M, jobs(10, (2, 1, 0, 1)), 12, 0)
+refused("a refusal is no plan", M, field(0xE0, word(6) + four(0)), 12, 0)
+refused("a cut head", M, BEST[:6], 12, 0)
+refused("a cut first member", M, BEST[:18], 12, 7)
+refused("a cut last member", M, BEST[:-1], 12, 7 + 3 * 12)
+refused("a head of five bytes", M, field(0x90, four(36) + b"\0"), 12, 0)
+refused("a member of ten bytes", M, batches(36, (1, 2, 4)) + field(0x91, bytes(10)), 12, 19)
+refused("a byte behind the plan", M, BEST + b"\0", 12, len(BEST))
+refused("a head behind the last section", M, BEST + batches(0), 12, len(BEST))
+refused("a section missing at the end", M + S, BEST, 12, len(BEST))
+refused("a section missing in the middle", ALL, BEST + passes(5, 0xC, (0, 3), (1, 4)), 12, len(BEST))
+refused("sections in another order", M + S, jobs(10, (2, 1, 0, 1), (1, 1, 1, 3)) + BEST, 12, 0)
+refused("a wrong last field goes before a broken first member", M, batches(36, (1, 0, 4), (2, 4, 8), (3, 8, 11), (4, 11, 13)) + b"\0", 12, len(BEST))
+
+# 13 at a batch: first, middle, last.
+def mosaic_fault(name, index, member, figure=36):
+    members = [(1, 2, 4), (2, 4, 8), (3, 8, 11), (4, 11, 13)]
+    members[index] = member
+    refused(name, M, batches(figure, *members), 13, 7 + 12 * index)
+
+
+mosaic_fault("a mount before its strip is ready", 0, (1, 1, 3))
+mosaic_fault("a finish too early", 0, (1, 2, 3))
+mosaic_fault("a finish too late", 1, (2, 4, 9))
+mosaic_fault("a mount before the batch before finishes", 2, (3, 7, 10))
+mosaic_fault("a batch that does not rise", 2, (2, 8, 9))
+mosaic_fault("a last strip that is not there", 3, (5, 11, 13))
+mosaic_fault("a last strip of 0", 0, (0, 2, 3))
+refused("a batch too many", M, BEST + batches(0, (4, 13, 14))[7:], 13, len(BEST))
+refused("batches missing", M, batches(36, (1, 2, 4), (2, 4, 8), (3, 8, 11)), 13, 0)
+refused("no batch", M, batches(36), 13, 0)
+refused("an untrue figure", M, batches(37, (1, 2, 4), (2, 4, 8), (3, 8, 11), (4, 11, 13)), 14, 0)
+LATE = CEILING - 11
+allowed("a finish at the ceiling", M, batches(4 * CEILING, (4, CEILING - 8, CEILING)), 4 * CEILING)
+refused("a finish past the ceiling", M, batches(4 * CEILING + 4, (4, CEILING - 7, CEILING + 1)), 13, 7)
+
+# 13 at a job.
+refused("a desk that is not there", S, jobs(10, (3, 1, 0, 1), (1, 1, 1, 3)), 13, 7)
+refused("desk 0", S, jobs(10, (0, 1, 0, 1), (1, 1, 1, 3)), 13, 7)
+refused("a strip out of turn", S, jobs(10, (2, 2, 0, 1), (1, 1, 1, 3)), 13, 7)
+refused("a strip twice", S, jobs(10, (2, 1, 0, 1), (2, 1, 1, 3)), 13, 20)
+refused("a strip too many", S, jobs(10, (2, 1, 0, 1), (1, 1, 1, 3), (1, 2, 8, 9)), 13, 33)
+refused("a scan before the one above it ends", S, jobs(9, (2, 1, 0, 1), (1, 1, 0, 2)), 13, 20)
+refused("a desk job before its scan ends", S, jobs(9, (2, 1, 0, 1), (1, 1, 1, 2)), 13, 20)
+TWO = sorting(1) + job(1, 1, 5) + job(1, 1, 5)
+allowed("a desk's strips one after another", TWO, jobs(17, (1, 1, 0, 1), (1, 2, 1, 6)), 0, 17)
+refused("a desk that takes two strips at once", TWO, jobs(16, (1, 1, 0, 1), (1, 2, 1, 5)), 13, 20)
+refused("jobs missing", S, jobs(2, (2, 1, 0, 1)), 13, 0)
+refused("an untrue sorting figure", S, jobs(9, (2, 1, 0, 1), (1, 1, 1, 3)), 14, 0)
+allowed("a desk that finishes at the ceiling", sorting() + job(1, 1, 1), jobs(CEILING, (1, 1, 0, CEILING - 1)), 0, CEILING)
+refused("a desk that finishes past the ceiling", sorting() + job(1, 1, 1), jobs(CEILING + 1, (1, 1, 0, CEILING)), 13, 7)
+
+# 13 at a block, and at the head of a flight.
+refused("a delay one second short", F, passes(5, 0xC, (0, 2), (1, 4)), 13, 15)
+refused("a delay one second long", F, passes(5, 0xC, (0, 3), (1, 5)), 13, 26)
+refused("a block too many", F, passes(5, 0xC, (0, 3), (1, 4), (9, 12)), 13, 37)
+refused("a block missing", F, passes(5, 0xC, (0, 3)), 13, 0)
+refused("an improper order number", F, passes(5, 3, (0, 3), (1, 4)), 13, 0)
+refused("another order number", F, passes(5, 0xA, (0, 3), (1, 4)), 13, 0)
+refused("an order other than the given one", F + order(0xA), passes(5, 0xC, (0, 3), (1, 4)), 13, 0)
+refused("overlapping passes", F, passes(4, 0xC, (0, 3), (0, 3)), 13, 0)
+LONG = flight() + block(4, 4, 2) * 2
+refused("passes that overlap by one second", LONG, passes(13, 0xC, (0, 8), (3, 11)), 13, 0)
+allowed("passes that touch", LONG, passes(14, 0xC, (0, 8), (4, 12)), 0, 0, 14)
+refused("blocks out of sheet order", F, passes(5, 0xC, (1, 4), (0, 3)), 13, 0)
+refused("an untrue flight figure", F, passes(6, 0xC, (0, 3), (1, 4)), 14, 0)
+ONE = flight() + block(1, 0, 1)
+allowed("a pass that ends at the ceiling", ONE, passes(CEILING, 2, (CEILING - 2, CEILING - 1)), 0, 0, CEILING)
+refused("a pass that ends past the ceiling", ONE, passes(CEILING + 1, 2, (CEILING - 1, CEILING)), 13, 15)
+
+# Faults in two sections.
+BAD_JOBS = jobs(10, (2, 1, 0, 0), (1, 1, 1, 3))
+refused("the first section's fault goes first", M + S, batches(36, (1, 2, 4), (2, 4, 8), (3, 8, 11), (4, 11, 14)) + BAD_JOBS, 13, 43)
+refused("an untrue mosaic figure goes before a broken sorting member", M + S, batches(37, (1, 2, 4), (2, 4, 8), (3, 8, 11), (4, 11, 13)) + BAD_JOBS, 14, 0)
+refused("a good mosaic and a broken sorting", M + S, BEST + BAD_JOBS, 13, len(BEST) + 7)
+refused("two good sections and an untrue flight figure", ALL, PLAN[:-37] + passes(6, 0xC, (0, 3), (1, 4)), 14, len(PLAN) - 37)
+
+
+def files():
+    pairs = b"".join(word(len(sheet)) + sheet + word(len(plan)) + plan for _, sheet, plan, _ in CASES)
+    if len(pairs) > 65536:
+        sys.exit("the cases take %d bytes, and judge_cases reads 65,536" % len(pairs))
+    lines = "".join(line + "\n" for _, _, _, line in CASES)
+    return {"stdin": pairs, "stdout": lines.encode()}
+
+
+if __name__ == "__main__":
+    sheets.write(FOLDER, files(), len(CASES))
