@@ -19,6 +19,11 @@ value-set P t i v j new old = go (ℕ-discrete j i) (decLt i (length t))
     go (yes e) (yes l) = rw (e, getD-set-same t i v 0 l) (new e l)
     go (yes e) (no h) = rw (set-out t i v (omega arith)) old
 
+pub zeros-value : (n j : ℕ) → value (replicate n 0) j ≡ 0
+zeros-value zero j = refl
+zeros-value (suc n) zero = refl
+zeros-value (suc n) (suc j) = zeros-value n j
+
 module _ (S : System) where
   relax-length : (k : ℕ) (t : List ℕ) → length (relax S k t) ≡ length t
   unfolding relax
@@ -90,11 +95,6 @@ module _ (S : System) where
   unfolding rounds
   rounds-length zero = length-replicate (S .variables) 0
   rounds-length (suc r) = relaxed-length (S .count) (rounds S r) ∙ rounds-length r
-
-  zeros-value : (n j : ℕ) → value (replicate n 0) j ≡ 0
-  zeros-value zero j = refl
-  zeros-value (suc n) zero = refl
-  zeros-value (suc n) (suc j) = zeros-value n j
 
   pub rounds-below : (y : ℕ → ℕ) → Solves S y → (r j : ℕ) → value (rounds S r) j ≤ y j
   unfolding rounds

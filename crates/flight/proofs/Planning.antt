@@ -1,5 +1,5 @@
 -- The plan put together: the least starts of the order, copied by block; and the order, given or searched for.
-use mathlib.Core.Path.{_≡_, refl, sym, ap, ap₂, _∙_}
+use mathlib.Core.Path.{_≡_, refl, sym, ap, ap₂, subst, _∙_}
 use mathlib.Core.Bool.{Bool, true, false}
 use mathlib.Core.List.{List, _∷_}
 use Prim.Native.Nat.{ℕ, zero, suc, _+_, _-_, _*_, _^_, _<_}
@@ -11,6 +11,7 @@ use borrow.Author.Tests.{ne-eqb}
 use Rattle.order.specs.Order.{Proper}
 use Rattle.order.specs.Children.{beginning-empty}
 use Rattle.difference.specs.System.{value}
+use Rattle.difference.specs.Round.{zeros-value}
 use Rattle.sheet.specs.Sound.{FlightSound}
 use Rattle.sheet.specs.declared.FlightSection.{FlightSection}
 use Rattle.rules.specs.declared.Passes.{Passes}
@@ -26,7 +27,6 @@ use Rattle.flight.specs.Chosen.{chosen-given, chosen-free, chosen-proper
 use Rattle.flight.specs.Contracts.{freeSection, SearchAsked, PlanAsked, OrderAsked, BlocksAsked, Copied}
 use Rattle.flight.specs.declared.Incumbent.{Incumbent}
 use Rattle.flight.specs.declared.FlightPlan.{FlightPlan}
-use Rattle.flight.proofs.Copying.{zeros}
 
 list-agree : (n : ℕ) (g h : ℕ → Passes) → ((i : ℕ) → i < n → g i ≡ h i) → listOf n g ≡ listOf n h
 unfolding listOf
@@ -122,14 +122,7 @@ module _ (f : FlightSection) (w : ℕ) (chosen : w ≡ chosenOrder f) where
 
   pub plan-chosen : (r : FlightPlan) → PlannedIn f w r → Planned f r
   unfolding isPossible leastFigure chosenPasses
-  plan-chosen r p = record {
-    possible = p .possible ∙ ap (possibleIn f) chosen;
-    figure = p .figure ∙ ap (orderFigure f) chosen;
-    order = p .order ∙ chosen;
-    passes = p .passes ∙ ap (leastPasses f) chosen;
-    no-more-first = p .no-more-first;
-    no-more-second = p .no-more-second;
-  }
+  plan-chosen r p = subst (λ (z : ℕ). PlannedIn f z r) chosen p
 
 module _ (f : FlightSection) (rows starts : List ℕ) (asked : BlocksAsked f rows starts) where
   pub rows-part : 4 * (4 * f .blocks - 1) ≡ length (take (4 * (4 * f .blocks - 1)) rows)
@@ -150,8 +143,8 @@ plan-none f sound e = record {
   figure = sym (figure-none f (chosenOrder f) sound proper (λ l. omega arith));
   order = zero-order;
   passes = list-agree (f .blocks) _ _ (λ i l. absurd (omega arith));
-  no-more-first = λ i l. zeros 32 i;
-  no-more-second = λ i l. zeros 32 i;
+  no-more-first = λ i l. zeros-value 32 i;
+  no-more-second = λ i l. zeros-value 32 i;
 }
   where
     proper : Proper (f .blocks) (chosenOrder f)
