@@ -3,3 +3,7 @@ pub mod Sums
 pub mod Mosaic
 pub mod Sorting
 pub mod Flight
+pub mod Plan
+pub mod Running
+pub mod PlanRead
+pub mod FunctionLaws

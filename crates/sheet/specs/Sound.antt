@@ -8,6 +8,7 @@ use Rattle.order.specs.Order.{Proper}
 use Rattle.sheet.specs.declared.MosaicSection.{MosaicSection}
 use Rattle.sheet.specs.declared.SortingSection.{SortingSection}
 use Rattle.sheet.specs.declared.FlightSection.{FlightSection}
+use Rattle.sheet.specs.declared.Sheet.{Sheet}
 
 pub record MosaicSound (m : MosaicSection) : Type 0 where
   pub most-stations : m .stations ≤ mostStations
@@ -33,7 +34,8 @@ pub record SortingSound (s : SortingSection) : Type 0 where
   pub least-scan : (d k : ℕ) → k < getD (s .counts) d 0 → 1 ≤ getD (s .scan) (6 * d + k) 0
   pub least-desk : (d k : ℕ) → k < getD (s .counts) d 0 → 1 ≤ getD (s .desk) (6 * d + k) 0
 
-pub record FlightSound (f : FlightSection) : Type 0 where
+-- a flight section that has at most so many blocks where no order is given
+pub record FlightWithin (mostFree : ℕ) (f : FlightSection) : Type 0 where
   pub most-blocks : f .blocks ≤ mostBlocks
   pub first-length : length (f .first) ≡ 32
   pub delay-length : length (f .delay) ≡ 32
@@ -44,5 +46,19 @@ pub record FlightSound (f : FlightSection) : Type 0 where
   pub least-first : (i : ℕ) → i < f .blocks → 1 ≤ getD (f .first) i 0
   pub least-second : (i : ℕ) → i < f .blocks → 1 ≤ getD (f .second) i 0
   pub given : f .ordered ≡ true → Proper (f .blocks) (f .order)
-  -- "Without it there may be at most 8 blocks."
-  pub free : f .ordered ≡ false → f .blocks ≤ mostBlocksWithoutOrder
+  pub free : f .ordered ≡ false → f .blocks ≤ mostFree
+
+-- "Without it there may be at most 8 blocks."
+abbrev pub FlightSound : FlightSection → Type 0
+FlightSound f = FlightWithin mostBlocksWithoutOrder f
+
+-- the strips of all desks
+unfoldable pub stripsInAll : SortingSection → ℕ
+stripsInAll t = getD (t .counts) 0 0 + getD (t .counts) 1 0 + getD (t .counts) 2 0
+
+-- "One to three sections stand .., each with one member or more": a sound sheet has a member, and its sections are sound
+pub record SheetSound (s : Sheet) : Type 0 where
+  pub mosaic : MosaicSound (s .mosaic)
+  pub sorting : SortingSound (s .sorting)
+  pub flight : FlightSound (s .flight)
+  pub some-member : 1 ≤ s .mosaic .strips + stripsInAll (s .sorting) + s .flight .blocks

@@ -1,7 +1,8 @@
-// The sheet: its limits, its refusal numbers, and its reader, which gives the number and place of a refusal or the decoded sheet.
+// The sheet: its limits, its tags, its refusal numbers, and what reading one gives.
 
 pub mod limits;
 pub mod numbers;
+pub mod sections;
 pub mod tags;
 
 // The mosaic section. Station k of strip j, both from 0, stands at 4 j + k.
@@ -36,6 +37,17 @@ pub struct FlightSection {
 pub struct Sheet {
     pub number: u64,
     pub place: usize,
+    pub mosaic: MosaicSection,
+    pub sorting: SortingSection,
+    pub flight: FlightSection,
+}
+
+// How far a sheet is read: the next field's place, the section that stands open, its head's place and its members, and what is decoded.
+pub struct Reading {
+    pub at: usize,
+    pub section: u64,
+    pub head: usize,
+    pub members: usize,
     pub mosaic: MosaicSection,
     pub sorting: SortingSection,
     pub flight: FlightSection,

@@ -1,0 +1,55 @@
+-- The sorting section as one list of numbers, which the search reads: strips of each desk, then scan times, desk times and weights, six to a desk. Desks and strips are counted from 0.
+use Prim.Native.Nat.{ℕ, _+_, _*_, _≤_, _<_}
+use mathlib.Core.Path.{_≡_}
+use mathlib.Core.List.{List}
+use lib.ListN.{length, getD}
+
+-- the scan time, the desk time and the weight of strip i of desk d; the number of strips of desk d stands at d
+abbrev pub scanOf : List ℕ → ℕ → ℕ → ℕ
+scanOf J d i = getD J (3 + (d * 6 + i)) 0
+
+abbrev pub deskOf : List ℕ → ℕ → ℕ → ℕ
+deskOf J d i = getD J (3 + (d * 6 + i) + 18) 0
+
+abbrev pub weightOf : List ℕ → ℕ → ℕ → ℕ
+weightOf J d i = getD J (3 + (d * 6 + i) + 36) 0
+
+abbrev pub instanceLength : ℕ
+instanceLength = 57
+
+-- the largest number of 64 bits
+abbrev pub largest : ℕ
+largest = 18_446_744_073_709_551_615
+
+-- What keeps every sum of the search within 64 bits: no time above timeCap, no weight above weightCap. The other caps are those of 18 strips:
+-- the scanner's time, what one strip adds to a desk's free time, a desk's free time, what one strip adds to the cost, the cost, and the number of a list.
+abbrev pub timeCap : ℕ
+timeCap = 1_048_576
+
+abbrev pub weightCap : ℕ
+weightCap = 1_024
+
+abbrev pub scannerCap : ℕ
+scannerCap = 18_874_368
+
+abbrev pub stripSpan : ℕ
+stripSpan = 2_097_152
+
+abbrev pub freeCap : ℕ
+freeCap = 37_748_736
+
+abbrev pub stripCost : ℕ
+stripCost = 38_654_705_664
+
+abbrev pub costCap : ℕ
+costCap = 695_784_701_952
+
+abbrev pub pathCap : ℕ
+pathCap = 68_719_476_736
+
+-- what the search asks of such a list: at most 6 strips to a desk
+pub record Instance (J : List ℕ) : Type 0 where
+  pub size : length J ≡ instanceLength
+  pub few : (d : ℕ) → d < 3 → getD J d 0 ≤ 6
+  pub small : (k : ℕ) → getD J (3 + k) 0 ≤ timeCap
+  pub light : (k : ℕ) → getD J (3 + k + 36) 0 ≤ weightCap

@@ -1,0 +1,3 @@
+-- What the judge answers.
+pub mod Layout
+pub mod Judged

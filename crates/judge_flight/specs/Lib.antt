@@ -1,0 +1,3 @@
+-- The passes of a plan's flight, read from its bytes.
+pub mod Starts
+pub mod Laws

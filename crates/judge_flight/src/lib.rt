@@ -1,0 +1,84 @@
+// The passes of a plan's flight: whether they come in the order that its head states, one after another, and when the last one ends.
+// The first member of the flight stands at offset `at` of the plan.
+use field::number;
+use rules::flight::{pass_at, pass_time};
+use rules::mosaic::greater;
+use sheet::FlightSection;
+
+ghost use mathlib.Core.Path.{_≡_};
+ghost use Prim.Native.Nat.{ℕ, _+_, _-_, _*_, _≤_, _<_, _^_};
+ghost use Rattle.rules.specs.Flight.{flightFigure};
+ghost use Rattle.judge_rules.specs.Follows.{passesInOrder, flightHead};
+ghost use Rattle.judge_flight.specs.Starts.{StartAsked, StartTold, PassesAsked, OrderAsked, FigureTold, HeadAsked, startOf, endOf, passesOf};
+
+// The start of pass p of n blocks.
+fn pass_start(plan: &[u8], at: usize, n: usize, p: usize) -> u64
+    requires { ⌜ StartAsked at n p ⌝ }
+    ensures { λ r. ⌜ StartTold (startOf (now (plan .entry)) at n p) r ⌝ }
+{
+    if p < n {
+        return number(plan, at + 11 * p + 3, 4);
+    }
+    number(plan, at + 11 * (p - n) + 7, 4)
+}
+
+// The end of pass p.
+fn pass_end(f: FlightSection, plan: &[u8], at: usize, p: usize) -> u64
+    requires { ⌜ PassesAsked f at p ⌝ }
+    ensures { λ r. ⌜ FigureTold (endOf f (now (plan .entry)) at p) r ⌝ }
+{
+    pass_start(plan, at, f.blocks, p) + pass_time(f, p)
+}
+
+// Whether each pass starts no earlier than the one before it in the order ends.
+pub fn passes_in_order(f: FlightSection, order: u64, plan: &[u8], at: usize) -> bool
+    requires { ⌜ OrderAsked f order at ⌝ }
+    ensures { λ r. ⌜ r ≡ passesInOrder f order (passesOf (now (plan .entry)) at (f .blocks)) (2 * f .blocks - 1) ⌝ }
+{
+    let n = f.blocks;
+    let mut k: usize = 0;
+    while k + 1 < 2 * n {
+        let p = pass_at(f, order, k);
+        let q = pass_at(f, order, k + 1);
+        if pass_start(plan, at, n, q) < pass_end(f, plan, at, p) {
+            return false;
+        }
+        k += 1;
+    }
+    true
+}
+
+// The end of the last pass.
+pub fn flight_figure(f: FlightSection, plan: &[u8], at: usize) -> u64
+    requires { ⌜ HeadAsked f at ⌝ }
+    ensures { λ r. ⌜ FigureTold (flightFigure f (passesOf (now (plan .entry)) at (f .blocks))) r ⌝ }
+{
+    let n = f.blocks;
+    let mut greatest: u64 = 0;
+    let mut p: usize = 0;
+    while p < 2 * n {
+        greatest = greater(greatest, pass_end(f, plan, at, p));
+        p += 1;
+    }
+    greatest
+}
+
+// What is checked at the head of a flight, its members judged.
+pub fn flight_head(f: FlightSection, members: usize, order: u64, plan: &[u8], at: usize) -> bool
+    requires { ⌜ HeadAsked f at ⌝ }
+    ensures { λ r. ⌜ r ≡ flightHead f members order (passesOf (now (plan .entry)) at members) ⌝ }
+{
+    if members != f.blocks {
+        return false;
+    }
+    if !order::proper(f.blocks as u64, order) {
+        return false;
+    }
+    if f.ordered {
+        if order != f.order {
+            return false;
+        }
+        return passes_in_order(f, order, plan, at);
+    }
+    passes_in_order(f, order, plan, at)
+}

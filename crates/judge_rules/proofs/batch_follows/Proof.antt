@@ -1,0 +1,45 @@
+use Rattle.judge_rules.specs.Laws.{batch-wrong, batch-ready, batch-rises, batch-bench, batch-right, mounted-fits, due-fits}
+use borrow.Author.Needs.{needs}
+use Rattle.judge_rules.proofs.batch_follows.Statement.{statement}
+use Rattle.judge_rules.proofs.batch_follows.Tie as tie
+
+batch-in-run-requires : tie.Need-batch-in-run-requires
+batch-in-run-requires c κs = search needs
+
+returns : tie.Need-returns
+returns c = search batch-wrong
+
+ready-time-requires : tie.Need-ready-time-requires
+ready-time-requires c κs = search batch-ready
+
+add-due : tie.Need-add-due
+add-due c = search needs
+
+sub-bench-sum : tie.Need-sub-bench-sum
+sub-bench-sum c = search batch-rises
+
+bench-sum-requires : tie.Need-bench-sum-requires
+bench-sum-requires c κs = search batch-bench
+
+add-due-2 : tie.Need-add-due-2
+add-due-2 c = search needs
+
+batch-in-time-requires : tie.Need-batch-in-time-requires
+batch-in-time-requires c κs = search needs
+
+returns-2 : tie.Need-returns-2
+returns-2 c = search batch-right
+
+pub batch-follows-spec : {M : Type 1} → statement M
+batch-follows-spec =
+    tie.close
+    (tie.spec
+    batch-in-run-requires
+    returns
+    ready-time-requires
+    add-due
+    sub-bench-sum
+    bench-sum-requires
+    add-due-2
+    batch-in-time-requires
+    returns-2)

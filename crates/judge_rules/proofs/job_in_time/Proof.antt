@@ -1,0 +1,23 @@
+use Rattle.field.specs.Branch.{branches}
+use Rattle.judge_rules.specs.Follows.{jobInTime}
+use Rattle.judge_rules.proofs.job_in_time.Statement.{statement}
+use Rattle.judge_rules.proofs.job_in_time.Tie as tie
+
+returns : tie.Need-returns
+unfolding jobInTime
+returns c = search branches depth 14
+
+returns-2 : tie.Need-returns-2
+unfolding jobInTime
+returns-2 c = search branches depth 14
+
+returns-3 : tie.Need-returns-3
+unfolding jobInTime
+returns-3 c = search branches depth 14
+
+returns-4 : tie.Need-returns-4
+unfolding jobInTime
+returns-4 c = search branches depth 14
+
+pub job-in-time-spec : {M : Type 1} → statement M
+job-in-time-spec = tie.close (tie.spec returns returns-2 returns-3 returns-4)

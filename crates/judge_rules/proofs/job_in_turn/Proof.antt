@@ -1,0 +1,27 @@
+use Rattle.field.specs.Branch.{branches}
+use Rattle.judge_rules.specs.Follows.{jobInTurn}
+use borrow.Author.Needs.{needs}
+use Rattle.judge_rules.proofs.job_in_turn.Statement.{statement}
+use Rattle.judge_rules.proofs.job_in_turn.Tie as tie
+
+returns : tie.Need-returns
+unfolding jobInTurn
+returns c = search branches depth 14
+
+returns-2 : tie.Need-returns-2
+unfolding jobInTurn
+returns-2 c = search branches depth 14
+
+add-if3 : tie.Need-add-if3
+add-if3 c = search needs
+
+returns-3 : tie.Need-returns-3
+unfolding jobInTurn
+returns-3 c = search branches depth 14
+
+returns-4 : tie.Need-returns-4
+unfolding jobInTurn
+returns-4 c = search branches depth 14
+
+pub job-in-turn-spec : {M : Type 1} → statement M
+job-in-turn-spec = tie.close (tie.spec returns returns-2 add-if3 returns-3 returns-4)

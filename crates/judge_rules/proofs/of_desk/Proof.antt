@@ -1,0 +1,23 @@
+use Rattle.judge_rules.specs.Laws.{desk-there, desk-none}
+use borrow.Author.Needs.{needs}
+use Rattle.judge_rules.proofs.of_desk.Statement.{statement}
+use Rattle.judge_rules.proofs.of_desk.Tie as tie
+
+desk-index-requires : tie.Need-desk-index-requires
+desk-index-requires c κs = search needs
+
+mul-result : tie.Need-mul-result
+mul-result c = search needs
+
+array-read-result : tie.Need-array-read-result
+array-read-result c = search needs
+
+returns : tie.Need-returns
+returns c = search desk-there
+
+returns-2 : tie.Need-returns-2
+returns-2 c = search desk-none
+
+pub of-desk-spec : {M : Type 1} → statement M
+of-desk-spec =
+    tie.close (tie.spec desk-index-requires mul-result array-read-result returns returns-2)

@@ -1,0 +1,58 @@
+-- What the tests require of what they are handed: sound sections, and numbers as a plan's fields and earlier members give them.
+use Prim.Native.Nat.{ℕ, _+_, _*_, _^_, _≤_, _<_}
+use mathlib.Core.Path.{_≡_}
+use mathlib.Core.List.{List}
+use lib.ListN.{length, getD}
+use Rattle.order.specs.Order.{Proper}
+use Rattle.sheet.specs.Limits.{mostStrips, mostDesks, mostStripsOfDesk, ceiling}
+use Rattle.sheet.specs.Sound.{MosaicSound, SortingSound, FlightSound}
+use Rattle.sheet.specs.declared.MosaicSection.{MosaicSection}
+use Rattle.sheet.specs.declared.SortingSection.{SortingSection}
+use Rattle.sheet.specs.declared.FlightSection.{FlightSection}
+use Rattle.rules.specs.declared.Batch.{Batch}
+use Rattle.rules.specs.declared.Job.{Job}
+use Rattle.rules.specs.declared.Passes.{Passes}
+use Rattle.rules.specs.declared.Desks.{Desks}
+
+-- numbers of one and of four bytes
+pub record BatchFits (b : Batch) : Type 0 where
+  pub last : b .last < 2 ^ 8
+  pub start : b .start < 2 ^ 32
+  pub finish : b .finish < 2 ^ 32
+
+pub record JobFits (j : Job) : Type 0 where
+  pub desk : j .desk < 2 ^ 8
+  pub number : j .number < 2 ^ 8
+  pub scan : j .scan < 2 ^ 32
+  pub start : j .start < 2 ^ 32
+
+pub record PassesFit (p : Passes) : Type 0 where
+  pub first : p .first < 2 ^ 32
+  pub second : p .second < 2 ^ 32
+
+-- the strips of the desks so far
+pub record DesksFit (d : Desks) : Type 0 where
+  pub done-length : length (d .done) ≡ 3
+  pub free-length : length (d .free) ≡ 3
+  pub most-done : (i : ℕ) → getD (d .done) i 0 ≤ mostStripsOfDesk
+
+pub record BatchAsked (m : MosaicSection) (b : Batch) : Type 0 where
+  pub sound : MosaicSound m
+  pub fits : BatchFits b
+
+pub record JobAsked (s : SortingSection) (d : Desks) (j : Job) : Type 0 where
+  pub sound : SortingSound s
+  pub desks : DesksFit d
+  pub fits : JobFits j
+
+pub record BlockAsked (f : FlightSection) (p : Passes) : Type 0 where
+  pub sound : FlightSound f
+  pub fits : PassesFit p
+
+-- a job of a known strip, as it is taken
+pub record JobTaken (s : SortingSection) (d : Desks) (j : Job) : Type 0 where
+  pub asked : JobAsked s d j
+  pub least-desk : 1 ≤ j .desk
+  pub most-desk : j .desk ≤ mostDesks
+  pub least-number : 1 ≤ j .number
+  pub most-number : j .number ≤ mostStripsOfDesk

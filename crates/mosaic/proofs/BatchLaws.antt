@@ -1,0 +1,163 @@
+-- The batches are written one after another: those written, and those that the recursion takes after them, are those that it takes from the start.
+use mathlib.Core.Path.{_≡_, refl, _∙_, sym}
+use mathlib.Core.List.{List, [], _∷_, _++_, append-assoc, append-nil}
+use Prim.Native.Nat.{ℕ, zero, suc, _+_, _*_, _-_, _≤_, _<_, _^_, max}
+use native.Mathlib.Numerals.{add-one}
+use native.Mathlib.Omega.{arith}
+use lib.ListN.{length, getD, set, length-set}
+use lib.Seq.{getD-set-same, getD-set-other}
+use Rattle.mosaic.specs.Least.{mountStart, benchStart, finishOf}
+use Rattle.mosaic.specs.Chosen.{batchOf}
+use Rattle.mosaic.specs.Index.{leastAt, closedAt, chosenAt}
+use Rattle.mosaic.specs.Plan.{batchesIn, batchesOf}
+use Rattle.mosaic.specs.Tables.{instanceIn, RowIs, BlockPre, FromPre, First, Sized, AddPre, Added, BatchesPre, BatchesTaken}
+use Rattle.mosaic.specs.Laws.Recursion.{least-end, chosen-end}
+use Rattle.mosaic.specs.declared.MosaicPlan.{MosaicPlan}
+use Rattle.mosaic.proofs.CandidateLaws.{least-most}
+
+-- the strips up to i are in the plan's batches, and the machine is free at `free`
+pub record PlanSoFar (rs sums row₀ row : List ℕ) (s n : ℕ) (plan : MosaicPlan) (i free : ℕ) : Type 0 where
+  pub row-len : length row ≡ length row₀
+  pub sized : Sized plan
+  pub few : plan .batches ≤ i
+  pub to : i ≤ n
+  pub most-free : free ≤ 2 ^ 39 + i * 2 ^ 32 + getD sums i 0
+  pub figure-is : plan .figure + leastAt (instanceIn rs sums s n) i free ≡ leastAt (instanceIn rs sums s n) 0 0
+  pub batches : batchesOf plan ++ chosenAt (instanceIn rs sums s n) i free ≡ chosenAt (instanceIn rs sums s n) 0 0
+
+-- a store at b changes none of the first b batches, and adds one
+kept : (last start finish : List ℕ) (b u v w k : ℕ) → k ≤ b → batchesIn k (set last b u) (set start b v) (set finish b w) ≡ batchesIn k last start finish
+unfolding batchesIn
+kept last start finish b u v w zero h = refl
+kept last start finish b u v w (suc k) h =
+    rw (
+      kept last start finish b u v w k (omega arith),
+      getD-set-other last b k u 0 (omega arith),
+      getD-set-other start b k v 0 (omega arith),
+      getD-set-other finish b k w 0 (omega arith),
+    )
+
+added : (last start finish : List ℕ) (b u v w : ℕ) → b < length last → b < length start → b < length finish
+    → batchesIn (b + 1) (set last b u) (set start b v) (set finish b w) ≡ batchesIn b last start finish ++ (record { last = u; start = v; finish = w } ∷ [])
+unfolding batchesIn
+added last start finish b u v w h₁ h₂ h₃ =
+    rw (add-one b) (rw (kept last start finish b u v w b (omega arith), getD-set-same last b u 0 h₁, getD-set-same start b v 0 h₂, getD-set-same finish b w 0 h₃))
+
+pub plan-added : {plan : MosaicPlan} {count finish : ℕ} → AddPre plan count finish → (last start : ℕ)
+    → Added plan count last start finish
+    (record {
+      figure = plan .figure + count * finish;
+      batches = plan .batches + 1;
+      last = set (plan .last) (plan .batches) last;
+      start = set (plan .start) (plan .batches) start;
+      finish = set (plan .finish) (plan .batches) finish;
+    })
+unfolding batchesOf
+plan-added {plan} {count} {finish} P last start = record {
+  sized = record {
+    last = length-set (plan .last) (plan .batches) last ∙ P .sized .last;
+    start = length-set (plan .start) (plan .batches) start ∙ P .sized .start;
+    finish = length-set (plan .finish) (plan .batches) finish ∙ P .sized .finish;
+  };
+  figure = refl;
+  one-more = refl;
+  batches = added (plan .last) (plan .start) (plan .finish) (plan .batches) last start finish
+      (omega (arith, P .few, P .sized .last)) (omega (arith, P .few, P .sized .start)) (omega (arith, P .few, P .sized .finish));
+}
+
+module _ {rs sums late row₀ : List ℕ} {s n : ℕ} (P : BatchesPre rs sums late row₀ s n) where
+  pub plan-start : (last start finish : List ℕ) → length last ≡ 40 → length start ≡ 40 → length finish ≡ 40
+      → PlanSoFar rs sums row₀ row₀ s n (record { figure = 0; batches = 0; last = last; start = start; finish = finish }) 0 0
+  unfolding batchesOf batchesIn
+  plan-start last start finish l₁ l₂ l₃ = record {
+    row-len = refl;
+    sized = record { last = l₁; start = l₂; finish = l₃ };
+    few = omega arith;
+    to = omega arith;
+    most-free = omega arith;
+    figure-is = omega arith;
+    batches = refl;
+  }
+
+  module _ {row : List ℕ} {plan : MosaicPlan} {i free : ℕ} (M : PlanSoFar rs sums row₀ row s n plan i free) (h : i < n) where
+    free-most : free + s ≤ 2 ^ 41
+    free-most = omega (arith, M .most-free, P .input .most-strips, P .input .most-mount, P .input .most-sum i (omega arith))
+
+    pub plan-begin : free + s < 2 ^ 64
+    plan-begin = omega (arith, free-most)
+
+    pub plan-block : BlockPre rs sums late row s n (free + s) i (i + 1)
+    plan-block = record {
+      input = P .input;
+      later = record { at = λ j q g k l. P .all .at j q (omega arith) k l };
+      late-long = P .late-long;
+      row-long = omega (arith, P .row-long, M .row-len);
+      from = omega arith;
+      inside = omega arith;
+      most-begin = free-most;
+    }
+
+    pub plan-from : {row₁ : List ℕ} → RowIs rs sums row₁ s n (free + s) i (i + 1) → length row₁ ≡ length row → FromPre rs sums late row₁ s n free i
+    plan-from R l = record {
+      input = P .input;
+      ahead = record { row-at = λ p g k. R .at p (omega arith) k; late-at = λ q g k. P .all .at i q (omega arith) g k };
+      late-long = P .late-long;
+      row-long = omega (arith, P .row-long, M .row-len);
+      most-free = omega (arith, free-most);
+      inside = h;
+    }
+
+    module _ {q : ℕ} (C : First rs sums s n free i q) where
+      pub plan-sub : getD sums i 0 ≤ getD sums q 0
+      plan-sub = P .input .rise i q (omega (arith, C .first)) (C .last)
+
+      module _ {start : ℕ} (e : start ≡ max free (getD rs (q - 1) 0)) where
+        finish-most : start + s + (getD sums q 0 - getD sums i 0) ≤ 2 ^ 39 + q * 2 ^ 32 + getD sums q 0
+        finish-most = omega (arith, plan-sub, M .most-free, C .first, P .input .most-ready (q - 1), P .input .most-mount)
+
+        finish-cap : start + s + (getD sums q 0 - getD sums i 0) ≤ 2 ^ 42
+        finish-cap = omega (arith, finish-most, C .last, P .input .most-strips, P .input .most-sum q (C .last))
+
+        pub plan-mounted : start + s < 2 ^ 64
+        plan-mounted = omega (arith, finish-cap)
+
+        pub plan-finish : start + s + (getD sums q 0 - getD sums i 0) < 2 ^ 64
+        plan-finish = omega (arith, finish-cap)
+
+        least-is : leastAt (instanceIn rs sums s n) i free
+            ≡ (q - i) * (start + s + (getD sums q 0 - getD sums i 0)) + leastAt (instanceIn rs sums s n) q (start + s + (getD sums q 0 - getD sums i 0))
+        unfolding closedAt benchStart mountStart
+        least-is = rw e (C .least)
+
+        pub plan-add : AddPre plan (q - i) (start + s + (getD sums q 0 - getD sums i 0))
+        plan-add = record {
+          sized = M .sized;
+          few = omega (arith, M .few, P .input .most-strips);
+          fits = omega (arith, M .figure-is, least-is, least-most (P .input) 0 0 (omega arith));
+        }
+
+        finish-is : finishOf (instanceIn rs sums s n) free i q ≡ start + s + (getD sums q 0 - getD sums i 0)
+        unfolding finishOf benchStart mountStart
+        finish-is = rw e
+
+        batch-is : batchOf (instanceIn rs sums s n) free i q ≡ record { last = q; start = start; finish = start + s + (getD sums q 0 - getD sums i 0) }
+        unfolding batchOf mountStart
+        batch-is = rw (finish-is, ← e)
+
+        pub plan-step : {more : MosaicPlan} {row₁ : List ℕ} → Added plan (q - i) q start (start + s + (getD sums q 0 - getD sums i 0)) more → length row₁ ≡ length row
+            → PlanSoFar rs sums row₀ row₁ s n more q (start + s + (getD sums q 0 - getD sums i 0))
+        plan-step A l = record {
+          row-len = l ∙ M .row-len;
+          sized = A .sized;
+          few = omega (arith, M .few, C .first, A .one-more);
+          to = C .last;
+          most-free = finish-most;
+          figure-is = omega (arith, M .figure-is, least-is, A .figure);
+          batches = rw (A .batches, append-assoc) (rw (← batch-is) (rw (C .taken, finish-is) at (M .batches)));
+        }
+
+  pub plan-end : {row : List ℕ} {plan : MosaicPlan} {i free : ℕ} → PlanSoFar rs sums row₀ row s n plan i free → n ≤ i → BatchesTaken rs sums s n plan
+  plan-end {plan = plan} {i} {free} M h = record {
+    figure = omega (arith, M .figure-is, least-end (instanceIn rs sums s n) i free h);
+    batches = sym (append-nil (batchesOf plan)) ∙ rw (chosen-end (instanceIn rs sums s n) i free h) at (M .batches);
+  }

@@ -1,0 +1,60 @@
+-- `bench_sums` meets its contract. Invariant: the sum is that of the strips passed, and so are the entries written.
+use mathlib.Core.Path.{refl}
+use Prim.Native.Nat.{_-_}
+use borrow.Author.Needs.{needs}
+use Rattle.mosaic.proofs.TimeLaws.{SumsSoFar, sums-start, sums-fits, sums-step, sums-end}
+use Rattle.mosaic.proofs.ready.bench_sums.Statement.{statement}
+use Rattle.mosaic.proofs.ready.bench_sums.Tie as tie
+
+abbrev Inv-loop : tie.InvT-loop
+Inv-loop m sums₀ sum₀ j₀ sums sum j = SumsSoFar m sums sum j
+
+abbrev μ-loop : tie.MeasureT-loop
+μ-loop m sums₀ sum₀ j₀ sums sum j = 40 - j
+
+loop-holds : tie.Need-loop-holds Inv-loop μ-loop
+loop-holds c = sums-start (c .pre) _ refl refl
+
+mul-sum : tie.Need-mul-sum Inv-loop μ-loop
+mul-sum c = search needs
+
+element-copy-out-sum : tie.Need-element-copy-out-sum Inv-loop μ-loop
+element-copy-out-sum c = search needs
+
+add-sum : tie.Need-add-sum Inv-loop μ-loop
+add-sum c = search sums-fits
+
+add-j : tie.Need-add-j Inv-loop μ-loop
+add-j c = search needs
+
+mul-sums : tie.Need-mul-sums Inv-loop μ-loop
+mul-sums c = search needs
+
+array-write-sums : tie.Need-array-write-sums Inv-loop μ-loop
+array-write-sums c = search needs
+
+loop-less : tie.Need-loop-less Inv-loop μ-loop
+loop-less c = search needs
+
+loop-again : tie.Need-loop-again Inv-loop μ-loop
+loop-again c = search sums-step
+
+returns : tie.Need-returns Inv-loop μ-loop
+returns c = search sums-end
+
+pub bench-sums-spec : {M : Type 1} → statement M
+bench-sums-spec =
+    tie.close
+    (tie.spec
+    Inv-loop
+    μ-loop
+    loop-holds
+    mul-sum
+    element-copy-out-sum
+    add-sum
+    add-j
+    mul-sums
+    array-write-sums
+    loop-less
+    loop-again
+    returns)

@@ -1,0 +1,129 @@
+-- The batches taken are a lawful timetable, have the least figure, start as early as they can, and finish long before the ceiling.
+-- One induction over the strips left shows all four.
+use mathlib.Core.Path.{_≡_, refl, ap, _∙_}
+use mathlib.Core.List.{List, [], _∷_}
+use Prim.Native.Nat.{ℕ, zero, suc, _+_, _*_, _-_, _≤_, _<_}
+use native.Mathlib.Nat.{mul-le-mul}
+use native.Mathlib.Decide.{decLt}
+use native.Mathlib.Omega.{arith}
+use Rattle.sheet.specs.Limits.{mostTime, mostStrips}
+use Rattle.sheet.specs.Sound.{MosaicSound}
+use Rattle.sheet.specs.declared.MosaicSection.{MosaicSection}
+use Rattle.rules.specs.declared.Batch.{Batch}
+use Rattle.rules.specs.Mosaic.{ready}
+use Rattle.mosaic.specs.Least.{mountStart, benchStart, finishOf, instanceOf}
+use Rattle.mosaic.specs.Chosen.{batchOf}
+use Rattle.mosaic.specs.Index.{leastAt, openAt, closedAt, chosenAt, chosenOpenAt}
+use Rattle.mosaic.specs.Laws.Recursion.{least-end, least-one, least-open, open-last, open-more, chosen-end, chosen-open, chosen-last, chosen-close, chosen-extend}
+use Rattle.mosaic.specs.Laws.Rules.{weight-count, bench-most, ready-most}
+use Rattle.mosaic.specs.Laws.Structure.{BatchLawful, LawfulAfter}
+use Rattle.mosaic.specs.Laws.Figure.{restFigure, rest-cons, rest-end}
+
+-- each mount starts when the machine is free and the batch's last strip is ready
+unfoldable pub AsEarly : MosaicSection → ℕ → List Batch → Type 0
+AsEarly m free [] = Unit
+AsEarly m free (b ∷ bs) = (b .start ≡ mountStart free (ready m (b .last))) × AsEarly m (b .finish) bs
+
+unfoldable pub FinishBy : ℕ → List Batch → Type 0
+FinishBy c [] = Unit
+FinishBy c (b ∷ bs) = (b .finish ≤ c) × FinishBy c bs
+
+-- no batch up to strip i finishes later
+abbrev pub latest : ℕ → ℕ
+latest i = mostStrips * mostTime + i * (2 * mostTime)
+
+-- the batches of the strips after i, the machine free at `free`
+pub record Attains (m : MosaicSection) (i free figure : ℕ) (bs : List Batch) : Type 0 where
+  pub lawful : (p : Batch) → p .last ≡ i → p .finish ≡ free → LawfulAfter m p bs
+  pub figure-is : restFigure m i bs ≡ figure
+  pub early : AsEarly m free bs
+  pub finishes : FinishBy (latest (m .strips)) bs
+
+module _ {m : MosaicSection} (S : MosaicSound m) where
+  attains-none : (i free : ℕ) → i ≡ m .strips → Attains m i free 0 []
+  unfolding LawfulAfter AsEarly FinishBy
+  attains-none i free h = record {
+    lawful = λ p e f. omega arith;
+    figure-is = rest-end m i [] (omega arith);
+    early = tt;
+    finishes = tt;
+  }
+
+  module _ (i q free : ℕ) (h : i < q) (k : q ≤ m .strips) (l : free ≤ latest i) where
+    finish-most : finishOf (instanceOf m) free i q ≤ latest q
+    unfolding instanceOf finishOf benchStart mountStart
+    finish-most =
+        omega (arith, bench-most S i (q - i), ready-most S q (omega (arith, S .most-strips)), S .most-mount)
+
+    pub attains-batch : (figure : ℕ) (bs : List Batch) → Attains m q (finishOf (instanceOf m) free i q) figure bs
+        → Attains m i free ((q - i) * finishOf (instanceOf m) free i q + figure) (batchOf (instanceOf m) free i q ∷ bs)
+    unfolding LawfulAfter AsEarly FinishBy batchOf instanceOf
+    attains-batch figure bs A = record {
+      lawful = λ p e f. (lawful-batch p e f, A .lawful (batchOf (instanceOf m) free i q) refl refl);
+      figure-is = rest-cons m i (batchOf (instanceOf m) free i q) bs (omega arith) k ∙ ap (λ (n : ℕ). (q - i) * finishOf (instanceOf m) free i q + n) (A .figure-is);
+      early = (refl, A .early);
+      finishes = (omega (arith, finish-most), A .finishes);
+    } where
+      lawful-batch : (p : Batch) → p .last ≡ i → p .finish ≡ free → BatchLawful m p (batchOf (instanceOf m) free i q)
+      lawful-batch p e f = unfold batchOf instanceOf finishOf benchStart mountStart in record {
+        runs = omega arith;
+        waits-strip = omega arith;
+        waits-batch = omega arith;
+        finishes = rw e refl;
+        within = omega (arith, finish-most, S .most-strips);
+      }
+
+    -- to close the open batch at strip q
+    close : Attains m q (finishOf (instanceOf m) free i q) (leastAt (instanceOf m) q (finishOf (instanceOf m) free i q)) (chosenAt (instanceOf m) q (finishOf (instanceOf m) free i q))
+        → Attains m i free (closedAt (instanceOf m) (benchStart (m .mount) free (ready m q)) i q)
+        (batchOf (instanceOf m) free i q ∷ chosenAt (instanceOf m) q (finishOf (instanceOf m) free i q))
+    unfolding closedAt instanceOf finishOf
+    close A = rw (weight-count m i (q - i)) (attains-batch _ _ A)
+
+  same : {i free v v′ : ℕ} {bs bs′ : List Batch} → v′ ≡ v → bs′ ≡ bs → Attains m i free v bs → Attains m i free v′ bs′
+  same e f A = rw (e, f) A
+
+  -- d strips follow strip q
+  attains-open : (d i q free : ℕ) → i < q → q + d ≡ m .strips → free ≤ latest i
+      → Attains m i free (openAt (instanceOf m) i q free) (chosenOpenAt (instanceOf m) i q free)
+  unfolding instanceOf
+  attains-open zero i q free h k l =
+      let x = instanceOf m in
+      let F = finishOf x free i q in
+      same (open-last x i q free (omega arith)) (chosen-last x i q free (omega arith))
+      (close i q free h (omega arith) l (same (least-end x q F (omega arith)) (chosen-end x q F (omega arith)) (attains-none q F (omega arith))))
+  attains-open (suc d) i q free h k l =
+      let x = instanceOf m in
+      let F = finishOf x free i q in
+      let less : q < m .strips = omega arith in
+      elim (decLt (closedAt x (benchStart (m .mount) free (ready m q)) i q) (openAt x i (q + 1) free)) [
+        | yes y ↦
+            same (omega (arith, open-more x i q free less)) (chosen-close x i q free less y)
+            (close i q free h (omega arith) l
+            (same (least-open x q F less) (chosen-open x q F less) (attains-open d q (q + 1) F (omega arith) (omega arith) (finish-most i q free h (omega arith) l))))
+        | no y ↦
+            same (omega (arith, open-more x i q free less)) (chosen-extend x i q free less (omega arith))
+            (attains-open d i (q + 1) free (omega arith) (omega arith) l)
+      ]
+
+  pub attains-at : (i free : ℕ) → i ≤ m .strips → free ≤ latest i → Attains m i free (leastAt (instanceOf m) i free) (chosenAt (instanceOf m) i free)
+  unfolding instanceOf
+  attains-at i free h l =
+      let x = instanceOf m in
+      elim (decLt i (m .strips)) [
+        | yes y ↦ same (least-open x i free y) (chosen-open x i free y) (attains-open (m .strips - (i + 1)) i (i + 1) free (omega arith) (omega arith) l)
+        | no y ↦ same (least-end x i free (omega arith)) (chosen-end x i free (omega arith)) (attains-none i free (omega arith))
+      ]
+
+  -- the figure of one batch of all strips is a bound
+  pub figure-most : leastAt (instanceOf m) 0 0 ≤ mostStrips * latest mostStrips
+  unfolding instanceOf
+  figure-most =
+      let x = instanceOf m in
+      elim (decLt 0 (m .strips)) [
+        | yes y ↦
+            let w : x .weight 0 (m .strips) ≤ mostStrips = omega (arith, weight-count m 0 (m .strips - 0), S .most-strips) in
+            let f : finishOf x 0 0 (m .strips) ≤ latest mostStrips = omega (arith, finish-most 0 (m .strips) 0 y (omega arith) (omega arith), S .most-strips) in
+            omega (arith, least-one x 0 0 y, mul-le-mul w f)
+        | no y ↦ omega (arith, least-end x 0 0 (omega arith))
+      ]

@@ -1,0 +1,57 @@
+-- No lawful timetable has a smaller figure: to close the open batch where the timetable closes it is one of the choices, and a later free time costs no less.
+use mathlib.Core.Path.{_≡_}
+use mathlib.Core.List.{List, [], _∷_}
+use Prim.Native.Nat.{ℕ, zero, suc, _+_, _*_, _-_, _≤_, _<_}
+use native.Mathlib.Nat.{mul-le-mul-left}
+use native.Mathlib.Decide.{decLt}
+use native.Mathlib.Omega.{arith}
+use Rattle.sheet.specs.declared.MosaicSection.{MosaicSection}
+use Rattle.rules.specs.declared.Batch.{Batch}
+use Rattle.rules.specs.Mosaic.{ready}
+use Rattle.mosaic.specs.Least.{Instance, mountStart, benchStart, finishOf, instanceOf}
+use Rattle.mosaic.specs.Index.{leastAt, openAt, closedAt}
+use Rattle.mosaic.specs.Laws.Recursion.{least-mono, least-end, least-open, open-last, open-more}
+use Rattle.mosaic.specs.Laws.Rules.{weight-count}
+use Rattle.mosaic.specs.Laws.Structure.{BatchLawful, LawfulAfter, last-within}
+use Rattle.mosaic.specs.Laws.Figure.{restFigure, rest-cons}
+
+-- to close the open batch at strip q, or d strips further on, is a choice; F is a finish that is no earlier
+module _ (x : Instance) where
+  close-here : (i q t F : ℕ) → q ≤ x .strips → finishOf x t i q ≤ F → openAt x i q t ≤ x .weight i q * F + leastAt x q F
+  unfolding closedAt finishOf
+  close-here i q t F h f =
+      let c : closedAt x (benchStart (x .mount) t (x .ready q)) i q ≤ x .weight i q * F + leastAt x q F
+      = omega (arith, mul-le-mul-left (x .weight i q) f, least-mono x q f) in
+      elim (decLt q (x .strips)) [
+        | yes k ↦ omega (arith, open-more x i q t k, c)
+        | no k ↦ omega (arith, open-last x i q t (omega arith), c)
+      ]
+
+  close-after : (d i q t F : ℕ) → q + d ≤ x .strips → finishOf x t i (q + d) ≤ F → openAt x i q t ≤ x .weight i (q + d) * F + leastAt x (q + d) F
+  close-after zero i q t F h f =
+      let e : q + 0 ≡ q = omega arith in
+      rw e (close-here i q t F (omega arith) (rw e at f))
+  close-after (suc d) i q t F h f =
+      let e : q + suc d ≡ q + 1 + d = omega arith in
+      rw e (omega (arith, open-more x i q t (omega arith), close-after d i (q + 1) t F (omega arith) (rw e at f)))
+
+  pub close-at : (i q t F : ℕ) → i < q → q ≤ x .strips → finishOf x t i q ≤ F → leastAt x i t ≤ x .weight i q * F + leastAt x q F
+  close-at i q t F h k f =
+      let e : i + 1 + (q - (i + 1)) ≡ q = omega arith in
+      rw (least-open x i t (omega arith)) (rw e at (close-after (q - (i + 1)) i (i + 1) t F (omega arith) (rw e f)))
+
+module _ (m : MosaicSection) where
+  batch-cost : (p b : Batch) → BatchLawful m p b → b .last ≤ m .strips
+      → leastAt (instanceOf m) (p .last) (p .finish) ≤ (b .last - p .last) * b .finish + leastAt (instanceOf m) (b .last) (b .finish)
+  unfolding instanceOf finishOf benchStart mountStart
+  batch-cost p b B h =
+      let c = close-at (instanceOf m) (p .last) (b .last) (p .finish) (b .finish) (B .runs) h
+      (omega (arith, B .waits-strip, B .waits-batch, B .finishes)) in
+      rw (weight-count m (p .last) (b .last - p .last)) at c
+
+  pub lower-after : (bs : List Batch) (p : Batch) → LawfulAfter m p bs → leastAt (instanceOf m) (p .last) (p .finish) ≤ restFigure m (p .last) bs
+  unfolding LawfulAfter instanceOf
+  lower-after [] p L = omega (arith, least-end (instanceOf m) (p .last) (p .finish) (omega arith))
+  lower-after (b ∷ bs) p L =
+      let w : b .last ≤ m .strips = last-within m b bs (L .1) in
+      omega (arith, batch-cost p b (L .0) w, lower-after bs b (L .1), rest-cons m (p .last) b bs (omega (arith, L .0 .runs)) w)

@@ -1,0 +1,35 @@
+// The planner of the mosaic: the least sum of completions over all batchings, and a batching that has it.
+ghost use Rattle.sheet.specs.Sound.{MosaicSound};
+ghost use Rattle.mosaic.specs.Plan.{Planned};
+
+mod batches;
+mod ready;
+mod tables;
+
+use sheet::MosaicSection;
+use tables::LATE_LENGTH;
+use tables::WIDTH;
+
+// A plan of the mosaic: its figure, and last strip, mount start and finish of each batch, in the first `batches` entries.
+pub struct MosaicPlan {
+    pub figure: u64,
+    pub batches: usize,
+    pub last: [u64; 40],
+    pub start: [u64; 40],
+    pub finish: [u64; 40],
+}
+
+// A plan of the least figure.
+pub fn plan_mosaic(m: MosaicSection) -> MosaicPlan
+    requires { ⌜ MosaicSound m ⌝ }
+    ensures { λ p. ⌜ Planned m p ⌝ }
+{
+    let n = m.strips;
+    let s = m.mount;
+    let rs = ready::ready_times(m);
+    let sums = ready::bench_sums(m);
+    let mut late = [0u64; LATE_LENGTH];
+    let mut row = [0u64; WIDTH];
+    tables::fill_late(&rs, &sums, &mut late, &mut row, s, n);
+    batches::choose_batches(&rs, &sums, &late, &mut row, s, n)
+}

@@ -1,0 +1,78 @@
+// The times that the planner reads: when each strip is ready, and the bench times added up.
+ghost use mathlib.Core.Path.{_≡_};
+ghost use mathlib.Core.List.{List, [], _∷_};
+ghost use Prim.Native.Nat.{ℕ, _≤_, max};
+ghost use lib.ListN.{getD};
+ghost use Rattle.sheet.specs.Sound.{MosaicSound};
+ghost use Rattle.rules.specs.Sums.{greatestOver};
+ghost use Rattle.mosaic.specs.Tables.{ReadyTimes, BenchSums};
+use sheet::MosaicSection;
+use sheet::limits::MOST_STRIPS;
+
+// The later of two times.
+pub fn later(a: u64, b: u64) -> u64
+    ensures { λ r. ⌜ r ≡ max a b ⌝ }
+{
+    if a < b { b } else { a }
+}
+
+// The greatest of the first `stations` of four sums.
+fn greatest(stations: usize, a: u64, b: u64, c: u64, d: u64) -> u64
+    requires { ⌜ stations ≤ 4 ⌝ }
+    ensures { λ r. ⌜ r ≡ greatestOver stations (λ k. getD (a ∷ b ∷ c ∷ d ∷ []) k 0) ⌝ }
+{
+    if stations == 0 {
+        return 0;
+    }
+    if stations == 1 {
+        return a;
+    }
+    let ab = later(a, b);
+    if stations == 2 {
+        return ab;
+    }
+    let abc = later(ab, c);
+    if stations == 3 {
+        return abc;
+    }
+    later(abc, d)
+}
+
+// Entry j is when strip j + 1 is ready.
+pub fn ready_times(m: MosaicSection) -> [u64; 40]
+    requires { ⌜ MosaicSound m ⌝ }
+    ensures { λ rs. ⌜ ReadyTimes m rs ⌝ }
+{
+    let stations = m.stations;
+    let mut rs = [0u64; 40];
+    let mut a = 0;
+    let mut b = 0;
+    let mut c = 0;
+    let mut d = 0;
+    let mut j = 0;
+    while j < MOST_STRIPS {
+        a += m.station[4 * j];
+        b += m.station[4 * j + 1];
+        c += m.station[4 * j + 2];
+        d += m.station[4 * j + 3];
+        rs[j] = greatest(stations, a, b, c, d);
+        j += 1;
+    }
+    rs
+}
+
+// Entry q is the sum of the bench times of the first q strips.
+pub fn bench_sums(m: MosaicSection) -> [u64; 41]
+    requires { ⌜ MosaicSound m ⌝ }
+    ensures { λ sums. ⌜ BenchSums m sums ⌝ }
+{
+    let mut sums = [0u64; 41];
+    let mut sum = 0;
+    let mut j = 0;
+    while j < MOST_STRIPS {
+        sum += m.bench[j];
+        j += 1;
+        sums[j] = sum;
+    }
+    sums
+}

@@ -1,0 +1,86 @@
+-- The plan: its bytes, and when it is allowed (01, "The plan" and "The three sets of rules").
+use Prim.Native.Nat.{ℕ, zero, suc, _+_, _<_}
+use mathlib.Core.Path.{_≡_}
+use mathlib.Core.Bool.{cond}
+use mathlib.Core.List.{List, [], _∷_, _++_}
+use lib.ListN.{length}
+use lib.Dec.{ltb}
+use Rattle.field.specs.Bytes.{bytesOf}
+use Rattle.field.specs.Field.{fieldBytes}
+use Rattle.sheet.specs.Tags.{planMosaicTag, planBatchTag, planSortingTag, planStripTag, planFlightTag, planBlockTag, planRefusalTag}
+use Rattle.sheet.specs.Read.{readSheet}
+use Rattle.sheet.specs.Sound.{stripsInAll}
+use Rattle.sheet.specs.declared.Sheet.{Sheet}
+use Rattle.rules.specs.Mosaic.{MosaicLawful, mosaicFigure}
+use Rattle.rules.specs.Sorting.{SortingLawful, sortingFigure}
+use Rattle.rules.specs.Flight.{FlightLawful, Keeps, OrderAllowed, flightFigure}
+use Rattle.rules.specs.declared.Batch.{Batch}
+use Rattle.rules.specs.declared.Job.{Job}
+use Rattle.rules.specs.declared.Passes.{Passes}
+
+-- the bytes of each member, one after another
+unfoldable pub membersBytes : {A : Type 0} → (A → List ℕ) → List A → List ℕ
+membersBytes bytes [] = []
+membersBytes bytes (x ∷ xs) = bytes x ++ membersBytes bytes xs
+
+-- "90: mosaic figure (4 bytes), then 91 per batch: number of its last strip (1 byte), mount start, finish (4 bytes each)."
+unfoldable pub batchBytes : Batch → List ℕ
+batchBytes b = fieldBytes planBatchTag (bytesOf 1 (b .last) ++ bytesOf 4 (b .start) ++ bytesOf 4 (b .finish))
+
+unfoldable pub mosaicBytes : ℕ → List Batch → List ℕ
+mosaicBytes figure bs = fieldBytes planMosaicTag (bytesOf 4 figure) ++ membersBytes batchBytes bs
+
+-- "A0: sorting figure (4), then A1 per strip in scanner order: desk, number within the desk (1 byte each), scan start, desk start (4 each)."
+unfoldable pub jobBytes : Job → List ℕ
+jobBytes j = fieldBytes planStripTag (bytesOf 1 (j .desk) ++ bytesOf 1 (j .number) ++ bytesOf 4 (j .scan) ++ bytesOf 4 (j .start))
+
+unfoldable pub sortingBytes : ℕ → List Job → List ℕ
+sortingBytes figure js = fieldBytes planSortingTag (bytesOf 4 figure) ++ membersBytes jobBytes js
+
+-- "B0: flight figure (4), order number (8), then B1 per block: first and second start (4 each)."
+unfoldable pub passesBytes : Passes → List ℕ
+passesBytes p = fieldBytes planBlockTag (bytesOf 4 (p .first) ++ bytesOf 4 (p .second))
+
+unfoldable pub flightBytes : ℕ → ℕ → List Passes → List ℕ
+flightBytes figure order ps = fieldBytes planFlightTag (bytesOf 4 figure ++ bytesOf 8 order) ++ membersBytes passesBytes ps
+
+-- "E0: refusal number (2), place (4)."
+unfoldable pub refusalBytes : ℕ → ℕ → List ℕ
+refusalBytes number place = fieldBytes planRefusalTag (bytesOf 2 number ++ bytesOf 4 place)
+
+-- "Sections are the sheet's, in its order": a section of no member is absent
+unfoldable pub ifPresent : ℕ → List ℕ → List ℕ
+ifPresent members bytes = cond (ltb 0 members) bytes []
+
+-- what a plan says: the timetable of each section, in flight with an order number
+pub record Plan : Type 0 where
+  pub batches : List Batch
+  pub jobs : List Job
+  pub order : ℕ
+  pub passes : List Passes
+
+-- its bytes, "states each figure as that section's rules give it"
+unfoldable pub planBytes : Sheet → Plan → List ℕ
+planBytes s p =
+    ifPresent (s .mosaic .strips) (mosaicBytes (mosaicFigure (s .mosaic) (p .batches)) (p .batches))
+    ++ ifPresent (stripsInAll (s .sorting)) (sortingBytes (sortingFigure (s .sorting) (p .jobs)) (p .jobs))
+    ++ ifPresent (s .flight .blocks) (flightBytes (flightFigure (s .flight) (p .passes)) (p .order) (p .passes))
+
+-- a plan "gives a timetable of each" section, "in flight with the number of the order kept"
+pub record PlanLawful (s : Sheet) (p : Plan) : Type 0 where
+  pub mosaic : MosaicLawful (s .mosaic) (p .batches)
+  pub sorting : SortingLawful (s .sorting) (p .jobs)
+  pub flight : FlightLawful (s .flight) (p .passes)
+  pub kept : Keeps (s .flight) (p .order) (p .passes)
+  pub order : OrderAllowed (s .flight) (p .order)
+
+-- "A plan is allowed for an otherwise sound sheet exactly when it is laid out as below with the sheet's sections, gives a timetable of each, .."
+pub record Allowed (s : Sheet) (bytes : List ℕ) : Type 0 where
+  pub plan : Plan
+  pub lawful : PlanLawful s plan
+  pub layout : bytes ≡ planBytes s plan
+
+-- the same of a sheet's bytes: "A sheet is otherwise sound where no cause that the planner checks it for, 11 apart, lies in it"
+pub record AllowedFor (sheet plan : List ℕ) : Type 0 where
+  pub sound : readSheet sheet .number ≡ 0
+  pub allowed : Allowed (readSheet sheet) plan

@@ -1,0 +1,79 @@
+-- The rules once more, as they run over the members in order: what the judge follows. Equivalent.antt shows that they say the same as the rules.
+use Prim.Native.Nat.{ℕ, zero, suc, _+_, _-_, _*_, _≤_, _<_}
+use mathlib.Core.Path.{_≡_}
+use mathlib.Core.Bool.{true}
+use mathlib.Core.List.{List, [], _∷_}
+use lib.ListN.{length, getD, set}
+use Rattle.order.specs.Order.{Proper}
+use Rattle.sheet.specs.Limits.{ceiling}
+use Rattle.sheet.specs.declared.MosaicSection.{MosaicSection}
+use Rattle.sheet.specs.declared.SortingSection.{SortingSection}
+use Rattle.sheet.specs.declared.FlightSection.{FlightSection}
+use Rattle.rules.specs.Mosaic.{ready, benchSum}
+use Rattle.rules.specs.Sorting.{stripsOf, scanEnd, deskFinish}
+use Rattle.rules.specs.Flight.{passesAt, passStart, passEnd, passAt}
+use Rattle.rules.specs.declared.Batch.{Batch}
+use Rattle.rules.specs.declared.Job.{Job}
+use Rattle.rules.specs.declared.Passes.{Passes}
+use Rattle.rules.specs.declared.Desks.{Desks}
+
+-- A batch may follow the batch before it (noBatch before the first).
+pub record BatchFollows (m : MosaicSection) (before b : Batch) : Type 0 where
+  pub rises : before .last < b .last
+  pub known : b .last ≤ m .strips
+  pub waits-strip : ready m (b .last) ≤ b .start
+  pub waits-batch : before .finish ≤ b .start
+  pub finishes : b .finish ≡ b .start + m .mount + benchSum m (before .last) (b .last - before .last)
+  pub within : b .finish ≤ ceiling
+
+pub data MosaicRuns (m : MosaicSection) : Batch → List Batch → Type 0 where
+  none : {before : Batch} → before .last ≡ m .strips → MosaicRuns m before []
+  more : {before b : Batch} {bs : List Batch} → BatchFollows m before b → MosaicRuns m b bs → MosaicRuns m before (b ∷ bs)
+
+-- A job may follow where each desk has had so many strips and is free from so on, and the scanner is.
+pub record JobFollows (s : SortingSection) (d : Desks) (j : Job) : Type 0 where
+  pub least-desk : 1 ≤ j .desk
+  pub most-desk : j .desk ≤ s .desks
+  pub in-turn : j .number ≡ getD (d .done) (j .desk - 1) 0 + 1
+  pub known : j .number ≤ stripsOf s (j .desk)
+  pub one-scan : d .scanner ≤ j .scan
+  pub after-scan : scanEnd s j ≤ j .start
+  pub one-job : getD (d .free) (j .desk - 1) 0 ≤ j .start
+  pub within : deskFinish s j ≤ ceiling
+
+-- the desks and the scanner before the first job, and after one more
+unfoldable pub freeDesks : Desks
+freeDesks = record { done = 0 ∷ 0 ∷ 0 ∷ []; free = 0 ∷ 0 ∷ 0 ∷ []; scanner = 0 }
+
+unfoldable pub afterJob : SortingSection → Desks → Job → Desks
+afterJob s d j =
+    record
+      { done = set (d .done) (j .desk - 1) (j .number)
+      ; free = set (d .free) (j .desk - 1) (deskFinish s j)
+      ; scanner = scanEnd s j
+      }
+
+-- every strip has had its job
+pub record AllDone (s : SortingSection) (d : Desks) : Type 0 where
+  pub all : (desk : ℕ) → 1 ≤ desk → desk ≤ s .desks → getD (d .done) (desk - 1) 0 ≡ stripsOf s desk
+
+pub data SortingRuns (s : SortingSection) : Desks → List Job → Type 0 where
+  none : {d : Desks} → AllDone s d → SortingRuns s d []
+  more : {d : Desks} {j : Job} {js : List Job} → JobFollows s d j → SortingRuns s (afterJob s d j) js → SortingRuns s d (j ∷ js)
+
+-- The passes of block i keep the exact delay and the ceiling.
+pub record BlockFollows (f : FlightSection) (i : ℕ) (p : Passes) : Type 0 where
+  pub known : i < f .blocks
+  pub exact-delay : p .second ≡ p .first + getD (f .first) i 0 + getD (f .delay) i 0
+  pub within : p .second + getD (f .second) i 0 ≤ ceiling
+
+-- What is checked at the head of a flight: every block there, the order proper and as given, each pass after the one before it in the order.
+pub record FlightHead (f : FlightSection) (order : ℕ) (ps : List Passes) : Type 0 where
+  pub every-block : length ps ≡ f .blocks
+  pub proper : Proper (f .blocks) order
+  pub as-given : f .ordered ≡ true → order ≡ f .order
+  pub in-order : (k : ℕ) → k + 1 < 2 * f .blocks → passEnd f ps (passAt f order k) ≤ passStart f ps (passAt f order (k + 1))
+
+pub record FlightRuns (f : FlightSection) (order : ℕ) (ps : List Passes) : Type 0 where
+  pub members : (i : ℕ) → i < length ps → BlockFollows f i (passesAt ps i)
+  pub head : FlightHead f order ps

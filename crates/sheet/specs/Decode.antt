@@ -1,0 +1,122 @@
+-- What a field that passes its checks adds to the sheet. A field's content begins at offset c of the sheet s.
+use Prim.Native.Nat.{ℕ, zero, suc, _+_, _-_, _*_}
+use mathlib.Core.Bool.{true, false, cond}
+use mathlib.Core.List.{List}
+use lib.ListN.{getD, set, replicate}
+use lib.Dec.{eqb}
+use Rattle.field.specs.Bytes.{numberAt}
+use Rattle.sheet.specs.Tags.{mosaicHeadTag, mosaicStripTag, sortingHeadTag, sortingStripTag, flightHeadTag, flightBlockTag, flightOrderTag}
+use Rattle.sheet.specs.Checks.{noSection, inMosaic, inSorting, inFlight, afterOrder, endsSection, stripsOfDesk}
+use Rattle.sheet.specs.declared.MosaicSection.{MosaicSection}
+use Rattle.sheet.specs.declared.SortingSection.{SortingSection}
+use Rattle.sheet.specs.declared.FlightSection.{FlightSection}
+use Rattle.sheet.specs.declared.Reading.{Reading}
+
+unfoldable pub zeros : ℕ → List ℕ
+zeros n = replicate n 0
+
+-- absent sections
+unfoldable pub noMosaic : MosaicSection
+noMosaic = record { stations = 0; mount = 0; strips = 0; station = zeros 160; bench = zeros 40 }
+
+unfoldable pub noSorting : SortingSection
+noSorting = record { desks = 0; counts = zeros 3; scan = zeros 18; desk = zeros 18 }
+
+unfoldable pub noFlight : FlightSection
+noFlight = record { blocks = 0; first = zeros 32; delay = zeros 32; second = zeros 32; ordered = false; order = 0; place = 0 }
+
+-- a mosaic of a head alone, and with one strip more
+unfoldable pub withMosaicHead : List ℕ → ℕ → MosaicSection
+withMosaicHead s c = record { stations = numberAt s c 1; mount = numberAt s (c + 1) 2; strips = 0; station = zeros 160; bench = zeros 40 }
+
+unfoldable pub withStationTimes : List ℕ → ℕ → ℕ → ℕ → List ℕ → List ℕ
+withStationTimes s c base zero times = times
+withStationTimes s c base (suc k) times = set (withStationTimes s c base k times) (base + k) (numberAt s (c + 2 * k) 2)
+
+unfoldable pub withMosaicStrip : List ℕ → ℕ → MosaicSection → MosaicSection
+withMosaicStrip s c m =
+    record
+      { stations = m .stations
+      ; mount = m .mount
+      ; strips = m .strips + 1
+      ; station = withStationTimes s c (4 * m .strips) (m .stations) (m .station)
+      ; bench = set (m .bench) (m .strips) (numberAt s (c + 2 * m .stations) 2)
+      }
+
+-- a sorting of a head alone, and with one strip more
+unfoldable pub withSortingHead : List ℕ → ℕ → SortingSection
+withSortingHead s c = record { desks = numberAt s c 1; counts = zeros 3; scan = zeros 18; desk = zeros 18 }
+
+-- strip k of desk d, both from 0
+unfoldable pub withStripAt : List ℕ → ℕ → SortingSection → ℕ → ℕ → SortingSection
+withStripAt s c t d k =
+    record
+      { desks = t .desks
+      ; counts = set (t .counts) d (k + 1)
+      ; scan = set (t .scan) (6 * d + k) (numberAt s (c + 1) 2)
+      ; desk = set (t .desk) (6 * d + k) (numberAt s (c + 3) 2)
+      }
+
+unfoldable pub withSortingStrip : List ℕ → ℕ → SortingSection → SortingSection
+withSortingStrip s c t = withStripAt s c t (numberAt s c 1 - 1) (stripsOfDesk (t .counts) (numberAt s c 1))
+
+-- the flight with one block more, and with its order, whose field stands at an offset
+unfoldable pub withBlock : List ℕ → ℕ → FlightSection → FlightSection
+withBlock s c f =
+    record
+      { blocks = f .blocks + 1
+      ; first = set (f .first) (f .blocks) (numberAt s c 2)
+      ; delay = set (f .delay) (f .blocks) (numberAt s (c + 2) 2)
+      ; second = set (f .second) (f .blocks) (numberAt s (c + 4) 2)
+      ; ordered = f .ordered
+      ; order = f .order
+      ; place = f .place
+      }
+
+unfoldable pub withOrder : List ℕ → ℕ → ℕ → FlightSection → FlightSection
+withOrder s c at f =
+    record { blocks = f .blocks; first = f .first; delay = f .delay; second = f .second; ordered = true; order = numberAt s c 8; place = at }
+
+-- each section after a field; a section begins with its head
+unfoldable pub nextMosaic : List ℕ → ℕ → ℕ → MosaicSection → MosaicSection
+nextMosaic s c tag m = cond (eqb tag mosaicHeadTag) (withMosaicHead s c) (cond (eqb tag mosaicStripTag) (withMosaicStrip s c m) m)
+
+unfoldable pub nextSorting : List ℕ → ℕ → ℕ → SortingSection → SortingSection
+nextSorting s c tag t = cond (eqb tag sortingHeadTag) (withSortingHead s c) (cond (eqb tag sortingStripTag) (withSortingStrip s c t) t)
+
+unfoldable pub nextFlight : List ℕ → ℕ → ℕ → ℕ → FlightSection → FlightSection
+nextFlight s c tag at f = cond (eqb tag flightBlockTag) (withBlock s c f) (cond (eqb tag flightOrderTag) (withOrder s c at f) f)
+
+-- the section that a permitted tag leads to
+unfoldable pub nextSection : ℕ → ℕ → ℕ
+nextSection tag section =
+    cond (eqb tag mosaicHeadTag) inMosaic
+    (cond (eqb tag sortingHeadTag) inSorting
+    (cond (eqb tag flightHeadTag) inFlight
+    (cond (eqb tag flightOrderTag) afterOrder
+    section)))
+
+-- the members of the section after a field: a head begins anew, the order field is none
+unfoldable pub nextMembers : ℕ → ℕ → ℕ
+nextMembers tag members = cond (endsSection tag) 0 (cond (eqb tag flightOrderTag) members (members + 1))
+
+-- the place of the section's head
+unfoldable pub nextHead : ℕ → ℕ → ℕ → ℕ
+nextHead tag head at = cond (endsSection tag) at head
+
+-- the reading after a whole field of a tag and a content length
+unfoldable pub nextReading : List ℕ → Reading → ℕ → ℕ → Reading
+nextReading s st tag len =
+    record
+      { at = st .at + 3 + len
+      ; section = nextSection tag (st .section)
+      ; head = nextHead tag (st .head) (st .at)
+      ; members = nextMembers tag (st .members)
+      ; mosaic = nextMosaic s (st .at + 3) tag (st .mosaic)
+      ; sorting = nextSorting s (st .at + 3) tag (st .sorting)
+      ; flight = nextFlight s (st .at + 3) tag (st .at) (st .flight)
+      }
+
+-- before the first field
+unfoldable pub startReading : Reading
+startReading = record { at = 0; section = noSection; head = 0; members = 0; mosaic = noMosaic; sorting = noSorting; flight = noFlight }

@@ -1,0 +1,212 @@
+-- What holds wherever a reading stands, and that a field which passes its checks keeps it. The field's tag is one of seven; each is one law.
+use Prim.Native.Nat.{ℕ, zero, suc, _+_, _-_, _*_, _≤_, _<_, _^_}
+use mathlib.Core.Path.{_≡_, refl, sym, ap, _∙_, subst}
+use mathlib.Core.Bool.{Bool, true, false, cond}
+use mathlib.Core.List.{List}
+use native.Mathlib.Decide.{ℕ-discrete}
+use native.Mathlib.Omega.{arith}
+use lib.ListN.{length, getD, set}
+use borrow.Author.Tests.{ltb-true, eqb-true}
+use Rattle.field.specs.Branch.{both}
+use Rattle.field.specs.Bytes.{numberAt}
+use Rattle.sheet.specs.Limits.{mostBlocks, mostDesks, mostStrips, mostStripsOfDesk}
+use Rattle.sheet.specs.Tags.{mosaicHeadTag, mosaicStripTag, sortingHeadTag, sortingStripTag, flightHeadTag, flightBlockTag, flightOrderTag}
+use Rattle.sheet.specs.Checks.{noSection, inMosaic, inSorting, inFlight, afterOrder, endsSection, permitted, inRange, hasRoom, stripsOfDesk, orderProper, sortingStripInRange}
+use Rattle.sheet.specs.Decode.{zeros, noMosaic, noSorting, noFlight, withMosaicHead, withMosaicStrip, withSortingHead, withStripAt, withSortingStrip, withBlock, withOrder, nextMosaic, nextSorting, nextFlight, nextSection, nextHead, nextMembers, nextReading, startReading}
+use Rattle.sheet.specs.Sound.{MosaicSound, SortingSound, FlightWithin, stripsInAll}
+use Rattle.sheet.specs.Stores.{zeros-at, set-here, set-there}
+use Rattle.sheet.specs.Passed.{Passed, Next, next-of, is-between}
+use Rattle.sheet.specs.Passed.Next.{mosaic-head, mosaic-strip, sorting-head, sorting-strip, flight-head, flight-block, flight-order}
+use Rattle.sheet.specs.SectionLaws.{no-mosaic-sound, no-sorting-sound, no-flight-sound, mosaic-head-sound, mosaic-strip-sound, sorting-head-sound, sorting-strip-sound, sorting-strip-more, block-sound, order-sound}
+use Rattle.sheet.specs.declared.SortingSection.{SortingSection}
+use Rattle.sheet.specs.declared.Reading.{Reading}
+
+pub record Kept (s : List ℕ) (st : Reading) : Type 0 where
+  pub within : st .at ≤ length s
+  pub few-members : st .members ≤ st .at
+  pub known : st .section ≤ afterOrder
+  pub mosaic : MosaicSound (st .mosaic)
+  pub sorting : SortingSound (st .sorting)
+  pub flight : FlightWithin mostBlocks (st .flight)
+  pub in-none : st .section ≡ noSection → st .members ≡ 0
+  pub in-mosaic : st .section ≡ inMosaic → st .members ≡ st .mosaic .strips
+  pub in-sorting : st .section ≡ inSorting → st .members ≡ stripsInAll (st .sorting)
+  pub before-flight : st .section < inFlight → (st .flight .blocks ≡ 0) × (st .flight .ordered ≡ false)
+  pub in-flight : st .section ≡ inFlight → (st .members ≡ st .flight .blocks) × (st .flight .ordered ≡ false)
+  pub after-order : st .section ≡ afterOrder → (st .members ≡ st .flight .blocks) × (st .flight .ordered ≡ true)
+
+pub kept-start : (s : List ℕ) → Kept s startReading
+unfolding startReading noFlight
+kept-start s =
+    record
+      { within = omega arith
+      ; few-members = omega arith
+      ; known = omega arith
+      ; mosaic = no-mosaic-sound
+      ; sorting = no-sorting-sound
+      ; flight = no-flight-sound
+      ; in-none = λ _. refl
+      ; in-mosaic = λ e. absurd (omega arith)
+      ; in-sorting = λ e. absurd (omega arith)
+      ; before-flight = λ h. (refl, refl)
+      ; in-flight = λ e. absurd (omega arith)
+      ; after-order = λ e. absurd (omega arith)
+      }
+
+module _ (s : List ℕ) (st : Reading) (len : ℕ) (k : Kept s st) (w : st .at + 3 + len ≤ length s) where
+  kept-mosaic-head : Passed s st mosaicHeadTag len → st .section ≡ noSection → Kept s (nextReading s st mosaicHeadTag len)
+  unfolding nextReading nextSection nextHead nextMembers nextMosaic nextSorting nextFlight endsSection inRange withMosaicHead
+  kept-mosaic-head p e =
+      record
+        { within = w
+        ; few-members = omega arith
+        ; known = omega arith
+        ; mosaic = mosaic-head-sound s (st .at + 3) (p .range-ok)
+        ; sorting = k .sorting
+        ; flight = k .flight
+        ; in-none = λ q. absurd (omega arith)
+        ; in-mosaic = λ _. refl
+        ; in-sorting = λ q. absurd (omega arith)
+        ; before-flight = λ _. k .before-flight (omega arith)
+        ; in-flight = λ e. absurd (omega arith)
+        ; after-order = λ e. absurd (omega arith)
+        }
+
+  kept-mosaic-strip : Passed s st mosaicStripTag len → st .section ≡ inMosaic → Kept s (nextReading s st mosaicStripTag len)
+  unfolding nextReading nextSection nextHead nextMembers nextMosaic nextSorting nextFlight endsSection inRange hasRoom withMosaicStrip
+  kept-mosaic-strip p e =
+      let f = k .few-members in
+      let m = k .in-mosaic e in
+      let r : st .members < mostStrips = ltb-true (st .members) mostStrips (p .room-ok) in
+      record
+        { within = w
+        ; few-members = omega arith
+        ; known = omega arith
+        ; mosaic = mosaic-strip-sound s (st .at + 3) (st .mosaic) (k .mosaic) (omega arith) (p .range-ok)
+        ; sorting = k .sorting
+        ; flight = k .flight
+        ; in-none = λ q. absurd (omega arith)
+        ; in-mosaic = λ _. ap (λ n. n + 1) m
+        ; in-sorting = λ q. absurd (omega arith)
+        ; before-flight = λ h. k .before-flight h
+        ; in-flight = λ q. absurd (omega arith)
+        ; after-order = λ q. absurd (omega arith)
+        }
+
+  none-yet : (c : ℕ) → stripsInAll (withSortingHead s c) ≡ 0
+  unfolding stripsInAll withSortingHead
+  none-yet c = omega (arith, zeros-at 3 0, zeros-at 3 1, zeros-at 3 2)
+
+  kept-sorting-head : Passed s st sortingHeadTag len → st .section < inSorting → Kept s (nextReading s st sortingHeadTag len)
+  unfolding nextReading nextSection nextHead nextMembers nextMosaic nextSorting nextFlight endsSection inRange
+  kept-sorting-head p h =
+      record
+        { within = w
+        ; few-members = omega arith
+        ; known = omega arith
+        ; mosaic = k .mosaic
+        ; sorting = sorting-head-sound s (st .at + 3) (p .range-ok)
+        ; flight = k .flight
+        ; in-none = λ q. absurd (omega arith)
+        ; in-mosaic = λ q. absurd (omega arith)
+        ; in-sorting = λ _. sym (none-yet (st .at + 3))
+        ; before-flight = λ _. k .before-flight (omega arith)
+        ; in-flight = λ q. absurd (omega arith)
+        ; after-order = λ q. absurd (omega arith)
+        }
+
+  kept-sorting-strip : Passed s st sortingStripTag len → st .section ≡ inSorting → Kept s (nextReading s st sortingStripTag len)
+  unfolding nextReading nextSection nextHead nextMembers nextMosaic nextSorting nextFlight endsSection inRange hasRoom
+  kept-sorting-strip p e =
+      let f = k .few-members in
+      record
+        { within = w
+        ; few-members = omega arith
+        ; known = omega arith
+        ; mosaic = k .mosaic
+        ; sorting = sorting-strip-sound s (st .at + 3) (st .sorting) (k .sorting) (p .range-ok) (ltb-true _ _ (p .room-ok))
+        ; flight = k .flight
+        ; in-none = λ q. absurd (omega arith)
+        ; in-mosaic = λ q. absurd (omega arith)
+        ; in-sorting = λ _. ap (λ n. n + 1) (k .in-sorting e) ∙ sym (sorting-strip-more s (st .at + 3) (st .sorting) (k .sorting) (p .range-ok))
+        ; before-flight = λ h. k .before-flight h
+        ; in-flight = λ q. absurd (omega arith)
+        ; after-order = λ q. absurd (omega arith)
+        }
+
+  kept-flight-head : st .section < inFlight → Kept s (nextReading s st flightHeadTag len)
+  unfolding nextReading nextSection nextHead nextMembers nextMosaic nextSorting nextFlight endsSection
+  kept-flight-head h =
+      let b = k .before-flight h in
+      record
+        { within = w
+        ; few-members = omega arith
+        ; known = omega arith
+        ; mosaic = k .mosaic
+        ; sorting = k .sorting
+        ; flight = k .flight
+        ; in-none = λ q. absurd (omega arith)
+        ; in-mosaic = λ q. absurd (omega arith)
+        ; in-sorting = λ q. absurd (omega arith)
+        ; before-flight = λ q. absurd (omega arith)
+        ; in-flight = λ _. (sym (b .0), b .1)
+        ; after-order = λ q. absurd (omega arith)
+        }
+
+  kept-flight-block : Passed s st flightBlockTag len → st .section ≡ inFlight → Kept s (nextReading s st flightBlockTag len)
+  unfolding nextReading nextSection nextHead nextMembers nextMosaic nextSorting nextFlight endsSection inRange hasRoom withBlock
+  kept-flight-block p e =
+      let f = k .few-members in
+      let b = k .in-flight e in
+      let r : st .members < mostBlocks = ltb-true (st .members) mostBlocks (p .room-ok) in
+      record
+        { within = w
+        ; few-members = omega arith
+        ; known = omega arith
+        ; mosaic = k .mosaic
+        ; sorting = k .sorting
+        ; flight = block-sound s (st .at + 3) (st .flight) (k .flight) (b .1) (omega (arith, b .0)) (p .range-ok)
+        ; in-none = λ q. absurd (omega arith)
+        ; in-mosaic = λ q. absurd (omega arith)
+        ; in-sorting = λ q. absurd (omega arith)
+        ; before-flight = λ q. absurd (omega arith)
+        ; in-flight = λ _. (ap (λ n. n + 1) (b .0), b .1)
+        ; after-order = λ q. absurd (omega arith)
+        }
+
+  kept-flight-order : Passed s st flightOrderTag len → st .section ≡ inFlight → Kept s (nextReading s st flightOrderTag len)
+  unfolding nextReading nextSection nextHead nextMembers nextMosaic nextSorting nextFlight endsSection orderProper withOrder
+  kept-flight-order p e =
+      let f = k .few-members in
+      let b = k .in-flight e in
+      record
+        { within = w
+        ; few-members = omega arith
+        ; known = omega arith
+        ; mosaic = k .mosaic
+        ; sorting = k .sorting
+        ; flight = order-sound s (st .at + 3) (st .at) (st .flight) (k .flight) (rw (b .0) at (p .order-ok))
+        ; in-none = λ q. absurd (omega arith)
+        ; in-mosaic = λ q. absurd (omega arith)
+        ; in-sorting = λ q. absurd (omega arith)
+        ; before-flight = λ q. absurd (omega arith)
+        ; in-flight = λ q. absurd (omega arith)
+        ; after-order = λ _. (b .0, refl)
+        }
+
+-- a field that passes its checks keeps what holds
+module _ (s : List ℕ) (st : Reading) (tag len : ℕ) (k : Kept s st) (w : st .at + 3 + len ≤ length s) (p : Passed s st tag len) where
+  at-tag : (t : ℕ) → tag ≡ t → (Passed s st t len → Kept s (nextReading s st t len)) → Kept s (nextReading s st tag len)
+  at-tag t e f = subst (λ (x : ℕ). Passed s st x len → Kept s (nextReading s st x len)) (sym e) f p
+
+  kept-case : Next tag (st .section) (st .members) → Kept s (nextReading s st tag len)
+  kept-case (mosaic-head e h) = at-tag mosaicHeadTag e (λ q. kept-mosaic-head s st len k w q h)
+  kept-case (mosaic-strip e h) = at-tag mosaicStripTag e (λ q. kept-mosaic-strip s st len k w q h)
+  kept-case (sorting-head e h) = at-tag sortingHeadTag e (λ q. kept-sorting-head s st len k w q h)
+  kept-case (sorting-strip e h) = at-tag sortingStripTag e (λ q. kept-sorting-strip s st len k w q h)
+  kept-case (flight-head e h) = at-tag flightHeadTag e (λ q. kept-flight-head s st len k w h)
+  kept-case (flight-block e h) = at-tag flightBlockTag e (λ q. kept-flight-block s st len k w q h)
+  kept-case (flight-order e h l) = at-tag flightOrderTag e (λ q. kept-flight-order s st len k w q h)
+
+  pub kept-next : Kept s (nextReading s st tag len)
+  kept-next = kept-case (next-of tag (st .section) (st .members) (p .tag-ok))

@@ -1,0 +1,67 @@
+-- What reading a sheet gives, for every row of bytes: the number and place of its refusal, or 0, 0 and its sections.
+-- 01: "The planner checks 1, 2, then each field for 3, then 8 or 10 if its tag ends the section before, then 4, 5, 6, 7, 9."
+use Prim.Native.Nat.{ℕ, zero, suc, _+_}
+use mathlib.Core.Bool.{true, false, cond}
+use mathlib.Core.List.{List}
+use lib.ListN.{length}
+use lib.Dec.{leb, eqb}
+use Rattle.field.specs.Branch.{check}
+use Rattle.field.specs.Field.{fieldAt}
+use Rattle.field.specs.declared.Field.the-variants.{End, Cut, Whole}
+use Rattle.sheet.specs.Refusals.{fieldCut, tagNotPermitted, lengthWrong, outOfRange, tooMany, noMembers, orderNotProper, orderMissing}
+use Rattle.sheet.specs.Checks.{sectionFilled, orderGiven, fewBlocks, permitted, lengthDue, inRange, hasRoom, stripsOfDesk, orderProper}
+use Rattle.field.specs.Bytes.{numberAt}
+use Rattle.sheet.specs.Decode.{noMosaic, noSorting, noFlight, nextReading, startReading}
+use Rattle.sheet.specs.declared.Reading.{Reading}
+use Rattle.sheet.specs.declared.Sheet.{Sheet}
+
+-- the number that a field of a permitted tag is refused with for its content: "4, 5, 6, 7, 9", 4 passed
+unfoldable pub contentNumber : List ℕ → Reading → ℕ → ℕ → ℕ
+contentNumber s st tag len =
+    check (eqb len (lengthDue tag (st .mosaic .stations))) lengthWrong
+    (check (inRange s (st .at + 3) tag (st .mosaic .stations) (st .sorting .desks)) outOfRange
+    (check (hasRoom tag (st .members) (stripsOfDesk (st .sorting .counts) (numberAt s (st .at + 3) 1))) tooMany
+    (check (orderProper tag (st .members) (numberAt s (st .at + 3) 8)) orderNotProper
+    0)))
+
+-- the number that a whole field is refused with, in the order of the checks, 0 where it passes all
+unfoldable pub fieldNumber : List ℕ → Reading → ℕ → ℕ → ℕ
+fieldNumber s st tag len =
+    check (sectionFilled tag (st .section) (st .members)) noMembers
+    (check (orderGiven tag (st .section) (st .members)) orderMissing
+    (check (permitted tag (st .section) (st .members)) tagNotPermitted
+    (contentNumber s st tag len)))
+
+-- the number that the end of the sheet is refused with: it ends a section too, and an empty sheet has none
+unfoldable pub endNumber : ℕ → ℕ → ℕ
+endNumber section members = check (leb 1 members) noMembers (check (fewBlocks section members) orderMissing 0)
+
+-- "Place is the offset of the tag of the field named": the section's head for 8 and 10 (0 for the empty sheet), else the field
+unfoldable pub placeOf : ℕ → ℕ → ℕ → ℕ
+placeOf number head at = cond (eqb number noMembers) head (cond (eqb number orderMissing) head at)
+
+unfoldable pub refused : ℕ → ℕ → Sheet
+refused number place = record { number = number; place = place; mosaic = noMosaic; sorting = noSorting; flight = noFlight }
+
+unfoldable pub accepted : Reading → Sheet
+accepted st = record { number = 0; place = 0; mosaic = st .mosaic; sorting = st .sorting; flight = st .flight }
+
+unfoldable pub atEnd : Reading → ℕ → Sheet
+atEnd st number = cond (eqb number 0) (accepted st) (refused number (st .head))
+
+-- the sheet read field by field from where a reading stands; each field takes three bytes or more, so as many turns as bytes and one more are enough
+unfoldable pub readFrom : ℕ → List ℕ → Reading → Sheet
+readFrom zero s st = refused 0 0
+readFrom (suc turns) s st =
+    elim (fieldAt s (st .at))
+      [ End ↦ atEnd st (endNumber (st .section) (st .members))
+      | Cut ↦ refused fieldCut (st .at)
+      | Whole tag len ↦
+          elim (eqb (fieldNumber s st tag len) 0)
+            [ true ↦ readFrom turns s (nextReading s st tag len)
+            | false ↦ refused (fieldNumber s st tag len) (placeOf (fieldNumber s st tag len) (st .head) (st .at))
+            ]
+      ]
+
+unfoldable pub readSheet : List ℕ → Sheet
+readSheet s = readFrom (length s + 1) s startReading

@@ -1,0 +1,86 @@
+use Prim.Native.Nat.{_-_, _≤_}
+use lib.ListN.{length}
+use borrow.Author.Needs.{needs}
+use Rattle.sheet_cases.proofs.report_all.Statement.{statement}
+use Rattle.sheet_cases.proofs.report_all.Tie as tie
+
+abbrev Inv-loop : tie.InvT-loop
+Inv-loop s at₀ at = Unit
+
+abbrev μ-loop : tie.MeasureT-loop
+μ-loop s at₀ at = length s - at
+
+loop-holds : tie.Need-loop-holds Inv-loop μ-loop
+loop-holds c = search needs
+
+number-requires : tie.Need-number-requires Inv-loop μ-loop
+number-requires c κs = search needs
+
+sub-if1 : tie.Need-sub-if1 Inv-loop μ-loop
+sub-if1 c = search needs
+
+add-if1 : tie.Need-add-if1 Inv-loop μ-loop
+add-if1 c = search needs
+
+returns : tie.Need-returns Inv-loop μ-loop
+returns c = search needs
+
+add-report : tie.Need-add-report Inv-loop μ-loop
+add-report c = search needs
+
+add-report-2 : tie.Need-add-report-2 Inv-loop μ-loop
+add-report-2 c = search needs
+
+add-report-3 : tie.Need-add-report-3 Inv-loop μ-loop
+add-report-3 c = search needs
+
+sub-report : tie.Need-sub-report Inv-loop μ-loop
+sub-report c = search needs
+
+part-report-start : tie.Need-part-report-start Inv-loop μ-loop
+part-report-start c = search needs
+
+part-report-end : tie.Need-part-report-end Inv-loop μ-loop
+part-report-end c = search needs
+
+report-requires : tie.Need-report-requires Inv-loop μ-loop
+report-requires c κs = search needs
+
+add-at : tie.Need-add-at Inv-loop μ-loop
+add-at c = search needs
+
+add-at-2 : tie.Need-add-at-2 Inv-loop μ-loop
+add-at-2 c = search needs
+
+loop-less : tie.Need-loop-less Inv-loop μ-loop
+loop-less c = search needs
+
+loop-again : tie.Need-loop-again Inv-loop μ-loop
+loop-again c = search needs
+
+returns-2 : tie.Need-returns-2 Inv-loop μ-loop
+returns-2 c = search needs
+
+pub report-all-spec : {M : Type 1} → statement M
+report-all-spec =
+    tie.close
+    (tie.spec
+    Inv-loop
+    μ-loop
+    loop-holds
+    number-requires
+    sub-if1
+    add-if1
+    returns
+    add-report
+    add-report-2
+    add-report-3
+    sub-report
+    part-report-start
+    part-report-end
+    report-requires
+    add-at
+    add-at-2
+    loop-less
+    loop-again
+    returns-2)

@@ -1,0 +1,23 @@
+use Rattle.field.specs.Branch.{branches}
+use Rattle.sheet.specs.Checks.{endsSection}
+use Rattle.sheet_checks.proofs.ends_section.Statement.{statement}
+use Rattle.sheet_checks.proofs.ends_section.Tie as tie
+
+returns : tie.Need-returns
+unfolding endsSection
+returns c = search branches depth 14
+
+returns-2 : tie.Need-returns-2
+unfolding endsSection
+returns-2 c = search branches depth 14
+
+returns-3 : tie.Need-returns-3
+unfolding endsSection
+returns-3 c = search branches depth 14
+
+returns-4 : tie.Need-returns-4
+unfolding endsSection
+returns-4 c = search branches depth 14
+
+pub ends-section-spec : {M : Type 1} → statement M
+ends-section-spec = tie.close (tie.spec returns returns-2 returns-3 returns-4)

@@ -1,0 +1,41 @@
+use Rattle.sheet_checks.specs.NumberLaws.{filled-fails, given-fails, tag-fails, tag-passes}
+use borrow.Author.Needs.{needs}
+use Rattle.sheet_checks.proofs.field_number.Statement.{statement}
+use Rattle.sheet_checks.proofs.field_number.Tie as tie
+
+section-filled-requires : tie.Need-section-filled-requires
+section-filled-requires c κs = search needs
+
+returns : tie.Need-returns
+returns c = search filled-fails
+
+order-given-requires : tie.Need-order-given-requires
+order-given-requires c κs = search needs
+
+returns-2 : tie.Need-returns-2
+returns-2 c = search given-fails
+
+is-permitted-requires : tie.Need-is-permitted-requires
+is-permitted-requires c κs = search needs
+
+returns-3 : tie.Need-returns-3
+returns-3 c = search tag-fails
+
+content-number-requires : tie.Need-content-number-requires
+content-number-requires c κs = search needs
+
+returns-4 : tie.Need-returns-4
+returns-4 c = search tag-passes
+
+pub field-number-spec : {M : Type 1} → statement M
+field-number-spec =
+    tie.close
+    (tie.spec
+    section-filled-requires
+    returns
+    order-given-requires
+    returns-2
+    is-permitted-requires
+    returns-3
+    content-number-requires
+    returns-4)

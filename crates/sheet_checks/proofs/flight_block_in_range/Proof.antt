@@ -1,0 +1,27 @@
+use Rattle.field.specs.Branch.{flags}
+use Rattle.sheet.specs.Checks.{flightBlockInRange}
+use borrow.Author.Needs.{needs}
+use Rattle.sheet_checks.proofs.flight_block_in_range.Statement.{statement}
+use Rattle.sheet_checks.proofs.flight_block_in_range.Tie as tie
+
+is-between-requires : tie.Need-is-between-requires
+is-between-requires c κs = search needs
+
+returns : tie.Need-returns
+unfolding flightBlockInRange
+returns c = search flags depth 14
+
+returns-2 : tie.Need-returns-2
+unfolding flightBlockInRange
+returns-2 c = search flags depth 14
+
+is-between-requires-2 : tie.Need-is-between-requires-2
+is-between-requires-2 c κs = search needs
+
+returns-3 : tie.Need-returns-3
+unfolding flightBlockInRange
+returns-3 c = search flags depth 14
+
+pub flight-block-in-range-spec : {M : Type 1} → statement M
+flight-block-in-range-spec =
+    tie.close (tie.spec is-between-requires returns returns-2 is-between-requires-2 returns-3)

@@ -1,0 +1,15 @@
+use Rattle.field.specs.Branch.{branches}
+use Rattle.sheet.specs.Checks.{between}
+use Rattle.sheet_checks.proofs.is_between.Statement.{statement}
+use Rattle.sheet_checks.proofs.is_between.Tie as tie
+
+returns : tie.Need-returns
+unfolding between
+returns c = search branches depth 14
+
+returns-2 : tie.Need-returns-2
+unfolding between
+returns-2 c = search branches depth 14
+
+pub is-between-spec : {M : Type 1} → statement M
+is-between-spec = tie.close (tie.spec returns returns-2)

@@ -1,0 +1,54 @@
+use Rattle.field.specs.Branch.{branches}
+use Rattle.sheet.specs.Checks.{permitted}
+use borrow.Author.Needs.{needs}
+use Rattle.sheet_checks.proofs.is_permitted.Statement.{statement}
+use Rattle.sheet_checks.proofs.is_permitted.Tie as tie
+
+order-permitted-requires : tie.Need-order-permitted-requires
+order-permitted-requires c κs = search needs
+
+returns : tie.Need-returns
+unfolding permitted
+returns c = search branches depth 14
+
+returns-2 : tie.Need-returns-2
+unfolding permitted
+returns-2 c = search branches depth 14
+
+returns-3 : tie.Need-returns-3
+unfolding permitted
+returns-3 c = search branches depth 14
+
+returns-4 : tie.Need-returns-4
+unfolding permitted
+returns-4 c = search branches depth 14
+
+returns-5 : tie.Need-returns-5
+unfolding permitted
+returns-5 c = search branches depth 14
+
+returns-6 : tie.Need-returns-6
+unfolding permitted
+returns-6 c = search branches depth 14
+
+returns-7 : tie.Need-returns-7
+unfolding permitted
+returns-7 c = search branches depth 14
+
+returns-8 : tie.Need-returns-8
+unfolding permitted
+returns-8 c = search branches depth 14
+
+pub is-permitted-spec : {M : Type 1} → statement M
+is-permitted-spec =
+    tie.close
+    (tie.spec
+    order-permitted-requires
+    returns
+    returns-2
+    returns-3
+    returns-4
+    returns-5
+    returns-6
+    returns-7
+    returns-8)

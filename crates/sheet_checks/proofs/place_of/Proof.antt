@@ -1,0 +1,19 @@
+use Rattle.field.specs.Branch.{branches}
+use Rattle.sheet.specs.Read.{placeOf}
+use Rattle.sheet_checks.proofs.place_of.Statement.{statement}
+use Rattle.sheet_checks.proofs.place_of.Tie as tie
+
+returns : tie.Need-returns
+unfolding placeOf
+returns c = search branches depth 14
+
+returns-2 : tie.Need-returns-2
+unfolding placeOf
+returns-2 c = search branches depth 14
+
+returns-3 : tie.Need-returns-3
+unfolding placeOf
+returns-3 c = search branches depth 14
+
+pub place-of-spec : {M : Type 1} → statement M
+place-of-spec = tie.close (tie.spec returns returns-2 returns-3)

@@ -1,0 +1,269 @@
+// What each field of a sheet is checked for: one function a check, and the chain of them in 01's order.
+use field::{byte, number};
+use sheet::Reading;
+use sheet::limits::{MOST_BLOCKS, MOST_BLOCKS_WITHOUT_ORDER, MOST_DESKS, MOST_STATIONS, MOST_STRIPS, MOST_STRIPS_OF_DESK, MOST_TIME};
+use sheet::numbers::{LENGTH_WRONG, NO_MEMBERS, ORDER_MISSING, ORDER_NOT_PROPER, OUT_OF_RANGE, TAG_NOT_PERMITTED, TOO_MANY};
+use sheet::sections::{IN_FLIGHT, IN_MOSAIC, IN_SORTING, NO_SECTION};
+use sheet::tags::{FLIGHT_BLOCK, FLIGHT_HEAD, FLIGHT_ORDER, MOSAIC_HEAD, MOSAIC_STRIP, SORTING_HEAD, SORTING_STRIP};
+
+
+ghost use mathlib.Core.Path.{_≡_};
+ghost use Prim.Native.Nat.{ℕ, _+_, _-_, _*_, _≤_, _<_, _^_};
+ghost use lib.ListN.{length};
+ghost use Rattle.sheet.specs.Checks.{between, endsSection, sectionFilled, fewBlocks, orderGiven, orderPermitted, permitted, lengthDue, mosaicHeadInRange, stationTimesInRange, mosaicStripInRange, sortingStripInRange, flightBlockInRange, inRange, stripsOfDesk, hasRoom, orderProper};
+ghost use Rattle.sheet.specs.Read.{contentNumber, fieldNumber, endNumber, placeOf};
+ghost use Rattle.sheet_checks.specs.FieldPre.{FieldPre};
+
+fn is_between(low: u64, value: u64, high: u64) -> bool
+    ensures { λ r. ⌜ r ≡ between low value high ⌝ }
+{
+    low <= value && value <= high
+}
+
+pub fn ends_section(tag: u8) -> bool
+    ensures { λ r. ⌜ r ≡ endsSection tag ⌝ }
+{
+    match tag {
+        MOSAIC_HEAD => true,
+        SORTING_HEAD => true,
+        FLIGHT_HEAD => true,
+        _ => false,
+    }
+}
+
+fn section_filled(tag: u8, section: u64, members: usize) -> bool
+    ensures { λ r. ⌜ r ≡ sectionFilled tag section members ⌝ }
+{
+    if ends_section(tag) {
+        return section == NO_SECTION || 1 <= members;
+    }
+    true
+}
+
+fn few_blocks(section: u64, members: usize) -> bool
+    ensures { λ r. ⌜ r ≡ fewBlocks section members ⌝ }
+{
+    section != IN_FLIGHT || members <= MOST_BLOCKS_WITHOUT_ORDER
+}
+
+fn order_given(tag: u8, section: u64, members: usize) -> bool
+    ensures { λ r. ⌜ r ≡ orderGiven tag section members ⌝ }
+{
+    if ends_section(tag) {
+        return few_blocks(section, members);
+    }
+    true
+}
+
+fn order_permitted(section: u64, members: usize) -> bool
+    ensures { λ r. ⌜ r ≡ orderPermitted section members ⌝ }
+{
+    section == IN_FLIGHT && 1 <= members
+}
+
+fn is_permitted(tag: u8, section: u64, members: usize) -> bool
+    ensures { λ r. ⌜ r ≡ permitted tag section members ⌝ }
+{
+    match tag {
+        MOSAIC_HEAD => section == NO_SECTION,
+        MOSAIC_STRIP => section == IN_MOSAIC,
+        SORTING_HEAD => section < IN_SORTING,
+        SORTING_STRIP => section == IN_SORTING,
+        FLIGHT_HEAD => section < IN_FLIGHT,
+        FLIGHT_BLOCK => section == IN_FLIGHT,
+        FLIGHT_ORDER => order_permitted(section, members),
+        _ => false,
+    }
+}
+
+fn length_due(tag: u8, stations: usize) -> usize
+    requires { ⌜ stations ≤ 4 ⌝ }
+    ensures { λ r. ⌜ r ≡ lengthDue tag stations ⌝ }
+{
+    match tag {
+        MOSAIC_HEAD => 3,
+        MOSAIC_STRIP => 2 * stations + 2,
+        SORTING_HEAD => 1,
+        SORTING_STRIP => 5,
+        FLIGHT_HEAD => 0,
+        FLIGHT_BLOCK => 6,
+        _ => 8,
+    }
+}
+
+fn mosaic_head_in_range(stations: u64, mount: u64) -> bool
+    ensures { λ r. ⌜ r ≡ mosaicHeadInRange stations mount ⌝ }
+{
+    if !is_between(1, stations, MOST_STATIONS) {
+        return false;
+    }
+    mount <= MOST_TIME
+}
+
+// Whether the first `count` station times are in range.
+fn station_times_in_range(s: &[u8], c: usize, count: usize) -> bool
+    requires { ⌜ c + 2 * count < 2 ^ 64 ⌝ }
+    ensures { λ r. ⌜ r ≡ stationTimesInRange (now (s .entry)) c count ⌝ }
+{
+    let mut k: usize = 0;
+    while k < count {
+        if MOST_TIME < number(s, c + 2 * k, 2) {
+            return false;
+        }
+        k += 1;
+    }
+    true
+}
+
+fn mosaic_strip_in_range(s: &[u8], c: usize, stations: usize) -> bool
+    requires { ⌜ c + 2 * stations < 2 ^ 64 ⌝ }
+    ensures { λ r. ⌜ r ≡ mosaicStripInRange (now (s .entry)) c stations ⌝ }
+{
+    if !station_times_in_range(s, c, stations) {
+        return false;
+    }
+    let bench = number(s, c + 2 * stations, 2);
+    is_between(1, bench, MOST_TIME)
+}
+
+fn sorting_strip_in_range(desks: u64, desk: u64, scan: u64, time: u64) -> bool
+    ensures { λ r. ⌜ r ≡ sortingStripInRange desks desk scan time ⌝ }
+{
+    if !is_between(1, desk, desks) {
+        return false;
+    }
+    if !is_between(1, scan, MOST_TIME) {
+        return false;
+    }
+    is_between(1, time, MOST_TIME)
+}
+
+fn flight_block_in_range(a: u64, l: u64, b: u64) -> bool
+    ensures { λ r. ⌜ r ≡ flightBlockInRange a l b ⌝ }
+{
+    if !is_between(1, a, MOST_TIME) {
+        return false;
+    }
+    if MOST_TIME < l {
+        return false;
+    }
+    is_between(1, b, MOST_TIME)
+}
+
+fn is_in_range(s: &[u8], c: usize, tag: u8, stations: usize, desks: usize) -> bool
+    requires { ⌜ (stations ≤ 4) × (c + 8 < 2 ^ 64) ⌝ }
+    ensures { λ r. ⌜ r ≡ inRange (now (s .entry)) c tag stations desks ⌝ }
+{
+    match tag {
+        MOSAIC_HEAD => mosaic_head_in_range(byte(s, c), number(s, c + 1, 2)),
+        MOSAIC_STRIP => mosaic_strip_in_range(s, c, stations),
+        SORTING_HEAD => is_between(1, byte(s, c), MOST_DESKS),
+        SORTING_STRIP => sorting_strip_in_range(desks as u64, byte(s, c), number(s, c + 1, 2), number(s, c + 3, 2)),
+        FLIGHT_BLOCK => flight_block_in_range(number(s, c, 2), number(s, c + 2, 2), number(s, c + 4, 2)),
+        _ => true,
+    }
+}
+
+fn has_room(tag: u8, members: usize, of_desk: usize) -> bool
+    ensures { λ r. ⌜ r ≡ hasRoom tag members «of_desk» ⌝ }
+{
+    match tag {
+        MOSAIC_STRIP => members < MOST_STRIPS,
+        SORTING_STRIP => of_desk < MOST_STRIPS_OF_DESK,
+        FLIGHT_BLOCK => members < MOST_BLOCKS,
+        _ => true,
+    }
+}
+
+// The index of a desk that is numbered from 1.
+pub fn desk_index(desk: u64) -> usize
+    ensures { λ r. ⌜ r ≡ desk - 1 ⌝ }
+{
+    if desk == 0 { 0 } else { (desk - 1) as usize }
+}
+
+pub fn strips_of_desk(counts: [usize; 3], desk: u64) -> usize
+    ensures { λ r. ⌜ r ≡ stripsOfDesk counts desk ⌝ }
+{
+    let d = desk_index(desk);
+    if d < 3 { counts[d] } else { 0 }
+}
+
+fn order_proper(tag: u8, members: usize, order: u64) -> bool
+    ensures { λ r. ⌜ r ≡ orderProper tag members order ⌝ }
+{
+    if tag == FLIGHT_ORDER {
+        return order::proper(members as u64, order);
+    }
+    true
+}
+
+// 5, 6, 7 or 9 for the content of a field, 0 where it passes.
+fn content_number(s: &[u8], st: Reading, tag: u8, length: usize) -> u64
+    requires { ⌜ FieldPre (now s) st length ⌝ }
+    ensures { λ r. ⌜ r ≡ contentNumber (now (s .entry)) st tag length ⌝ }
+{
+    let content = st.at + 3;
+    let stations = st.mosaic.stations;
+    let desks = st.sorting.desks;
+    let counts = st.sorting.counts;
+    let members = st.members;
+    if length != length_due(tag, stations) {
+        return LENGTH_WRONG;
+    }
+    if !is_in_range(s, content, tag, stations, desks) {
+        return OUT_OF_RANGE;
+    }
+    if !has_room(tag, members, strips_of_desk(counts, byte(s, content))) {
+        return TOO_MANY;
+    }
+    if !order_proper(tag, members, number(s, content, 8)) {
+        return ORDER_NOT_PROPER;
+    }
+    0
+}
+
+// The number that a field is refused with, 0 where it passes.
+pub fn field_number(s: &[u8], st: Reading, tag: u8, length: usize) -> u64
+    requires { ⌜ FieldPre (now s) st length ⌝ }
+    ensures { λ r. ⌜ r ≡ fieldNumber (now (s .entry)) st tag length ⌝ }
+{
+    let section = st.section;
+    let members = st.members;
+    if !section_filled(tag, section, members) {
+        return NO_MEMBERS;
+    }
+    if !order_given(tag, section, members) {
+        return ORDER_MISSING;
+    }
+    if !is_permitted(tag, section, members) {
+        return TAG_NOT_PERMITTED;
+    }
+    content_number(s, st, tag, length)
+}
+
+// The number that the end of the sheet is refused with, 0 where it passes.
+pub fn end_number(section: u64, members: usize) -> u64
+    ensures { λ r. ⌜ r ≡ endNumber section members ⌝ }
+{
+    if members < 1 {
+        return NO_MEMBERS;
+    }
+    if !few_blocks(section, members) {
+        return ORDER_MISSING;
+    }
+    0
+}
+
+// The place of a refusal: the section's head for 8 and 10, else the field.
+pub fn place_of(number: u64, head: usize, at: usize) -> usize
+    ensures { λ r. ⌜ r ≡ placeOf number head at ⌝ }
+{
+    if number == NO_MEMBERS {
+        return head;
+    }
+    if number == ORDER_MISSING {
+        return head;
+    }
+    at
+}

@@ -1,0 +1,28 @@
+use Rattle.field.specs.Branch.{branches}
+use Rattle.sheet.specs.Decode.{nextFlight}
+use Rattle.sheet_decode.specs.Room.{block-room}
+use borrow.Author.Needs.{needs}
+use Rattle.sheet_decode.proofs.next_flight.Statement.{statement}
+use Rattle.sheet_decode.proofs.next_flight.Tie as tie
+
+with-block-requires : tie.Need-with-block-requires
+with-block-requires c κs = search block-room
+
+returns : tie.Need-returns
+unfolding nextFlight
+returns c = search branches depth 14
+
+with-order-requires : tie.Need-with-order-requires
+with-order-requires c κs = search needs
+
+returns-2 : tie.Need-returns-2
+unfolding nextFlight
+returns-2 c = search branches depth 14
+
+returns-3 : tie.Need-returns-3
+unfolding nextFlight
+returns-3 c = search branches depth 14
+
+pub next-flight-spec : {M : Type 1} → statement M
+next-flight-spec =
+    tie.close (tie.spec with-block-requires returns with-order-requires returns-2 returns-3)

@@ -1,0 +1,13 @@
+use Rattle.sheet_decode.specs.DecodeLaws.{order-is}
+use borrow.Author.Needs.{needs}
+use Rattle.sheet_decode.proofs.with_order.Statement.{statement}
+use Rattle.sheet_decode.proofs.with_order.Tie as tie
+
+number-requires : tie.Need-number-requires
+number-requires c κs = search needs
+
+returns : tie.Need-returns
+returns c = search order-is
+
+pub with-order-spec : {M : Type 1} → statement M
+with-order-spec = tie.close (tie.spec number-requires returns)

@@ -1,0 +1,306 @@
+// What a field that passes its checks adds to the sheet. A field's content begins at offset c.
+use field::{byte, number};
+use sheet::sections::{AFTER_ORDER, IN_FLIGHT, IN_MOSAIC, IN_SORTING, NO_SECTION};
+use sheet::tags::{FLIGHT_BLOCK, FLIGHT_HEAD, FLIGHT_ORDER, MOSAIC_HEAD, MOSAIC_STRIP, SORTING_HEAD, SORTING_STRIP};
+use sheet::{FlightSection, MosaicSection, Reading, Sheet, SortingSection};
+use sheet_checks::{desk_index, ends_section, strips_of_desk};
+
+ghost use mathlib.Core.Path.{_≡_};
+ghost use Prim.Native.Nat.{ℕ, _+_, _*_, _≤_, _<_, _^_};
+ghost use lib.ListN.{length};
+ghost use Rattle.sheet.specs.Decode.{noMosaic, noSorting, noFlight, withMosaicHead, withStationTimes, withMosaicStrip, withSortingHead, withStripAt, withSortingStrip, withBlock, withOrder, nextMosaic, nextSorting, nextFlight, nextSection, nextMembers, nextHead, nextReading, startReading};
+ghost use Rattle.field.specs.Bytes.{numberAt};
+ghost use Rattle.sheet.specs.Checks.{stripsOfDesk};
+ghost use Rattle.sheet.specs.Read.{refused, accepted};
+ghost use Rattle.sheet_decode.specs.Room.{TimesRoom, StripRoom, DeskRoom, BlockRoom, MosaicRoom, SortingRoom, FlightRoom, NextPre};
+
+pub fn no_mosaic() -> MosaicSection
+    ensures { λ r. ⌜ r ≡ noMosaic ⌝ }
+{
+    MosaicSection {
+        stations: 0,
+        mount: 0,
+        strips: 0,
+        station: [0; 160],
+        bench: [0; 40],
+    }
+}
+
+pub fn no_sorting() -> SortingSection
+    ensures { λ r. ⌜ r ≡ noSorting ⌝ }
+{
+    SortingSection {
+        desks: 0,
+        counts: [0; 3],
+        scan: [0; 18],
+        desk: [0; 18],
+    }
+}
+
+pub fn no_flight() -> FlightSection
+    ensures { λ r. ⌜ r ≡ noFlight ⌝ }
+{
+    FlightSection {
+        blocks: 0,
+        first: [0; 32],
+        delay: [0; 32],
+        second: [0; 32],
+        ordered: false,
+        order: 0,
+        place: 0,
+    }
+}
+
+// Before the first field.
+pub fn start() -> Reading
+    ensures { λ r. ⌜ r ≡ startReading ⌝ }
+{
+    Reading {
+        at: 0,
+        section: NO_SECTION,
+        head: 0,
+        members: 0,
+        mosaic: no_mosaic(),
+        sorting: no_sorting(),
+        flight: no_flight(),
+    }
+}
+
+pub fn refuse(number: u64, place: usize) -> Sheet
+    ensures { λ r. ⌜ r ≡ refused number place ⌝ }
+{
+    Sheet {
+        number,
+        place,
+        mosaic: no_mosaic(),
+        sorting: no_sorting(),
+        flight: no_flight(),
+    }
+}
+
+pub fn accept(st: Reading) -> Sheet
+    ensures { λ r. ⌜ r ≡ accepted st ⌝ }
+{
+    let mosaic = st.mosaic;
+    let sorting = st.sorting;
+    let flight = st.flight;
+    Sheet {
+        number: 0,
+        place: 0,
+        mosaic,
+        sorting,
+        flight,
+    }
+}
+
+fn with_mosaic_head(s: &[u8], c: usize) -> MosaicSection
+    requires { ⌜ c + 1 < 2 ^ 64 ⌝ }
+    ensures { λ r. ⌜ r ≡ withMosaicHead (now (s .entry)) c ⌝ }
+{
+    let stations = byte(s, c) as usize;
+    let mount = number(s, c + 1, 2);
+    MosaicSection {
+        stations,
+        mount,
+        strips: 0,
+        station: [0; 160],
+        bench: [0; 40],
+    }
+}
+
+// The station times with those of a strip of `count` stations from an index on.
+fn with_station_times(s: &[u8], c: usize, base: usize, count: usize, times: [u64; 160]) -> [u64; 160]
+    requires { ⌜ TimesRoom c base count ⌝ }
+    ensures { λ r. ⌜ r ≡ withStationTimes (now (s .entry)) c base count times ⌝ }
+{
+    let mut out = times;
+    let mut k: usize = 0;
+    while k < count {
+        out[base + k] = number(s, c + 2 * k, 2);
+        k += 1;
+    }
+    out
+}
+
+fn with_mosaic_strip(s: &[u8], c: usize, m: MosaicSection) -> MosaicSection
+    requires { ⌜ StripRoom c (m .strips) (m .stations) ⌝ }
+    ensures { λ r. ⌜ r ≡ withMosaicStrip (now (s .entry)) c m ⌝ }
+{
+    let stations = m.stations;
+    let strips = m.strips;
+    let times = m.station;
+    let station = with_station_times(s, c, 4 * strips, stations, times);
+    let mut bench = m.bench;
+    bench[strips] = number(s, c + 2 * stations, 2);
+    MosaicSection {
+        stations,
+        mount: m.mount,
+        strips: strips + 1,
+        station,
+        bench,
+    }
+}
+
+fn with_sorting_head(s: &[u8], c: usize) -> SortingSection
+    ensures { λ r. ⌜ r ≡ withSortingHead (now (s .entry)) c ⌝ }
+{
+    SortingSection {
+        desks: byte(s, c) as usize,
+        counts: [0; 3],
+        scan: [0; 18],
+        desk: [0; 18],
+    }
+}
+
+// The sorting with strip k of desk d, both from 0.
+fn with_strip_at(s: &[u8], c: usize, t: SortingSection, d: usize, k: usize) -> SortingSection
+    requires { ⌜ DeskRoom c d k ⌝ }
+    ensures { λ r. ⌜ r ≡ withStripAt (now (s .entry)) c t d k ⌝ }
+{
+    let mut counts = t.counts;
+    let mut scan = t.scan;
+    let mut desk = t.desk;
+    counts[d] = k + 1;
+    scan[6 * d + k] = number(s, c + 1, 2);
+    desk[6 * d + k] = number(s, c + 3, 2);
+    SortingSection {
+        desks: t.desks,
+        counts,
+        scan,
+        desk,
+    }
+}
+
+fn with_block(s: &[u8], c: usize, f: FlightSection) -> FlightSection
+    requires { ⌜ BlockRoom c (f .blocks) ⌝ }
+    ensures { λ r. ⌜ r ≡ withBlock (now (s .entry)) c f ⌝ }
+{
+    let i = f.blocks;
+    let mut first = f.first;
+    let mut delay = f.delay;
+    let mut second = f.second;
+    first[i] = number(s, c, 2);
+    delay[i] = number(s, c + 2, 2);
+    second[i] = number(s, c + 4, 2);
+    FlightSection {
+        blocks: i + 1,
+        first,
+        delay,
+        second,
+        ordered: f.ordered,
+        order: f.order,
+        place: f.place,
+    }
+}
+
+fn with_order(s: &[u8], c: usize, at: usize, f: FlightSection) -> FlightSection
+    ensures { λ r. ⌜ r ≡ withOrder (now (s .entry)) c at f ⌝ }
+{
+    let first = f.first;
+    let delay = f.delay;
+    let second = f.second;
+    FlightSection {
+        blocks: f.blocks,
+        first,
+        delay,
+        second,
+        ordered: true,
+        order: number(s, c, 8),
+        place: at,
+    }
+}
+
+fn next_mosaic(s: &[u8], c: usize, tag: u8, m: MosaicSection) -> MosaicSection
+    requires { ⌜ MosaicRoom c tag (m .strips) (m .stations) ⌝ }
+    ensures { λ r. ⌜ r ≡ nextMosaic (now (s .entry)) c tag m ⌝ }
+{
+    if tag == MOSAIC_HEAD {
+        return with_mosaic_head(s, c);
+    }
+    if tag == MOSAIC_STRIP {
+        return with_mosaic_strip(s, c, m);
+    }
+    m
+}
+
+fn next_sorting(s: &[u8], c: usize, tag: u8, t: SortingSection) -> SortingSection
+    requires { ⌜ SortingRoom c tag (numberAt (now s) c 1) (stripsOfDesk (t .counts) (numberAt (now s) c 1)) ⌝ }
+    ensures { λ r. ⌜ r ≡ nextSorting (now (s .entry)) c tag t ⌝ }
+{
+    if tag == SORTING_HEAD {
+        return with_sorting_head(s, c);
+    }
+    if tag == SORTING_STRIP {
+        let desk = byte(s, c);
+        let counts = t.counts;
+        return with_strip_at(s, c, t, desk_index(desk), strips_of_desk(counts, desk));
+    }
+    t
+}
+
+fn next_flight(s: &[u8], c: usize, tag: u8, at: usize, f: FlightSection) -> FlightSection
+    requires { ⌜ FlightRoom c tag (f .blocks) ⌝ }
+    ensures { λ r. ⌜ r ≡ nextFlight (now (s .entry)) c tag at f ⌝ }
+{
+    if tag == FLIGHT_BLOCK {
+        return with_block(s, c, f);
+    }
+    if tag == FLIGHT_ORDER {
+        return with_order(s, c, at, f);
+    }
+    f
+}
+
+fn next_section(tag: u8, section: u64) -> u64
+    ensures { λ r. ⌜ r ≡ nextSection tag section ⌝ }
+{
+    match tag {
+        MOSAIC_HEAD => IN_MOSAIC,
+        SORTING_HEAD => IN_SORTING,
+        FLIGHT_HEAD => IN_FLIGHT,
+        FLIGHT_ORDER => AFTER_ORDER,
+        _ => section,
+    }
+}
+
+fn next_members(tag: u8, members: usize) -> usize
+    requires { ⌜ members + 1 < 2 ^ 64 ⌝ }
+    ensures { λ r. ⌜ r ≡ nextMembers tag members ⌝ }
+{
+    if ends_section(tag) {
+        return 0;
+    }
+    if tag == FLIGHT_ORDER {
+        return members;
+    }
+    members + 1
+}
+
+fn next_head(tag: u8, head: usize, at: usize) -> usize
+    ensures { λ r. ⌜ r ≡ nextHead tag head at ⌝ }
+{
+    if ends_section(tag) {
+        return at;
+    }
+    head
+}
+
+// The reading after a whole field that passed its checks.
+pub fn next_reading(s: &[u8], st: Reading, tag: u8, length: usize) -> Reading
+    requires { ⌜ NextPre (now s) st tag length ⌝ }
+    ensures { λ r. ⌜ r ≡ nextReading (now (s .entry)) st tag length ⌝ }
+{
+    let at = st.at;
+    let mosaic = st.mosaic;
+    let sorting = st.sorting;
+    let flight = st.flight;
+    Reading {
+        at: at + 3 + length,
+        section: next_section(tag, st.section),
+        head: next_head(tag, st.head, at),
+        members: next_members(tag, st.members),
+        mosaic: next_mosaic(s, at + 3, tag, mosaic),
+        sorting: next_sorting(s, at + 3, tag, sorting),
+        flight: next_flight(s, at + 3, tag, at, flight),
+    }
+}

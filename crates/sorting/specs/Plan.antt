@@ -1,0 +1,47 @@
+-- The least figure and the chosen jobs of a sorting section, by the search over interleavings without any cut (crate interleaving).
+use mathlib.Core.List.{List, [], _∷_, _++_}
+use Prim.Native.Nat.{ℕ, zero, suc, _+_, _-_, _/_, _%_, _^_}
+use lib.ListN.{getD, replicate}
+use Rattle.sheet.specs.declared.SortingSection.{SortingSection}
+use Rattle.rules.specs.declared.Job.{Job}
+use Rattle.interleaving.specs.declared.State.{State}
+use Rattle.interleaving.specs.Search.{maxOf, scanned, stepOf, startState, firstBest}
+use Rattle.sorting.specs.declared.SortingPlan.{SortingPlan}
+
+-- the section as the search reads it: strips of each desk, scan times, desk times, and weight 1 for each strip
+unfoldable pub instanceOf : SortingSection → List ℕ
+instanceOf s = s .counts ++ (s .scan ++ (s .desk ++ replicate 18 1))
+
+-- the figure of the first best interleaving
+unfoldable pub leastFigure : SortingSection → ℕ
+leastFigure s = firstBest (instanceOf s) .figure
+
+-- the desk, from 1, at place i, from 0, of the scanner list of n strips that has the number p
+unfoldable pub listedDesk : ℕ → ℕ → ℕ → ℕ
+listedDesk p n i = p / 4 ^ (n - suc i) % 4
+
+-- what s becomes once the desks f 0, f 1, .. f (i - 1), from 0, have each done their next strip
+unfoldable pub reached : List ℕ → State → (ℕ → ℕ) → ℕ → State
+reached J s f zero = s
+reached J s f (suc i) = stepOf J (reached J s f i) (f i)
+
+-- the job of the next strip of desk d, from 0: it is scanned once the scanner is free, and done once it is scanned and its desk is free
+unfoldable pub jobOf : List ℕ → State → ℕ → Job
+jobOf J s d = record { desk = d + 1; number = getD (s .taken) d 0 + 1; scan = s .time; start = maxOf (getD (s .free) d 0) (scanned J s d) }
+
+-- g 0, g 1, .. g (n - 1)
+unfoldable pub listed : ℕ → (ℕ → Job) → List Job
+listed zero g = []
+listed (suc n) g = listed n g ++ (g n ∷ [])
+
+-- the jobs of the scanner list that has the number p
+unfoldable pub jobsOfList : List ℕ → ℕ → List Job
+jobsOfList J p =
+    listed (startState J .left) (λ i. jobOf J (reached J (startState J) (λ k. listedDesk p (startState J .left) k - 1) i) (listedDesk p (startState J .left) i - 1))
+
+unfoldable pub chosenJobs : SortingSection → List Job
+chosenJobs s = jobsOfList (instanceOf s) (firstBest (instanceOf s) .path)
+
+-- the jobs that a plan holds
+unfoldable pub jobsOfPlan : SortingPlan → List Job
+jobsOfPlan p = listed (p .jobs) (λ i. record { desk = getD (p .desk) i 0; number = getD (p .number) i 0; scan = getD (p .scan) i 0; start = getD (p .start) i 0 })

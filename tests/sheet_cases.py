@@ -1,0 +1,244 @@
+#!/usr/bin/env python3
+"""The sheets that the program sheet_cases reads, with what it must write for each.
+
+Each case is a name, the bytes of a sheet, and the line due: number and place, and for a sound sheet the strips of the mosaic, of each desk,
+the blocks and the order number. The lines are written by hand from 01.
+
+    sheet_cases.py           writes crates/sheet_cases/stdin and stdout
+    sheet_cases.py --check   says whether they are as written here
+"""
+import pathlib
+import struct
+import sys
+
+FOLDER = pathlib.Path(__file__).resolve().parent.parent / "crates" / "sheet_cases"
+
+
+def word(*values):
+    return b"".join(struct.pack("<H", value) for value in values)
+
+
+def field(tag, content=b""):
+    return bytes([tag]) + word(len(content)) + content
+
+
+def mosaic(stations=1, mount=0):
+    return field(0x10, bytes([stations]) + word(mount))
+
+
+def strip(*times):
+    """Station times, then the bench time."""
+    return field(0x11, word(*times))
+
+
+def sorting(desks=1):
+    return field(0x20, bytes([desks]))
+
+
+def job(desk=1, scan=1, time=1):
+    return field(0x21, bytes([desk]) + word(scan, time))
+
+
+def flight(content=b""):
+    return field(0x30, content)
+
+
+def block(a=1, l=0, b=1):
+    return field(0x31, word(a, l, b))
+
+
+def order(number):
+    return field(0x32, struct.pack("<Q", number))
+
+
+def alternate(n):
+    """The order first, second, first, second of n blocks."""
+    return sum(1 << (2 * i + 1) for i in range(n))
+
+
+M = mosaic()
+S = sorting()
+F = flight()
+STRIP = strip(0, 1)
+JOB = job()
+BLOCK = block()
+
+CASES = []
+
+
+def refused(name, sheet, number, place):
+    CASES.append((name, sheet, "%d %d" % (number, place)))
+
+
+def sound(name, sheet, strips=0, desks=(0, 0, 0), blocks=0, order_number=0):
+    CASES.append((name, sheet, "0 0 %d %d %d %d %d %d" % (strips, *desks, blocks, order_number)))
+
+
+# 01, "Sheets worked through".
+FIRST = mosaic(2, 1) + strip(2, 1, 1) + strip(1, 3, 3) + strip(4, 2, 2) + strip(1, 3, 1)
+sound("the first worked sheet", FIRST, strips=4)
+refused("order 3 for two blocks", F + BLOCK * 2 + order(3), 9, 21)
+sound("eight blocks without order", F + BLOCK * 8, blocks=8)
+refused("nine blocks without order", F + BLOCK * 9, 10, 0)
+sound("time 10,000", F + block(10000, 10000, 10000), blocks=1)
+refused("time 10,001", F + block(10001, 0, 1), 6, 3)
+EIGHT = [(3, 4, 1), (1, 7, 2), (1, 8, 1), (1, 10, 1), (2, 9, 1), (1, 4, 3), (1, 5, 2), (1, 6, 1)]
+sound("000's eight blocks", F + b"".join(block(*b) for b in EIGHT) + order(0xF2C4), blocks=8, order_number=0xF2C4)
+
+# The empty sheet, and fields that are cut.
+refused("empty sheet", b"", 8, 0)
+refused("one byte", b"\x10", 3, 0)
+refused("two bytes", b"\x10\x03", 3, 0)
+refused("head without content", b"\x10\x03\x00", 3, 0)
+refused("head cut by one byte", M[:-1], 3, 0)
+refused("a tail of one byte", M + STRIP + b"\x11", 3, 13)
+refused("a tail of two bytes", M + STRIP + b"\x20\x01", 3, 13)
+refused("content runs past the end", M + STRIP + b"\x11\xff\xff\x00", 3, 13)
+refused("3 goes before 8: a cut head after an empty section", M + b"\x20\x01", 3, 6)
+refused("3 goes before 4: a cut field of an unknown tag", b"\x99\x01\x00", 3, 0)
+refused("a cut field behind the order field", F + BLOCK + order(2) + b"\x31", 3, 23)
+
+# 8: a section without members, ended by a head or by the end.
+refused("mosaic head alone", M, 8, 0)
+refused("sorting head alone", S, 8, 0)
+refused("flight head alone", F, 8, 0)
+refused("empty mosaic ended by sorting", M + S + JOB, 8, 0)
+refused("empty mosaic ended by a second mosaic head", M + M + STRIP, 8, 0)
+refused("empty mosaic ended by flight", M + F + BLOCK, 8, 0)
+refused("empty sorting behind a mosaic", M + STRIP + S + F + BLOCK, 8, 13)
+refused("empty flight behind a sorting", S + JOB + F, 8, 12)
+refused("empty sorting ended by a mosaic head that may not stand there", S + M, 8, 0)
+refused("empty flight ended by a sorting head of wrong length", F + field(0x20), 8, 0)
+
+# 10: over eight blocks and no order.
+refused("nine blocks ended by a mosaic head", F + BLOCK * 9 + M, 10, 0)
+refused("nine blocks ended by a flight head", M + STRIP + F + BLOCK * 9 + F, 10, 13)
+refused("32 blocks without order", F + BLOCK * 32, 10, 0)
+refused("nine blocks do not end at an unknown tag", F + BLOCK * 9 + field(0x99), 4, 84)
+refused("nine blocks, then a wrong block", F + BLOCK * 9 + block(0), 6, 84)
+
+# 4: what may stand next.
+refused("a strip first", STRIP, 4, 0)
+refused("a job first", JOB, 4, 0)
+refused("a block first", BLOCK, 4, 0)
+refused("an order first", order(2), 4, 0)
+refused("an unknown tag first", field(0x99), 4, 0)
+refused("a plan's tag", field(0x90, bytes(4)), 4, 0)
+refused("a job in the mosaic", M + STRIP + JOB, 4, 13)
+refused("a block in the mosaic", M + BLOCK, 4, 6)
+refused("an unknown tag in an empty mosaic", M + field(0x99), 4, 6)
+refused("a strip in the sorting", S + JOB + STRIP, 4, 12)
+refused("a strip in the flight", F + BLOCK + STRIP, 4, 12)
+refused("a second mosaic", M + STRIP + M + STRIP, 4, 13)
+refused("a second sorting", S + JOB + S + JOB, 4, 12)
+refused("a second flight", F + BLOCK + F + BLOCK, 4, 12)
+refused("mosaic behind sorting", S + JOB + M + STRIP, 4, 12)
+refused("sorting behind flight", F + BLOCK + S + JOB, 4, 12)
+refused("an order in the mosaic", M + STRIP + order(2), 4, 13)
+refused("an order with no block before it", F + order(2), 4, 3)
+refused("4 goes before 5: such an order of wrong length", F + field(0x32, b"\x02"), 4, 3)
+refused("a block behind the order", F + BLOCK + order(2) + BLOCK, 4, 23)
+refused("a second order", F + BLOCK + order(2) + order(2), 4, 23)
+refused("a head behind the order", F + BLOCK + order(2) + M, 4, 23)
+refused("an unknown tag behind the order", F + BLOCK + order(2) + field(0x00), 4, 23)
+
+# 5: lengths.
+refused("mosaic head of two bytes", field(0x10, b"\x01\x00"), 5, 0)
+refused("mosaic head of four bytes", field(0x10, b"\x01\x00\x00\x00"), 5, 0)
+for m in range(1, 5):
+    sound("a strip of %d stations" % m, mosaic(m) + strip(*[7] * m, 1), strips=1)
+    refused("a strip short of one of %d stations" % m, mosaic(m) + strip(*[7] * (m - 1), 1), 5, 6)
+    refused("a strip with one over %d stations" % m, mosaic(m) + strip(*[7] * (m + 1), 1), 5, 6)
+refused("sorting head without content", field(0x20), 5, 0)
+refused("job of four bytes", S + field(0x21, bytes(4)), 5, 4)
+refused("flight head with content", flight(b"\x00"), 5, 0)
+refused("block of four bytes", F + field(0x31, bytes(4)), 5, 3)
+refused("block of eight bytes", F + field(0x31, bytes(8)), 5, 3)
+refused("order of seven bytes", F + BLOCK + field(0x32, bytes(7)), 5, 12)
+refused("5 goes before 6", F + field(0x31, word(0, 0)), 5, 3)
+
+# 6: each range on both sides.
+refused("no station", mosaic(0) + STRIP, 6, 0)
+refused("five stations", mosaic(5) + STRIP, 6, 0)
+sound("mount time 10,000", mosaic(1, 10000) + STRIP, strips=1)
+refused("mount time 10,001", mosaic(1, 10001) + STRIP, 6, 0)
+sound("station time 10,000", M + strip(10000, 1), strips=1)
+refused("station time 10,001", M + strip(10001, 1), 6, 6)
+refused("last of four station times 10,001", mosaic(4) + strip(0, 0, 0, 10001, 1), 6, 6)
+sound("bench time 10,000", M + strip(0, 10000), strips=1)
+refused("bench time 0", M + strip(0, 0), 6, 6)
+refused("bench time 10,001", M + strip(0, 10001), 6, 6)
+refused("no desk", sorting(0) + JOB, 6, 0)
+sound("three desks", sorting(3) + job(3), desks=(0, 0, 1))
+refused("four desks", sorting(4) + JOB, 6, 0)
+refused("desk 0", sorting(3) + job(0), 6, 4)
+refused("desk past the last", sorting(2) + job(3), 6, 4)
+sound("scan and desk time 10,000", S + job(1, 10000, 10000), desks=(1, 0, 0))
+refused("scan time 0", S + job(1, 0, 1), 6, 4)
+refused("scan time 10,001", S + job(1, 10001, 1), 6, 4)
+refused("desk time 0", S + job(1, 1, 0), 6, 4)
+refused("desk time 10,001", S + job(1, 1, 10001), 6, 4)
+sound("delay 0", F + block(1, 0, 1), blocks=1)
+refused("first pass 0", F + block(0, 0, 1), 6, 3)
+refused("delay 10,001", F + block(1, 10001, 1), 6, 3)
+refused("second pass 0", F + block(1, 0, 0), 6, 3)
+refused("second pass 10,001", F + block(1, 0, 10001), 6, 3)
+refused("the greatest two-byte time", F + block(65535, 0, 1), 6, 3)
+
+# 7: each count on both sides; 6 of the same field goes first.
+sound("40 strips", M + STRIP * 40, strips=40)
+refused("41 strips", M + STRIP * 41, 7, 6 + 7 * 40)
+refused("a 41st strip with bench time 0", M + STRIP * 40 + strip(0, 0), 6, 6 + 7 * 40)
+sound("six strips of each desk", sorting(3) + job(1) * 6 + job(2) * 6 + job(3) * 6, desks=(6, 6, 6))
+refused("a seventh strip of desk 2", sorting(3) + job(2) * 7, 7, 4 + 8 * 6)
+refused("a seventh strip of desk 1 with scan time 0", sorting(3) + job(1) * 6 + job(1, 0), 6, 4 + 8 * 6)
+sound("strips of desks in turn", sorting(3) + (job(1) + job(3)) * 3, desks=(3, 0, 3))
+sound("32 blocks with an order", F + BLOCK * 32 + order(alternate(32)), blocks=32, order_number=alternate(32))
+refused("33 blocks", F + BLOCK * 33 + order(alternate(32)), 7, 3 + 9 * 32)
+refused("a 33rd block of zeros", F + BLOCK * 32 + block(0, 0, 0), 6, 3 + 9 * 32)
+
+# 9: orders that are not proper. An order number has no range of its own.
+sound("order 2 for one block", F + BLOCK + order(2), blocks=1, order_number=2)
+refused("order 1 for one block", F + BLOCK + order(1), 9, 12)
+refused("order 0 for one block", F + BLOCK + order(0), 9, 12)
+refused("order 6 for one block: a higher bit", F + BLOCK + order(6), 9, 12)
+sound("order A for two blocks", F + BLOCK * 2 + order(0xA), blocks=2, order_number=0xA)
+sound("order C for two blocks", F + BLOCK * 2 + order(0xC), blocks=2, order_number=0xC)
+refused("order 9 for two blocks", F + BLOCK * 2 + order(9), 9, 21)
+refused("order 5 for two blocks", F + BLOCK * 2 + order(5), 9, 21)
+refused("order 6 for two blocks", F + BLOCK * 2 + order(6), 9, 21)
+refused("the highest bit for two blocks", F + BLOCK * 2 + order(0xC | 1 << 63), 9, 21)
+refused("all bits for 32 blocks", F + BLOCK * 32 + order(2**64 - 1), 9, 3 + 9 * 32)
+LATE = 0xFFFFFFFF00000000
+sound("all first passes, then all second passes of 32 blocks", F + BLOCK * 32 + order(LATE), blocks=32, order_number=LATE)
+refused("the same the other way round", F + BLOCK * 32 + order(0xFFFFFFFF), 9, 3 + 9 * 32)
+sound("nine blocks with an order", F + BLOCK * 9 + order(alternate(9)), blocks=9, order_number=alternate(9))
+
+# Whole sheets of each set of sections.
+sound("mosaic and sorting", M + STRIP + S + JOB, strips=1, desks=(1, 0, 0))
+sound("mosaic and flight", M + STRIP * 2 + F + BLOCK, strips=2, blocks=1)
+sound("sorting and flight", S + JOB + F + BLOCK * 3, desks=(1, 0, 0), blocks=3)
+sound("all three", FIRST + sorting(2) + job(1, 2, 5) + job(2) + F + BLOCK * 2 + order(0xC), strips=4, desks=(1, 1, 0), blocks=2, order_number=0xC)
+
+
+def files():
+    sheets = b"".join(word(len(sheet)) + sheet for _, sheet, _ in CASES)
+    if len(sheets) > 65536:
+        sys.exit("the cases take %d bytes, and sheet_cases reads 65,536" % len(sheets))
+    lines = "".join(line + "\n" for _, _, line in CASES)
+    return {"stdin": sheets, "stdout": lines.encode()}
+
+
+def main():
+    for name, content in files().items():
+        path = FOLDER / name
+        if sys.argv[1:] == ["--check"]:
+            if not path.is_file() or path.read_bytes() != content:
+                sys.exit("%s is not what tests/sheet_cases.py writes: run it" % path.relative_to(FOLDER.parent.parent))
+        else:
+            path.write_bytes(content)
+    print("%d sheets" % len(CASES))
+
+
+if __name__ == "__main__":
+    main()
