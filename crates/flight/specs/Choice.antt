@@ -8,11 +8,9 @@ use Rattle.sheet.specs.declared.FlightSection.{FlightSection}
 use Rattle.rules.specs.declared.Passes.{Passes}
 use Rattle.flight_order.specs.Constraints.{possibleIn, orderFigure}
 use Rattle.flight_order.specs.Timetable.{listOf, leastPasses}
-use Rattle.flight.specs.Search.{Orders, noIncumbent, searched}
+use Rattle.flight_search.specs.Search.{noIncumbent, searched}
+use Rattle.flight_search.specs.Orders.{ordersOf}
 use Rattle.flight.specs.declared.FlightPlan.{FlightPlan}
-
-unfoldable pub ordersOf : FlightSection → Orders
-ordersOf f = record { blocks = f .blocks; possible = possibleIn f; figure = orderFigure f }
 
 -- 01: "A given order must be kept; otherwise any proper order may be chosen."
 unfoldable pub chosenOrder : FlightSection → ℕ

@@ -20,8 +20,9 @@ use Rattle.difference.specs.System.{relax, relaxed, rounds, holds, leastValues,
 use Rattle.difference.specs.Least.{both}
 use Rattle.flight_order.specs.Constraints.{passOf, timeOf, constraintOf, leastStarts, possibleIn, orderFigure}
 use Rattle.flight_order.specs.Timetable.{listOf, passesFrom, leastPasses}
-use Rattle.flight.specs.Search.{improves, tried, searched}
-use Rattle.flight.specs.Choice.{ordersOf, chosenOrder, isPossible, leastFigure, chosenPasses}
+use Rattle.flight_search.specs.Search.{improves, tried, searched}
+use Rattle.flight_search.specs.Orders.{ordersOf}
+use Rattle.flight.specs.Choice.{chosenOrder, isPossible, leastFigure, chosenPasses}
 use Rattle.flight.specs.Theorems.{flight-lawful, flight-figure, flight-least, flight-earliest, flight-impossible}
 
 -- A block: first pass, delay, second pass.
