@@ -93,7 +93,7 @@ fn plan_blocks(f: FlightSection, rows: &mut [u64], starts: &mut [u64]) -> Flight
     ensures { λ r. ⌜ Planned f r ⌝ }
 {
     let n = f.blocks;
-    let count = 4 * (4 * n - 1);
+    let count = difference::ROW * (4 * n - 1);
     let passes = 2 * n;
     plan_chosen(f, &mut rows[..count], &mut starts[..passes])
 }
@@ -113,7 +113,7 @@ pub fn plan_flight(f: FlightSection) -> FlightPlan
             second: zeros,
         };
     }
-    let mut rows = [0; 508];
-    let mut starts = [0; 64];
+    let mut rows = [0; flight_order::MOST_NUMBERS];
+    let mut starts = [0; flight_order::MOST_PASSES];
     plan_blocks(f, &mut rows, &mut starts)
 }

@@ -89,7 +89,7 @@ fn search_all<'a>(
     requires { ⌜ GreatRoom n (now first) (now second) (now delay) (now rows) (now starts) ⌝ }
     ensures { λ r. ⌜ r ≡ searched (ordersOf (freeSection n (now (first .entry)) (now (second .entry)) (now (delay .entry)))) (2 * n) 0 noIncumbent ⌝ }
 {
-    let count = 4 * (4 * n - 1);
+    let count = difference::ROW * (4 * n - 1);
     let passes = 2 * n;
     let none = Incumbent {
         possible: false,
@@ -114,7 +114,7 @@ pub fn best_order<'a>(n: usize, first: &'a [u64], second: &'a [u64], delay: &'a 
     requires { ⌜ BlockTimes n (now first) (now second) (now delay) ⌝ }
     ensures { λ r. ⌜ r ≡ searched (ordersOf (freeSection n (now (first .entry)) (now (second .entry)) (now (delay .entry)))) (2 * n) 0 noIncumbent ⌝ }
 {
-    let mut rows = [0; 508];
-    let mut starts = [0; 64];
+    let mut rows = [0; flight_order::MOST_NUMBERS];
+    let mut starts = [0; flight_order::MOST_PASSES];
     search_all(n, first, second, delay, &mut rows, &mut starts)
 }
