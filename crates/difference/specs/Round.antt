@@ -109,11 +109,7 @@ module _ (S : System) where
   unfolding rounds
   rounds-push i r k l = relaxed-push i (S .count) (rounds S r) (omega arith) (rounds-length r) k l
 
-  -- a round that changes nothing shows a solution
-  pub still-solves : Inside S → (t : List ℕ) → length t ≡ S .variables → relaxed S (S .count) t ≡ t → Solves S (value t)
-  still-solves i t e q k l = omega (arith, rw q at (relaxed-push i (S .count) t (omega arith) e k l))
-
-  -- where there is a solution at all, size - 1 rounds lead to one
+  -- Where there is a solution at all, one round fewer than there are variables leads to one.
   pub rounds-solve : Inside S → (y : ℕ → ℕ) → Solves S y → Solves S (value (rounds S (S .variables - 1)))
   rounds-solve i y s = gap S i (λ r j. value (rounds S r) j) rounds-rise rounds-below (rounds-push i) y s
 

@@ -168,7 +168,3 @@ module _ (O : Orders) (left x : ℕ) (b : Incumbent) where
   pub searched-second : O .blocks ≤ firsts x at → seconds x at < firsts x at → searched O (suc left) x b ≡ searched O left (x + 2 ^ at) b
   unfolding searched
   searched-second h l = rw (le-ltb _ _ h, lt-ltb _ _ l)
-
-  pub searched-none : O .blocks ≤ firsts x at → firsts x at ≤ seconds x at → searched O (suc left) x b ≡ b
-  unfolding searched
-  searched-none h l = rw (le-ltb _ _ h, le-ltb _ _ l)
