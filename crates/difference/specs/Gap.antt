@@ -28,7 +28,7 @@ unfolding total same lower
 shrink zero x y h = omega arith
 shrink (suc n) x y h = omega (arith, h n, shrink n x y h)
 
--- the same on plain numbers
+-- On plain numbers: a constraint that y meets and the lowered values break.
 broken : (xi yi xj yj c d : ℕ) → xi ≤ yi → xj ≤ yj → yi + c ≤ yj + d → max xj (yj - 1) + d < max xi (yi - 1) + c
     → (xi ≡ yi) × (xj < yj) × (yj + d ≤ yi + c)
 broken xi yi xj yj c d h₁ h₂ h₃ h₄ = omega arith
@@ -74,9 +74,6 @@ module _ (S : System) (inside : Inside S) (x : ℕ → ℕ → ℕ)
     unfolding settled
     turn r = go (all-or (S .count) (λ k. lower (x r) y (S .from k) + S .up k) (λ k. lower (x r) y (S .to k) + S .down k)) (decLe (S .variables) (settled y r))
       where
-        zeros : (n : ℕ) → 0 ≤ total n (λ j. 0)
-        zeros n = omega arith
-
         go : ((k : ℕ) × (k < S .count) × (lower (x r) y (S .to k) + S .down k < lower (x r) y (S .from k) + S .up k)) ⊎ Solves S (lower (x r) y)
             → Dec (S .variables ≤ settled y r) → Done ⊎ ((S .variables ≤ settled y r) ⊎ ((0 < settled y r) × (settled y r < settled y (suc r))))
         go e (yes h) = inr (inl h)

@@ -12,7 +12,7 @@ use Rattle.difference.specs.System.{System, Solves, Inside, value, round
 use Rattle.difference.specs.Round.{relaxed-still, rounds-below, rounds-solve}
 
 -- The test `holds` decides the first k constraints.
-both : (a b : Bool) → a && b ≡ true → (a ≡ true) × (b ≡ true)
+pub both : (a b : Bool) → a && b ≡ true → (a ≡ true) × (b ≡ true)
 both true b e = (refl, e)
 both false b e = absurd (true≢false (sym e))
 

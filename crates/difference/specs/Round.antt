@@ -19,6 +19,11 @@ value-set P t i v j new old = go (ℕ-discrete j i) (decLt i (length t))
     go (yes e) (yes l) = rw (e, getD-set-same t i v 0 l) (new e l)
     go (yes e) (no h) = rw (set-out t i v (omega arith)) old
 
+pub zeros-value : (n j : ℕ) → value (replicate n 0) j ≡ 0
+zeros-value zero j = refl
+zeros-value (suc n) zero = refl
+zeros-value (suc n) (suc j) = zeros-value n j
+
 module _ (S : System) where
   relax-length : (k : ℕ) (t : List ℕ) → length (relax S k t) ≡ length t
   unfolding relax
@@ -91,11 +96,6 @@ module _ (S : System) where
   rounds-length zero = length-replicate (S .variables) 0
   rounds-length (suc r) = relaxed-length (S .count) (rounds S r) ∙ rounds-length r
 
-  zeros-value : (n j : ℕ) → value (replicate n 0) j ≡ 0
-  zeros-value zero j = refl
-  zeros-value (suc n) zero = refl
-  zeros-value (suc n) (suc j) = zeros-value n j
-
   pub rounds-below : (y : ℕ → ℕ) → Solves S y → (r j : ℕ) → value (rounds S r) j ≤ y j
   unfolding rounds
   rounds-below y s zero j = omega (arith, zeros-value (S .variables) j)
@@ -109,11 +109,7 @@ module _ (S : System) where
   unfolding rounds
   rounds-push i r k l = relaxed-push i (S .count) (rounds S r) (omega arith) (rounds-length r) k l
 
-  -- a round that changes nothing shows a solution
-  pub still-solves : Inside S → (t : List ℕ) → length t ≡ S .variables → relaxed S (S .count) t ≡ t → Solves S (value t)
-  still-solves i t e q k l = omega (arith, rw q at (relaxed-push i (S .count) t (omega arith) e k l))
-
-  -- where there is a solution at all, size - 1 rounds lead to one
+  -- Where there is a solution at all, one round fewer than there are variables leads to one.
   pub rounds-solve : Inside S → (y : ℕ → ℕ) → Solves S y → Solves S (value (rounds S (S .variables - 1)))
   rounds-solve i y s = gap S i (λ r j. value (rounds S r) j) rounds-rise rounds-below (rounds-push i) y s
 

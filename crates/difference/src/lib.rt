@@ -5,7 +5,7 @@ ghost use lib.ListN.{length, replicate};
 ghost use Rattle.difference.specs.Rows.{systemOf, Fit, Ready, RoundDone, SolveDone};
 
 // The numbers of a row.
-const ROW: usize = 4;
+pub const ROW: usize = 4;
 
 fn index(x: u64) -> usize
     ensures { λ r. ⌜ r ≡ x ⌝ }

@@ -1,11 +1,12 @@
 -- The starts copied one by one into zeros.
 use mathlib.Core.Path.{_≡_, refl, _∙_}
 use mathlib.Core.List.{List}
-use Prim.Native.Nat.{ℕ, zero, suc, _+_, _≤_, _<_}
+use Prim.Native.Nat.{ℕ, _+_, _≤_, _<_}
 use native.Mathlib.Decide.{ℕ-discrete}
 use native.Mathlib.Omega.{arith}
 use lib.ListN.{length, getD, set, replicate, length-set}
 use lib.Seq.{getD-set-same, getD-set-other}
+use Rattle.difference.specs.Round.{zeros-value}
 use Rattle.flight.specs.Contracts.{CopyAsked, Copied}
 
 pub record Copying (starts : List ℕ) (from n : ℕ) (copy : List ℕ) (i : ℕ) : Type 0 where
@@ -13,16 +14,11 @@ pub record Copying (starts : List ℕ) (from n : ℕ) (copy : List ℕ) (i : ℕ
   pub long : length copy ≡ 32
   pub done : Copied starts from i copy
 
-pub zeros : (m i : ℕ) → _≡_ {A = ℕ} (getD (replicate m 0) i 0) 0
-zeros zero i = refl
-zeros (suc m) zero = refl
-zeros (suc m) (suc i) = zeros m i
-
 pub copy-start : (starts : List ℕ) (from n : ℕ) → Copying starts from n (replicate 32 0) 0
 copy-start starts from n = record {
   within = omega arith;
   long = refl;
-  done = record { copied = λ i l. absurd (omega arith); no-more = λ i l. zeros 32 i };
+  done = record { copied = λ i l. absurd (omega arith); no-more = λ i l. zeros-value 32 i };
 }
 
 module _ {starts : List ℕ} {from n : ℕ} {copy : List ℕ} {i : ℕ} (asked : CopyAsked starts from n) (c : Copying starts from n copy i) where

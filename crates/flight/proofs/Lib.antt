@@ -1,5 +1,3 @@
 -- Laws that the proofs of the functions cite.
-pub mod Trying
-pub mod Searching
 pub mod Copying
 pub mod Planning

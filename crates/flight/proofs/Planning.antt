@@ -1,5 +1,5 @@
 -- The plan put together: the least starts of the order, copied by block; and the order, given or searched for.
-use mathlib.Core.Path.{_≡_, refl, sym, ap, ap₂, _∙_}
+use mathlib.Core.Path.{_≡_, refl, sym, ap, ap₂, subst, _∙_}
 use mathlib.Core.Bool.{Bool, true, false}
 use mathlib.Core.List.{List, _∷_}
 use Prim.Native.Nat.{ℕ, zero, suc, _+_, _-_, _*_, _^_, _<_}
@@ -9,8 +9,8 @@ use lib.ListN.{length, getD, take, replicate}
 use lib.Seq.{length-take-le}
 use borrow.Author.Tests.{ne-eqb}
 use Rattle.order.specs.Order.{Proper}
-use Rattle.order.specs.Children.{beginning-empty}
 use Rattle.difference.specs.System.{value}
+use Rattle.difference.specs.Round.{zeros-value}
 use Rattle.sheet.specs.Sound.{FlightSound}
 use Rattle.sheet.specs.declared.FlightSection.{FlightSection}
 use Rattle.rules.specs.declared.Passes.{Passes}
@@ -20,13 +20,14 @@ use Rattle.flight_order.specs.Good.{least-low}
 use Rattle.flight_order.specs.Ceiling.{sound-good}
 use Rattle.flight_order.specs.Planned.{empty-possible, figure-none}
 use Rattle.flight_order.specs.Contracts.{Rooms, Least}
-use Rattle.flight.specs.Search.{noIncumbent, searched}
-use Rattle.flight.specs.Choice.{ordersOf, chosenOrder, isPossible, leastFigure, chosenPasses, passesOf, PlannedIn, Planned}
+use Rattle.flight_search.specs.Search.{noIncumbent, searched}
+use Rattle.flight_search.specs.Orders.{ordersOf, freeSection}
+use Rattle.flight_search.specs.Contracts.{BlockTimes}
+use Rattle.flight.specs.Choice.{chosenOrder, isPossible, leastFigure, chosenPasses, passesOf, PlannedIn, Planned}
 use Rattle.flight.specs.Chosen.{chosen-given, chosen-free, chosen-proper}
-use Rattle.flight.specs.Contracts.{freeSection, SearchAsked, PlanAsked, OrderAsked, BlocksAsked, Copied}
-use Rattle.flight.specs.declared.Incumbent.{Incumbent}
+use Rattle.flight.specs.Contracts.{SomeBlocks, PlanAsked, OrderAsked, BlocksAsked, Copied}
+use Rattle.flight_search.specs.declared.Incumbent.{Incumbent}
 use Rattle.flight.specs.declared.FlightPlan.{FlightPlan}
-use Rattle.flight.proofs.Copying.{zeros}
 
 list-agree : (n : ℕ) (g h : ℕ → Passes) → ((i : ℕ) → i < n → g i ≡ h i) → listOf n g ≡ listOf n h
 unfolding listOf
@@ -36,7 +37,7 @@ list-agree (suc n) g h e = ap₂ _∷_ (e 0 (omega arith)) (list-agree n (λ i. 
 module _ (f : FlightSection) (w : ℕ) {rows₀ starts₀ : List ℕ} (asked : OrderAsked f w rows₀ starts₀) where
   pub order-rooms : Rooms (orderedFlight (f .blocks) w 0 (f .first) (f .second) (f .delay) (f .delay)) rows₀ starts₀
   order-rooms = record {
-    room = record { good = sound-good f w (asked .plan .sound) (asked .plan .some) (asked .proper); rows-length = asked .plan .rows-length };
+    room = record { good = sound-good f w (asked .plan .blocks .sound) (asked .plan .blocks .some) (asked .proper); rows-length = asked .plan .rows-length };
     starts-length = asked .plan .starts-length;
   }
 
@@ -48,7 +49,7 @@ module _ (f : FlightSection) (w : ℕ) {rows₀ starts₀ : List ℕ} (asked : O
         (omega (
           arith,
           least-low (orderedFlight (f .blocks) w 0 (f .first) (f .second) (f .delay) (f .delay)) (order-rooms .room .good) (2 * f .blocks - 1),
-          asked .plan .sound .most-second (f .blocks - 1),
+          asked .plan .blocks .sound .most-second (f .blocks - 1),
         ))
 
     pub plan-made : (firsts seconds : List ℕ) → Copied starts 0 (f .blocks) firsts → Copied starts (f .blocks) (f .blocks) seconds
@@ -57,7 +58,7 @@ module _ (f : FlightSection) (w : ℕ) {rows₀ starts₀ : List ℕ} (asked : O
     unfolding possibleIn orderFigure leastStarts passesOf leastPasses passesFrom
     plan-made firsts seconds a b = record {
       possible = least .result;
-      figure = rw (ne-eqb (f .blocks) 0 (λ e. omega (arith, asked .plan .some)), least .starts);
+      figure = rw (ne-eqb (f .blocks) 0 (λ e. omega (arith, asked .plan .blocks .some)), least .starts);
       order = refl;
       passes =
           list-agree (f .blocks) (λ i. record { first = getD firsts i 0; second = getD seconds i 0 })
@@ -85,61 +86,36 @@ module _ (f : FlightSection) where
   unfolding ordersOf possibleIn orderFigure leastStarts
   searched-order best e q = ap (λ (b : Incumbent). b .order) q ∙ sym (chosen-free f e)
 
-  pub root-asked : {rows starts : List ℕ} → PlanAsked f rows starts → SearchAsked (f .blocks) (2 * f .blocks) 0 (f .first) (f .second) (f .delay) rows starts
-  root-asked asked = record {
-    room = record {
-      some = asked .some;
-      few = asked .sound .most-blocks;
-      first-long = omega (arith, asked .sound .first-length, asked .sound .most-blocks);
-      second-long = omega (arith, asked .sound .second-length, asked .sound .most-blocks);
-      delay-long = omega (arith, asked .sound .delay-length, asked .sound .most-blocks);
-      first-low = λ i. omega (arith, asked .sound .most-first i);
-      second-low = λ i. omega (arith, asked .sound .most-second i);
-      delay-low = λ i. omega (arith, asked .sound .most-delay i);
-      rows-length = asked .rows-length;
-      starts-length = asked .starts-length;
-    };
-    within = omega arith;
-    begun = rw none (beginning-empty (f .blocks));
+  pub block-times : SomeBlocks f → BlockTimes (f .blocks) (f .first) (f .second) (f .delay)
+  block-times asked = record {
+    some = asked .some;
+    few = asked .sound .most-blocks;
+    first-long = omega (arith, asked .sound .first-length, asked .sound .most-blocks);
+    second-long = omega (arith, asked .sound .second-length, asked .sound .most-blocks);
+    delay-long = omega (arith, asked .sound .delay-length, asked .sound .most-blocks);
+    first-low = λ i. omega (arith, asked .sound .most-first i);
+    second-low = λ i. omega (arith, asked .sound .most-second i);
+    delay-low = λ i. omega (arith, asked .sound .most-delay i);
   }
-    where
-      none : 2 * f .blocks - 2 * f .blocks ≡ 0
-      none = omega arith
 
 -- The plan in the chosen order is the plan.
 module _ (f : FlightSection) (w : ℕ) (chosen : w ≡ chosenOrder f) where
-  pub chosen-asked : {rows₀ starts₀ rows starts : List ℕ} → PlanAsked f rows₀ starts₀ → length rows ≡ length rows₀ → length starts ≡ length starts₀
-      → OrderAsked f w rows starts
-  chosen-asked asked lr ls = record {
-    plan = record {
-      sound = asked .sound;
-      some = asked .some;
-      rows-length = lr ∙ asked .rows-length;
-      starts-length = ls ∙ asked .starts-length;
-    };
-    proper = rw chosen (chosen-proper f (asked .sound));
-  }
+  pub chosen-asked : {rows starts : List ℕ} → PlanAsked f rows starts → OrderAsked f w rows starts
+  chosen-asked asked = record { plan = asked; proper = rw chosen (chosen-proper f (asked .blocks .sound)) }
 
   pub plan-chosen : (r : FlightPlan) → PlannedIn f w r → Planned f r
   unfolding isPossible leastFigure chosenPasses
-  plan-chosen r p = record {
-    possible = p .possible ∙ ap (possibleIn f) chosen;
-    figure = p .figure ∙ ap (orderFigure f) chosen;
-    order = p .order ∙ chosen;
-    passes = p .passes ∙ ap (leastPasses f) chosen;
-    no-more-first = p .no-more-first;
-    no-more-second = p .no-more-second;
-  }
+  plan-chosen r p = subst (λ (z : ℕ). PlannedIn f z r) chosen p
 
 module _ (f : FlightSection) (rows starts : List ℕ) (asked : BlocksAsked f rows starts) where
   pub rows-part : 4 * (4 * f .blocks - 1) ≡ length (take (4 * (4 * f .blocks - 1)) rows)
-  rows-part = sym (length-take-le (4 * (4 * f .blocks - 1)) rows (omega (arith, asked .rows-long, asked .sound .most-blocks)))
+  rows-part = sym (length-take-le (4 * (4 * f .blocks - 1)) rows (omega (arith, asked .rows-long, asked .blocks .sound .most-blocks)))
 
   pub starts-part : 2 * f .blocks ≡ length (take (2 * f .blocks) starts)
-  starts-part = sym (length-take-le (2 * f .blocks) starts (omega (arith, asked .starts-long, asked .sound .most-blocks)))
+  starts-part = sym (length-take-le (2 * f .blocks) starts (omega (arith, asked .starts-long, asked .blocks .sound .most-blocks)))
 
   pub parts-asked : PlanAsked f (take (4 * (4 * f .blocks - 1)) rows) (take (2 * f .blocks) starts)
-  parts-asked = record { sound = asked .sound; some = asked .some; rows-length = sym rows-part; starts-length = sym starts-part }
+  parts-asked = record { blocks = asked .blocks; rows-length = sym rows-part; starts-length = sym starts-part }
 
 -- No block, no passes.
 pub plan-none : (f : FlightSection) → FlightSound f → f .blocks ≡ 0
@@ -150,8 +126,8 @@ plan-none f sound e = record {
   figure = sym (figure-none f (chosenOrder f) sound proper (λ l. omega arith));
   order = zero-order;
   passes = list-agree (f .blocks) _ _ (λ i l. absurd (omega arith));
-  no-more-first = λ i l. zeros 32 i;
-  no-more-second = λ i l. zeros 32 i;
+  no-more-first = λ i l. zeros-value 32 i;
+  no-more-second = λ i l. zeros-value 32 i;
 }
   where
     proper : Proper (f .blocks) (chosenOrder f)

@@ -1,6 +1,6 @@
 -- Some order is always possible: each block's two passes one after the other, 1010 .. 10. Its beginnings of 2 i passes are those of i blocks,
 -- and block i starts when all blocks before it have taken their passes and delays.
-use mathlib.Core.Path.{_≡_, _∙_}
+use mathlib.Core.Path.{_≡_, sym, ap, _∙_}
 use mathlib.Core.Bool.{true, cond}
 use Prim.Native.Nat.{ℕ, zero, suc, _+_, _-_, _*_, _/_, _%_, _^_, _≤_, _<_}
 use native.Mathlib.Decide.{decLt, ℕ-discrete}
@@ -19,6 +19,7 @@ use Rattle.rules.specs.Sums.{sumOver}
 use Rattle.flight_order.specs.Constraints.{passOf, timeOf, exactFlight, possibleIn}
 use Rattle.flight_order.specs.Schedule.{Schedule}
 use Rattle.flight_order.specs.Good.{pass-first, pass-second}
+use Rattle.flight_order.specs.Timetable.{time-is, time-first, time-second}
 use Rattle.flight_order.specs.Planned.{schedule-possible, empty-possible}
 
 -- The order of i blocks one after the other.
@@ -148,13 +149,11 @@ module _ (f : FlightSection) where
   unfolding sumOver whole
   sum-more i = rw (add-one i)
 
-  time-first : (i : ℕ) → i < f .blocks → timeOf (f .blocks) (f .first) (f .second) i ≡ getD (f .first) i 0
-  unfolding timeOf
-  time-first i l = rw (lt-ltb i (f .blocks) l)
+  first-time : (i : ℕ) → i < f .blocks → timeOf (f .blocks) (f .first) (f .second) i ≡ getD (f .first) i 0
+  first-time i l = sym (time-is f i) ∙ time-first f i l
 
-  time-second : (i : ℕ) → timeOf (f .blocks) (f .first) (f .second) (f .blocks + i) ≡ getD (f .second) i 0
-  unfolding timeOf
-  time-second i = rw (le-ltb (f .blocks + i) (f .blocks) (omega arith), back)
+  second-time : (i : ℕ) → timeOf (f .blocks) (f .first) (f .second) (f .blocks + i) ≡ getD (f .second) i 0
+  second-time i = sym (time-is f (f .blocks + i)) ∙ time-second f (f .blocks + i) (omega arith) ∙ ap (λ (j : ℕ). getD (f .second) j 0) back
     where
       back : f .blocks + i - f .blocks ≡ i
       back = omega arith
@@ -176,7 +175,7 @@ module _ (f : FlightSection) where
 
       even : (i : ℕ) → i < f .blocks → goal (2 * i)
       even i q =
-          rw (even-pass (f .blocks) i q, odd-pass (f .blocks) i q, starts-first i q, starts-second i, time-first i q)
+          rw (even-pass (f .blocks) i q, odd-pass (f .blocks) i q, starts-first i q, starts-second i, first-time i q)
           (omega arith)
 
       odd : (i : ℕ) → i + 1 < f .blocks → goal (2 * i + 1)
@@ -187,7 +186,7 @@ module _ (f : FlightSection) where
             even-pass (f .blocks) (i + 1) q,
             starts-first (i + 1) q,
             starts-second i,
-            time-second i,
+            second-time i,
             sum-more i,
           )
           (omega arith)

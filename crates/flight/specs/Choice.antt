@@ -8,11 +8,9 @@ use Rattle.sheet.specs.declared.FlightSection.{FlightSection}
 use Rattle.rules.specs.declared.Passes.{Passes}
 use Rattle.flight_order.specs.Constraints.{possibleIn, orderFigure}
 use Rattle.flight_order.specs.Timetable.{listOf, leastPasses}
-use Rattle.flight.specs.Search.{Orders, noIncumbent, searched}
+use Rattle.flight_search.specs.Search.{noIncumbent, searched}
+use Rattle.flight_search.specs.Orders.{ordersOf}
 use Rattle.flight.specs.declared.FlightPlan.{FlightPlan}
-
-unfoldable pub ordersOf : FlightSection → Orders
-ordersOf f = record { blocks = f .blocks; possible = possibleIn f; figure = orderFigure f }
 
 -- 01: "A given order must be kept; otherwise any proper order may be chosen."
 unfoldable pub chosenOrder : FlightSection → ℕ
@@ -31,20 +29,19 @@ chosenPasses f = leastPasses f (chosenOrder f)
 unfoldable pub passesOf : ℕ → FlightPlan → List Passes
 passesOf n r = listOf n (λ i. record { first = getD (r .first) i 0; second = getD (r .second) i 0 })
 
--- The plan in an order: whether the order is possible, and the least starts. Where it is not possible, figure and passes are no timetable's.
-pub record PlannedIn (f : FlightSection) (w : ℕ) (r : FlightPlan) : Type 0 where
-  pub possible : r .possible ≡ possibleIn f w
-  pub figure : r .figure ≡ orderFigure f w
+-- A plan r of the flight f says this: whether it is possible, its figure, its order, and its passes, with zeros after them.
+pub record PlanSays (f : FlightSection) (p : Bool) (v w : ℕ) (ps : List Passes) (r : FlightPlan) : Type 0 where
+  pub possible : r .possible ≡ p
+  pub figure : r .figure ≡ v
   pub order : r .order ≡ w
-  pub passes : passesOf (f .blocks) r ≡ leastPasses f w
+  pub passes : passesOf (f .blocks) r ≡ ps
   pub no-more-first : (i : ℕ) → f .blocks ≤ i → getD (r .first) i 0 ≡ 0
   pub no-more-second : (i : ℕ) → f .blocks ≤ i → getD (r .second) i 0 ≡ 0
 
+-- The plan in one order. Where the order is not possible, figure and passes are no timetable's.
+abbrev pub PlannedIn : FlightSection → ℕ → FlightPlan → Type 0
+PlannedIn f w r = PlanSays f (possibleIn f w) (orderFigure f w) w (leastPasses f w) r
+
 -- The planner's promise.
-pub record Planned (f : FlightSection) (r : FlightPlan) : Type 0 where
-  pub possible : r .possible ≡ isPossible f
-  pub figure : r .figure ≡ leastFigure f
-  pub order : r .order ≡ chosenOrder f
-  pub passes : passesOf (f .blocks) r ≡ chosenPasses f
-  pub no-more-first : (i : ℕ) → f .blocks ≤ i → getD (r .first) i 0 ≡ 0
-  pub no-more-second : (i : ℕ) → f .blocks ≤ i → getD (r .second) i 0 ≡ 0
+abbrev pub Planned : FlightSection → FlightPlan → Type 0
+Planned f r = PlanSays f (isPossible f) (leastFigure f) (chosenOrder f) (chosenPasses f) r

@@ -8,11 +8,12 @@ use Rattle.sheet.specs.Sound.{FlightSound}
 use Rattle.sheet.specs.declared.FlightSection.{FlightSection}
 use Rattle.rules.specs.Flight.{OrderAllowed}
 use Rattle.flight_order.specs.Constraints.{possibleIn, orderFigure}
-use Rattle.flight.specs.Search.{noIncumbent, searched}
-use Rattle.flight.specs.Choice.{ordersOf, chosenOrder, isPossible, leastFigure}
-use Rattle.flight.specs.Searched.{Attained, AsGood, search-attained, search-least}
+use Rattle.flight_search.specs.Orders.{ordersOf}
+use Rattle.flight_search.specs.Search.{noIncumbent, searched}
+use Rattle.flight.specs.Choice.{chosenOrder, isPossible, leastFigure}
+use Rattle.flight_search.specs.Searched.{Attained, AsGood, search-attained, search-least}
 use Rattle.flight.specs.Alternate.{alternate, alternate-proper, alternate-possible}
-use Rattle.flight.specs.declared.Incumbent.{Incumbent}
+use Rattle.flight_search.specs.declared.Incumbent.{Incumbent}
 
 module _ (f : FlightSection) where
   pub chosen-given : f .ordered ≡ true → chosenOrder f ≡ f .order

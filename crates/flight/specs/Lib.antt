@@ -1,7 +1,5 @@
 -- The flight planner: the order that it takes, and the theorems on its plan.
-pub mod Search
 pub mod Choice
-pub mod Searched
 pub mod Alternate
 pub mod Contracts
 pub mod Chosen

@@ -17,10 +17,12 @@ use Rattle.sheet.specs.declared.FlightSection.{FlightSection}
 use Rattle.rules.specs.Flight.{passesAt, FlightLawful, Keeps, OrderAllowed, flightFigure}
 use Rattle.rules.specs.declared.Passes.{Passes}
 use Rattle.difference.specs.System.{relax, relaxed, rounds, holds, leastValues, solvable}
+use Rattle.difference.specs.Least.{both}
 use Rattle.flight_order.specs.Constraints.{passOf, timeOf, constraintOf, leastStarts, possibleIn, orderFigure}
 use Rattle.flight_order.specs.Timetable.{listOf, passesFrom, leastPasses}
-use Rattle.flight.specs.Search.{improves, tried, searched}
-use Rattle.flight.specs.Choice.{ordersOf, chosenOrder, isPossible, leastFigure, chosenPasses}
+use Rattle.flight_search.specs.Search.{improves, tried, searched}
+use Rattle.flight_search.specs.Orders.{ordersOf}
+use Rattle.flight.specs.Choice.{chosenOrder, isPossible, leastFigure, chosenPasses}
 use Rattle.flight.specs.Theorems.{flight-lawful, flight-figure, flight-least, flight-earliest, flight-impossible}
 
 -- A block: first pass, delay, second pass.
@@ -108,10 +110,6 @@ isSound f =
     && (allIn 0 mostTime (f .first) && (allIn 0 mostTime (f .delay) && (allIn 0 mostTime (f .second)
     && (allIn 1 mostTime (take (f .blocks) (f .first)) && (allIn 1 mostTime (take (f .blocks) (f .second))
     && cond (f .ordered) (isProper (f .blocks) (f .order)) (leb (f .blocks) mostBlocksWithoutOrder)))))))))
-
-both : (a b : Bool) → a && b ≡ true → (a ≡ true) × (b ≡ true)
-both true b e = (refl, e)
-both false b e = absurd (true≢false (sym e))
 
 all-most : (lo hi : ℕ) (s : List ℕ) → allIn lo hi s ≡ true → (i : ℕ) → getD s i 0 ≤ hi
 unfolding allIn

@@ -6,6 +6,11 @@ ghost use Rattle.flight_order.specs.Constraints.{orderedFlight, passOf, 
 ghost use Rattle.flight_order.specs.Good.{Good};
 ghost use Rattle.flight_order.specs.Contracts.{Rows, Room, Rooms, Least};
 
+// The passes of 32 blocks, and the numbers of the rows of their constraints.
+pub const MOST_PASSES: usize = 64;
+
+pub const MOST_NUMBERS: usize = 508;
+
 // A constraint: start[from] + up <= start[to] + down.
 pub struct Constraint {
     pub from: usize,
@@ -95,7 +100,7 @@ fn write_constraints<'a>(
     let mut k = 0;
     while k < count {
         let c = constraint_at(n, order, turn, first, second, least, most, k);
-        let at = 4 * k;
+        let at = difference::ROW * k;
         rows[at] = c.from as u64;
         rows[at + 1] = c.to as u64;
         rows[at + 2] = c.up;

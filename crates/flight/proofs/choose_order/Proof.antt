@@ -1,32 +1,23 @@
--- `flight::choose_order` meets its contract: the given order, or the result of the search from the empty beginning.
+-- `flight::choose_order` meets its contract: the given order, or the one that the search takes.
 use borrow.Author.Needs.{needs}
-use Rattle.flight.proofs.Planning.{given-order, searched-order, root-asked}
+use Rattle.flight.proofs.Planning.{given-order, searched-order, block-times}
 use Rattle.flight.proofs.choose_order.Statement.{statement}
 use Rattle.flight.proofs.choose_order.Tie as tie
 
 returns : tie.Need-returns
 returns c = search given-order
 
-mul-search : tie.Need-mul-search
-mul-search c = search needs
+slice-aggregate-best-order : tie.Need-slice-aggregate-best-order
+slice-aggregate-best-order c = search needs
 
-slice-aggregate-search : tie.Need-slice-aggregate-search
-slice-aggregate-search c = search needs
+slice-aggregate-best-order-2 : tie.Need-slice-aggregate-best-order-2
+slice-aggregate-best-order-2 c = search needs
 
-slice-aggregate-search-2 : tie.Need-slice-aggregate-search-2
-slice-aggregate-search-2 c = search needs
+slice-aggregate-best-order-3 : tie.Need-slice-aggregate-best-order-3
+slice-aggregate-best-order-3 c = search needs
 
-slice-aggregate-search-3 : tie.Need-slice-aggregate-search-3
-slice-aggregate-search-3 c = search needs
-
-search-requires : tie.Need-search-requires
-search-requires c κs = search root-asked
-
-same-length : tie.Need-same-length
-same-length c = search needs
-
-same-length-2 : tie.Need-same-length-2
-same-length-2 c = search needs
+best-order-requires : tie.Need-best-order-requires
+best-order-requires c κs = search block-times
 
 returns-2 : tie.Need-returns-2
 returns-2 c = search searched-order
@@ -36,11 +27,8 @@ choose-order-spec =
     tie.close
     (tie.spec
     returns
-    mul-search
-    slice-aggregate-search
-    slice-aggregate-search-2
-    slice-aggregate-search-3
-    search-requires
-    same-length
-    same-length-2
+    slice-aggregate-best-order
+    slice-aggregate-best-order-2
+    slice-aggregate-best-order-3
+    best-order-requires
     returns-2)

@@ -11,10 +11,10 @@ use Rattle.order.specs.Order.{Proper}
 use Rattle.flight_order.specs.Constraints.{orderedFlight, leastStarts, possibleIn, orderFigure}
 use Rattle.flight_order.specs.Good.{Good, least-low}
 use Rattle.flight_order.specs.Contracts.{Rooms, Least}
-use Rattle.flight.specs.Search.{Orders, improves, tried}
-use Rattle.flight.specs.Choice.{ordersOf}
-use Rattle.flight.specs.Contracts.{freeSection, SearchRoom, TryAsked}
-use Rattle.flight.specs.declared.Incumbent.{Incumbent}
+use Rattle.flight_search.specs.Search.{Orders, improves, tried}
+use Rattle.flight_search.specs.Orders.{ordersOf, freeSection}
+use Rattle.flight_search.specs.Contracts.{BlockTimes, TryAsked}
+use Rattle.flight_search.specs.declared.Incumbent.{Incumbent}
 
 -- An order that is not possible, or has no smaller figure, leaves the incumbent; another replaces it.
 module _ (O : Orders) (w : ℕ) (b : Incumbent) where
@@ -44,33 +44,33 @@ module _ (O : Orders) (w : ℕ) (b : Incumbent) where
       test : O .possible w && (not (b .possible) || ltb (O .figure w) (b .figure)) ≡ true
       test = rw (e, p, lt-ltb (O .figure w) (b .figure) l)
 
-pub room-good : {n w : ℕ} {first second delay rows starts : List ℕ} → SearchRoom n first second delay rows starts → Proper n w
+pub times-good : {n w : ℕ} {first second delay : List ℕ} → BlockTimes n first second delay → Proper n w
     → Good (orderedFlight n w 0 first second delay delay)
-room-good room proper = record {
-  some = room .some;
-  few = room .few;
+times-good times proper = record {
+  some = times .some;
+  few = times .few;
   proper = proper;
-  first-long = room .first-long;
-  second-long = room .second-long;
-  least-long = room .delay-long;
-  most-long = room .delay-long;
+  first-long = times .first-long;
+  second-long = times .second-long;
+  least-long = times .delay-long;
+  most-long = times .delay-long;
   turn-low = omega arith;
-  first-low = room .first-low;
-  second-low = room .second-low;
-  least-low = room .delay-low;
-  most-low = room .delay-low;
+  first-low = times .first-low;
+  second-low = times .second-low;
+  least-low = times .delay-low;
+  most-low = times .delay-low;
 }
 
 module _ {n w : ℕ} {first second delay rows₀ starts₀ : List ℕ} (asked : TryAsked n w first second delay rows₀ starts₀) where
   pub try-rooms : Rooms (orderedFlight n w 0 first second delay delay) rows₀ starts₀
   try-rooms = record {
-    room = record { good = room-good (asked .room) (asked .proper); rows-length = asked .room .rows-length };
+    room = record { good = times-good (asked .room .times) (asked .proper); rows-length = asked .room .rows-length };
     starts-length = asked .room .starts-length;
   }
 
   module _ {rows starts : List ℕ} {found : Bool} (least : Least (orderedFlight n w 0 first second delay delay) rows starts found) where
     pub figure-fits : getD starts (2 * n - 1) 0 + getD second (n - 1) 0 < 2 ^ 64
-    figure-fits = rw (least .starts) (omega (arith, least-low (orderedFlight n w 0 first second delay delay) (room-good (asked .room) (asked .proper)) (2 * n - 1), asked .room .second-low (n - 1)))
+    figure-fits = rw (least .starts) (omega (arith, least-low (orderedFlight n w 0 first second delay delay) (times-good (asked .room .times) (asked .proper)) (2 * n - 1), asked .room .times .second-low (n - 1)))
 
     same-possible : ordersOf (freeSection n first second delay) .possible w ≡ found
     unfolding ordersOf possibleIn
@@ -78,7 +78,7 @@ module _ {n w : ℕ} {first second delay rows₀ starts₀ : List ℕ} (asked : 
 
     same-figure : ordersOf (freeSection n first second delay) .figure w ≡ getD starts (2 * n - 1) 0 + getD second (n - 1) 0
     unfolding ordersOf orderFigure leastStarts
-    same-figure = rw (ne-eqb n 0 (λ e. omega (arith, asked .room .some)), least .starts)
+    same-figure = rw (ne-eqb n 0 (λ e. omega (arith, asked .room .times .some)), least .starts)
 
     module _ (b : Incumbent) where
       pub try-impossible : not found ≡ true → b ≡ tried (ordersOf (freeSection n first second delay)) w b

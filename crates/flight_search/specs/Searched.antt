@@ -9,8 +9,8 @@ use borrow.Author.Tests.{lt-ltb, le-ltb, ltb-true, ltb-false}
 use Rattle.order.specs.Order.{seconds, firsts, Proper}
 use Rattle.order.specs.Beginning.{Beginning, Extends, Through, by-first, by-second}
 use Rattle.order.specs.Children.{beginning-empty, first-child, second-child, whole-proper, extends-empty, extends-whole, through-child}
-use Rattle.flight.specs.Search.{Orders, noIncumbent, improves, tried, ifAny, searched}
-use Rattle.flight.specs.declared.Incumbent.{Incumbent}
+use Rattle.flight_search.specs.Search.{Orders, noIncumbent, improves, tried, ifAny, searched}
+use Rattle.flight_search.specs.declared.Incumbent.{Incumbent}
 
 -- The incumbent, if there is one, is a proper order that is possible, with its figure.
 pub record Attained (O : Orders) (b : Incumbent) : Type 0 where
@@ -168,7 +168,3 @@ module _ (O : Orders) (left x : ℕ) (b : Incumbent) where
   pub searched-second : O .blocks ≤ firsts x at → seconds x at < firsts x at → searched O (suc left) x b ≡ searched O left (x + 2 ^ at) b
   unfolding searched
   searched-second h l = rw (le-ltb _ _ h, lt-ltb _ _ l)
-
-  pub searched-none : O .blocks ≤ firsts x at → firsts x at ≤ seconds x at → searched O (suc left) x b ≡ b
-  unfolding searched
-  searched-none h l = rw (le-ltb _ _ h, le-ltb _ _ l)

@@ -1,19 +1,19 @@
--- `flight::search` meets its contract: the measure is the number of passes left, and each of the four ways is a step of the definition.
+-- `flight_search::search` meets its contract: the measure is the number of passes left, and each of the four ways is a step of the definition.
 use native.Mathlib.Omega.{arith}
 use borrow.Author.Needs.{needs}
-use Rattle.flight.proofs.Searching.{leaf-asked, append-within, append-short, first-asked, only-second-asked, second-asked, only-second, only-first, first-then-second, search-end}
+use Rattle.flight_search.proofs.Searching.{leaf-asked, append-within, append-short, first-asked, only-second-asked, second-asked, only-second, only-first, first-then-second, search-end}
 use Prim.Native.Nat.{ℕ, _<_}
 use borrow.Fn.Kinds.{In}
 use borrow.Fn.PlainCycle.{Measures, is, falls, and}
-use Rattle.flight.proofs.search.Reads as search′
-use Rattle.flight.proofs.search.Kinds as search-kinds
-use Rattle.flight.proofs.+search.Lts-search as search-lts
-use Rattle.flight.proofs.try_order.Reads as try-order-reads
+use Rattle.flight_search.proofs.search.Reads as search′
+use Rattle.flight_search.proofs.search.Kinds as search-kinds
+use Rattle.flight_search.proofs.+search.Lts-search as search-lts
+use Rattle.flight_search.proofs.try_order.Reads as try-order-reads
 use Rattle.order.proofs.append_second.Reads as append-second-reads
 use Rattle.order.proofs.firsts_before.Reads as firsts-before-reads
 use Rattle.order.proofs.seconds_before.Reads as seconds-before-reads
-use Rattle.flight.proofs.+search.{statement}
-use Rattle.flight.proofs.+search.Tie.{close}
+use Rattle.flight_search.proofs.+search.{statement}
+use Rattle.flight_search.proofs.+search.Tie.{close}
 
 abbrev μ-search : Measures 3 search-kinds.ps ℕ
 μ-search κs a = a .1 .0

@@ -4,7 +4,7 @@ use mathlib.Core.Bool.{Bool, true, false, cond, not, _&&_, _||_}
 use Prim.Native.Nat.{ℕ, zero, suc, _+_, _-_, _*_, _^_}
 use lib.Dec.{ltb}
 use Rattle.order.specs.Order.{seconds, firsts}
-use Rattle.flight.specs.declared.Incumbent.{Incumbent}
+use Rattle.flight_search.specs.declared.Incumbent.{Incumbent}
 
 -- What the search is over: the orders of a number of blocks, each possible or not and with a figure.
 pub record Orders : Type 0 where

@@ -1,8 +1,8 @@
--- `flight::try_order` meets its contract: the order is not possible, or is no better than the incumbent, or replaces it.
+-- `flight_search::try_order` meets its contract: the order is not possible, or is no better than the incumbent, or replaces it.
 use borrow.Author.Needs.{needs}
-use Rattle.flight.proofs.Trying.{try-rooms, figure-fits, try-impossible, try-stays, try-replaces, try-first}
-use Rattle.flight.proofs.try_order.Statement.{statement}
-use Rattle.flight.proofs.try_order.Tie as tie
+use Rattle.flight_search.proofs.Trying.{try-rooms, figure-fits, try-impossible, try-stays, try-replaces, try-first}
+use Rattle.flight_search.proofs.try_order.Statement.{statement}
+use Rattle.flight_search.proofs.try_order.Tie as tie
 
 least-starts-requires : tie.Need-least-starts-requires
 least-starts-requires c κs = search try-rooms

@@ -8,26 +8,15 @@ use Rattle.order.specs.Order.{seconds, firsts}
 use Rattle.order.specs.Seconds.{firsts-seconds}
 use Rattle.order.specs.Beginning.{Beginning}
 use Rattle.order.specs.Children.{first-child, second-child, whole-proper}
-use Rattle.flight.specs.Search.{Orders, tried, searched}
-use Rattle.flight.specs.Choice.{ordersOf}
-use Rattle.flight.specs.Searched.{searched-end, searched-both, searched-first, searched-second}
-use Rattle.flight.specs.Contracts.{freeSection, SearchRoom, TryAsked, SearchAsked}
-use Rattle.flight.specs.declared.Incumbent.{Incumbent}
+use Rattle.flight_search.specs.Search.{Orders, tried, searched}
+use Rattle.flight_search.specs.Orders.{ordersOf, freeSection}
+use Rattle.flight_search.specs.Searched.{searched-end, searched-both, searched-first, searched-second}
+use Rattle.flight_search.specs.Contracts.{SearchRoom, TryAsked, SearchAsked}
+use Rattle.flight_search.specs.declared.Incumbent.{Incumbent}
 
 room-again : {n : ℕ} {first second delay rows₀ starts₀ rows starts : List ℕ} → SearchRoom n first second delay rows₀ starts₀
     → length rows ≡ length rows₀ → length starts ≡ length starts₀ → SearchRoom n first second delay rows starts
-room-again r e d = record {
-  some = r .some;
-  few = r .few;
-  first-long = r .first-long;
-  second-long = r .second-long;
-  delay-long = r .delay-long;
-  first-low = r .first-low;
-  second-low = r .second-low;
-  delay-low = r .delay-low;
-  rows-length = e ∙ r .rows-length;
-  starts-length = d ∙ r .starts-length;
-}
+room-again r e d = record { times = r .times; rows-length = e ∙ r .rows-length; starts-length = d ∙ r .starts-length }
 
 module _ {n left x : ℕ} {first second delay rows₀ starts₀ : List ℕ} (asked : SearchAsked n left x first second delay rows₀ starts₀) where
   pub leaf-asked : left ≡ 0 → TryAsked n x first second delay rows₀ starts₀
@@ -38,7 +27,7 @@ module _ {n left x : ℕ} {first second delay rows₀ starts₀ : List ℕ} (ask
 
   module _ (more : left ≡ 0 → ⊥) where
     pub append-within : 2 * n - left < 64
-    append-within = omega (arith, more, asked .room .few, asked .room .some)
+    append-within = omega (arith, more, asked .room .times .few, asked .room .times .some)
 
     pub append-short : x < 2 ^ (2 * n - left)
     append-short = asked .begun .no-higher

@@ -1,0 +1,2 @@
+-- What the flight planner gives to C.
+pub mod Answered

@@ -1,0 +1,45 @@
+// The flight planner for C, so that bench/ can time it by itself.
+ghost use mathlib.Core.Path.{_≡_};
+ghost use Rattle.sheet.specs.Sound.{FlightSound};
+ghost use Rattle.flight_bench.specs.Answered.{sectionOf, Answered};
+use sheet::FlightSection;
+
+#[repr(C)]
+pub struct FlightAnswer {
+    pub figure: u64,
+    pub order: u64,
+    pub possible: bool,
+}
+
+// Figure and order of the plan, and whether it is possible.
+#[no_mangle]
+pub extern "C" fn flight_best(
+    blocks: usize,
+    first: &[u64; 32],
+    delay: &[u64; 32],
+    second: &[u64; 32],
+    ordered: bool,
+    order: u64,
+) -> FlightAnswer
+    requires { ⌜ FlightSound (sectionOf blocks (now first) (now delay) (now second) ordered order) ⌝ }
+    ensures { λ r. ⌜ Answered (sectionOf blocks (now (first .entry)) (now (delay .entry)) (now (second .entry)) ordered order) r ⌝ }
+{
+    let a = *first;
+    let l = *delay;
+    let b = *second;
+    let f = FlightSection {
+        blocks: blocks,
+        first: a,
+        delay: l,
+        second: b,
+        ordered: ordered,
+        order: order,
+        place: 0,
+    };
+    let plan = flight::plan_flight(f);
+    FlightAnswer {
+        figure: plan.figure,
+        order: plan.order,
+        possible: plan.possible,
+    }
+}

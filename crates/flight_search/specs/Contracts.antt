@@ -1,0 +1,38 @@
+-- What the functions ask.
+use mathlib.Core.Path.{_≡_}
+use mathlib.Core.List.{List}
+use Prim.Native.Nat.{ℕ, _-_, _*_, _^_, _≤_, _<_}
+use lib.ListN.{length, getD}
+use Rattle.order.specs.Order.{Proper}
+use Rattle.order.specs.Beginning.{Beginning}
+
+-- One to 32 blocks with small times.
+pub record BlockTimes (n : ℕ) (first second delay : List ℕ) : Type 0 where
+  pub some : 0 < n
+  pub few : n ≤ 32
+  pub first-long : n ≤ length first
+  pub second-long : n ≤ length second
+  pub delay-long : n ≤ length delay
+  pub first-low : (i : ℕ) → getD first i 0 ≤ 2 ^ 31
+  pub second-low : (i : ℕ) → getD second i 0 ≤ 2 ^ 31
+  pub delay-low : (i : ℕ) → getD delay i 0 ≤ 2 ^ 31
+
+-- Room for the constraints and starts of n blocks, and of 32.
+pub record SearchRoom (n : ℕ) (first second delay rows starts : List ℕ) : Type 0 where
+  pub times : BlockTimes n first second delay
+  pub rows-length : length rows ≡ 4 * (4 * n - 1)
+  pub starts-length : length starts ≡ 2 * n
+
+pub record GreatRoom (n : ℕ) (first second delay rows starts : List ℕ) : Type 0 where
+  pub times : BlockTimes n first second delay
+  pub rows-long : 508 ≤ length rows
+  pub starts-long : 64 ≤ length starts
+
+pub record TryAsked (n order : ℕ) (first second delay rows starts : List ℕ) : Type 0 where
+  pub room : SearchRoom n first second delay rows starts
+  pub proper : Proper n order
+
+pub record SearchAsked (n left x : ℕ) (first second delay rows starts : List ℕ) : Type 0 where
+  pub room : SearchRoom n first second delay rows starts
+  pub within : left ≤ 2 * n
+  pub begun : Beginning n (2 * n - left) x

@@ -1,0 +1,120 @@
+// The search over all proper orders of a flight for one of the least figure.
+ghost use mathlib.Core.Path.{_≡_};
+ghost use Prim.Native.Nat.{_*_};
+ghost use Rattle.flight_search.specs.Search.{noIncumbent, tried, searched};
+ghost use Rattle.flight_search.specs.Orders.{ordersOf, freeSection};
+ghost use Rattle.flight_search.specs.Contracts.{BlockTimes, GreatRoom, TryAsked, SearchAsked};
+
+// The best order so far, if one was possible.
+pub struct Incumbent {
+    pub possible: bool,
+    pub figure: u64,
+    pub order: u64,
+}
+
+// One order tried: it replaces the incumbent where it is possible and its figure is smaller.
+fn try_order<'a>(
+    n: usize,
+    order: u64,
+    first: &'a [u64],
+    second: &'a [u64],
+    delay: &'a [u64],
+    rows: &mut [u64],
+    starts: &mut [u64],
+    best: Incumbent,
+) -> Incumbent
+    requires { ⌜ TryAsked n order (now first) (now second) (now delay) (now rows) (now starts) ⌝ }
+    ensures { λ r. ⌜ r ≡ tried (ordersOf (freeSection n (now (first .entry)) (now (second .entry)) (now (delay .entry)))) order best ⌝ }
+{
+    if !flight_order::least_starts(n, order, 0, first, second, delay, delay, rows, starts) {
+        return best;
+    }
+    let last = 2 * n - 1;
+    let block = n - 1;
+    let figure = starts[last] + second[block];
+    if best.possible {
+        if best.figure <= figure {
+            return best;
+        }
+    }
+    Incumbent {
+        possible: true,
+        figure: figure,
+        order: order,
+    }
+}
+
+// All proper orders that begin with x and have `left` passes more, those with a first pass next before those with a second pass next.
+fn search<'a>(
+    n: usize,
+    left: usize,
+    x: u64,
+    first: &'a [u64],
+    second: &'a [u64],
+    delay: &'a [u64],
+    rows: &mut [u64],
+    starts: &mut [u64],
+    best: Incumbent,
+) -> Incumbent
+    requires { ⌜ SearchAsked n left x (now first) (now second) (now delay) (now rows) (now starts) ⌝ }
+    ensures { λ r. ⌜ r ≡ searched (ordersOf (freeSection n (now (first .entry)) (now (second .entry)) (now (delay .entry)))) left x best ⌝ }
+{
+    if left == 0 {
+        return try_order(n, x, first, second, delay, rows, starts, best);
+    }
+    let at = (2 * n - left) as u64;
+    let firsts = order::firsts_before(x, at) as usize;
+    let seconds = order::seconds_before(x, at) as usize;
+    if n <= firsts {
+        let y = order::append_second(x, at);
+        return search(n, left - 1, y, first, second, delay, rows, starts, best);
+    }
+    let after = search(n, left - 1, x, first, second, delay, rows, starts, best);
+    if firsts <= seconds {
+        return after;
+    }
+    let y = order::append_second(x, at);
+    search(n, left - 1, y, first, second, delay, rows, starts, after)
+}
+
+// The search from the empty beginning, with room for the constraints and starts of 32 blocks.
+fn search_all<'a>(
+    n: usize,
+    first: &'a [u64],
+    second: &'a [u64],
+    delay: &'a [u64],
+    rows: &mut [u64],
+    starts: &mut [u64],
+) -> Incumbent
+    requires { ⌜ GreatRoom n (now first) (now second) (now delay) (now rows) (now starts) ⌝ }
+    ensures { λ r. ⌜ r ≡ searched (ordersOf (freeSection n (now (first .entry)) (now (second .entry)) (now (delay .entry)))) (2 * n) 0 noIncumbent ⌝ }
+{
+    let count = difference::ROW * (4 * n - 1);
+    let passes = 2 * n;
+    let none = Incumbent {
+        possible: false,
+        figure: 0,
+        order: 0,
+    };
+    search(
+        n,
+        passes,
+        0,
+        first,
+        second,
+        delay,
+        &mut rows[..count],
+        &mut starts[..passes],
+        none,
+    )
+}
+
+// The first of the best orders in the search's own order.
+pub fn best_order<'a>(n: usize, first: &'a [u64], second: &'a [u64], delay: &'a [u64]) -> Incumbent
+    requires { ⌜ BlockTimes n (now first) (now second) (now delay) ⌝ }
+    ensures { λ r. ⌜ r ≡ searched (ordersOf (freeSection n (now (first .entry)) (now (second .entry)) (now (delay .entry)))) (2 * n) 0 noIncumbent ⌝ }
+{
+    let mut rows = [0; flight_order::MOST_NUMBERS];
+    let mut starts = [0; flight_order::MOST_PASSES];
+    search_all(n, first, second, delay, &mut rows, &mut starts)
+}
