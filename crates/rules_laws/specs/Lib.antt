@@ -4,3 +4,5 @@ pub mod MosaicRunning
 pub mod SortingRunning
 pub mod FlightRunning
 pub mod Equivalent
+pub mod ByteLaws
+pub mod Members
