@@ -70,9 +70,9 @@ bytes-number s b at (suc width) h =
     high = omega (arith, b .byte at)
 
 -- the same with what stands behind it
-pub number-then : (s : List ℕ) → AreBytes s → (at width more : ℕ) → at + width ≤ length s → take (width + more) (drop at s) ≡ bytesOf width (numberAt s at width) ++ take more (drop (at + width) s)
-number-then s b at width more h =
-    take-add width more (drop at s) ∙ rw (← bytes-number s b at width h, drop-drop width at s)
+pub number-then : (s : List ℕ) → AreBytes s → (at width more next : ℕ) → at + width ≡ next → next ≤ length s → take (width + more) (drop at s) ≡ bytesOf width (numberAt s at width) ++ take more (drop next s)
+number-then s b at width more next e h =
+    take-add width more (drop at s) ∙ rw (← bytes-number s b at width (omega arith), drop-drop width at s, e)
 
 -- a field takes three bytes and its content
 field-length : (tag : ℕ) (content post : List ℕ) → length (fieldBytes tag content ++ post) ≡ 3 + (length content + length post)
@@ -118,14 +118,10 @@ module _ (s : List ℕ) (b : AreBytes s) (at tag len : ℕ) (e : fieldAt s at �
   unfolding fieldBytes
   field-stands =
       ap (λ (k : ℕ). take k (drop at s)) all
-      ∙ number-then s b at 1 (2 + len) (omega (arith, found .within))
+      ∙ number-then s b at 1 (2 + len) (at + 1) refl (omega (arith, found .within))
       ∙ ap (λ (l : List ℕ). l ++ take (2 + len) (drop (at + 1) s)) tag-byte
-      ∙ ap (λ (l : List ℕ). tag ∷ l) (number-then s b (at + 1) 2 len (omega (arith, found .within)))
-      ∙ ap (λ (n : ℕ). tag ∷ (bytesOf 2 n ++ take len (drop (at + 1 + 2) s))) (sym (found .length-is) ∙ sym content-length)
-      ∙ ap (λ (k : ℕ). tag ∷ (bytesOf 2 (length (take len (drop (at + 3) s))) ++ take len (drop k s))) third
+      ∙ ap (λ (l : List ℕ). tag ∷ l) (number-then s b (at + 1) 2 len (at + 3) (omega arith) (omega (arith, found .within)))
+      ∙ ap (λ (n : ℕ). tag ∷ (bytesOf 2 n ++ take len (drop (at + 3) s))) (sym (found .length-is) ∙ sym content-length)
     where
       all : 3 + len ≡ 1 + (2 + len)
       all = omega arith
-
-      third : at + 1 + 2 ≡ at + 3
-      third = omega arith

@@ -6,3 +6,4 @@ pub mod FlightRunning
 pub mod Equivalent
 pub mod ByteLaws
 pub mod Members
+pub mod RoundTrip

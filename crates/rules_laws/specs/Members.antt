@@ -47,15 +47,15 @@ module _ {A : Type 0} (kind : Kind A) where
   next-place pre x = omega (arith, length-append pre (kind .bytes x), length-member x)
 
   -- members that fit are read back
-  pub members-back : (none : A) (xs : List A) (pre post : List ℕ) → ((i : ℕ) → i < length xs → kind .Fits (getD xs i none))
+  back-from : (none : A) (xs : List A) (pre post : List ℕ) → ((i : ℕ) → i < length xs → kind .Fits (getD xs i none))
       → membersFrom (kind .read) (3 + kind .size) (pre ++ (membersBytes (kind .bytes) xs ++ post)) (length pre) (length xs) ≡ xs
   unfolding membersBytes membersFrom
-  members-back none [] pre post h = refl
-  members-back none (x ∷ xs) pre post h =
+  back-from none [] pre post h = refl
+  back-from none (x ∷ xs) pre post h =
       ap₂ _∷_
       (ap (λ (l : List ℕ). kind .read l (length pre)) (first-apart pre x (membersBytes (kind .bytes) xs) post) ∙ kind .back pre x (membersBytes (kind .bytes) xs ++ post) (h 0 (omega arith)))
       (ap₂ (λ (l : List ℕ) (k : ℕ). membersFrom (kind .read) (3 + kind .size) l k (length xs)) (regroup pre x (membersBytes (kind .bytes) xs) post) (next-place pre x)
-      ∙ members-back none xs (pre ++ kind .bytes x) post (λ i l. h (suc i) (omega arith)))
+      ∙ back-from none xs (pre ++ kind .bytes x) post (λ i l. h (suc i) (omega arith)))
 
   member-found : (pre : List ℕ) (x : A) (post : List ℕ) → fieldAt (pre ++ (kind .bytes x ++ post)) (length pre) ≡ Whole (kind .tag) (kind .size)
   member-found pre x post =
@@ -64,16 +64,28 @@ module _ {A : Type 0} (kind : Kind A) where
       ∙ ap (Whole (kind .tag)) (kind .content-size x)
 
   -- each is found
-  pub members-found : (xs : List A) (pre post : List ℕ) (i : ℕ) → i < length xs
+  found-from : (xs : List A) (pre post : List ℕ) (i : ℕ) → i < length xs
       → fieldAt (pre ++ (membersBytes (kind .bytes) xs ++ post)) (length pre + (3 + kind .size) * i) ≡ Whole (kind .tag) (kind .size)
   unfolding membersBytes
-  members-found [] pre post i l = absurd (omega arith)
-  members-found (x ∷ xs) pre post zero l =
+  found-from [] pre post i l = absurd (omega arith)
+  found-from (x ∷ xs) pre post zero l =
       let here : length pre + (3 + kind .size) * 0 ≡ length pre = omega arith in
       ap₂ fieldAt (first-apart pre x (membersBytes (kind .bytes) xs) post) here ∙ member-found pre x (membersBytes (kind .bytes) xs ++ post)
-  members-found (x ∷ xs) pre post (suc i) l =
+  found-from (x ∷ xs) pre post (suc i) l =
       let there : length pre + (3 + kind .size) * suc i ≡ length (pre ++ kind .bytes x) + (3 + kind .size) * i = omega (arith, next-place pre x, mul-suc (3 + kind .size) i) in
-      ap₂ fieldAt (regroup pre x (membersBytes (kind .bytes) xs) post) there ∙ members-found xs (pre ++ kind .bytes x) post i (omega arith)
+      ap₂ fieldAt (regroup pre x (membersBytes (kind .bytes) xs) post) there ∙ found-from xs (pre ++ kind .bytes x) post i (omega arith)
+
+  -- the same of a row that is joined from the left
+  module _ (xs : List A) (pre post : List ℕ) where
+    joined : pre ++ membersBytes (kind .bytes) xs ++ post ≡ pre ++ (membersBytes (kind .bytes) xs ++ post)
+    joined = append-assoc pre (membersBytes (kind .bytes) xs) post
+
+    pub members-back : (none : A) → ((i : ℕ) → i < length xs → kind .Fits (getD xs i none))
+        → membersFrom (kind .read) (3 + kind .size) (pre ++ membersBytes (kind .bytes) xs ++ post) (length pre) (length xs) ≡ xs
+    members-back none h = ap (λ (l : List ℕ). membersFrom (kind .read) (3 + kind .size) l (length pre) (length xs)) joined ∙ back-from none xs pre post h
+
+    pub members-found : (i : ℕ) → i < length xs → fieldAt (pre ++ membersBytes (kind .bytes) xs ++ post) (length pre + (3 + kind .size) * i) ≡ Whole (kind .tag) (kind .size)
+    members-found i l = ap (λ (r : List ℕ). fieldAt r (length pre + (3 + kind .size) * i)) joined ∙ found-from xs pre post i l
 
   -- members that stand one after another are what is read from there
   pub members-stand : (s : List ℕ) → AreBytes s → (n at : ℕ) → ((i : ℕ) → i < n → fieldAt s (at + (3 + kind .size) * i) ≡ Whole (kind .tag) (kind .size))
