@@ -7,3 +7,4 @@ pub mod Equivalent
 pub mod ByteLaws
 pub mod Members
 pub mod RoundTrip
+pub mod Fits

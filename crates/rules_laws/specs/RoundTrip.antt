@@ -215,6 +215,10 @@ pub blocks-stand : (plan : List ℕ) → AreBytes plan → (n at : ℕ) → ((i 
 unfolding passesKind
 blocks-stand plan b n at h = members-stand passesKind plan b n at h
 
+-- A field that is written is found.
+pub field-found : (pre : List ℕ) (tag : ℕ) (content post : List ℕ) → length content < 2 ^ 16 → fieldAt (pre ++ fieldBytes tag content ++ post) (length pre) ≡ Whole tag (length content)
+field-found pre tag content post h = ap (λ (l : List ℕ). fieldAt l (length pre)) (append-assoc pre (fieldBytes tag content) post) ∙ field-written pre tag content post h
+
 -- The heads: a field that holds a figure, and in flight an order number behind it.
 module _ (pre : List ℕ) (tag : ℕ) (post : List ℕ) where
   figure-first : (figure : ℕ) (content : List ℕ) → figure < 2 ^ 32 → figureFrom (pre ++ (fieldBytes tag (bytesOf 4 figure ++ content) ++ post)) (length pre) ≡ figure
@@ -229,7 +233,7 @@ module _ (pre : List ℕ) (tag : ℕ) (post : List ℕ) where
 
   pub figure-found : (figure : ℕ) → fieldAt (pre ++ fieldBytes tag (bytesOf 4 figure) ++ post) (length pre) ≡ Whole tag 4
   unfolding bytesOf
-  figure-found figure = ap (λ (l : List ℕ). fieldAt l (length pre)) (append-assoc pre (fieldBytes tag (bytesOf 4 figure)) post) ∙ field-written pre tag (bytesOf 4 figure) post (omega arith)
+  figure-found figure = field-found pre tag (bytesOf 4 figure) post (omega arith)
 
   -- the head of a flight
   module _ (figure order : ℕ) where
@@ -245,7 +249,7 @@ module _ (pre : List ℕ) (tag : ℕ) (post : List ℕ) where
 
     pub flight-head-found : fieldAt (pre ++ fieldBytes tag (bytesOf 4 figure ++ bytesOf 8 order) ++ post) (length pre) ≡ Whole tag 12
     unfolding bytesOf
-    flight-head-found = ap (λ (l : List ℕ). fieldAt l (length pre)) head-joined ∙ field-written pre tag (bytesOf 4 figure ++ bytesOf 8 order) post (omega arith)
+    flight-head-found = field-found pre tag (bytesOf 4 figure ++ bytesOf 8 order) post (omega arith)
 
 module _ (plan : List ℕ) (b : AreBytes plan) (at tag : ℕ) where
   pub figure-stands : fieldAt plan at ≡ Whole tag 4 → take 7 (drop at plan) ≡ fieldBytes tag (bytesOf 4 (figureFrom plan at))

@@ -181,6 +181,16 @@ module _ (s : SortingSection) (js : List Job) where
       scanner-least = λ t h. omega (arith, scanner-is, ap (scanEnd s) at, h k (omega arith));
     }
 
+  -- a job's number is that of one of its desk's strips
+  pub number-known : SortingLawful s js → (k : ℕ) → k < length js → jobAt js k .number ≤ stripsOf s (jobAt js k .desk)
+  number-known L k l = omega (arith, L .in-turn k l, jobs-same js (jobAt js k .desk) k refl, rest, L .all-strips (jobAt js k .desk) (L .at-desk k l .0) (L .at-desk k l .1))
+    where
+      all : suc k + (length js - suc k) ≡ length js
+      all = omega arith
+
+      rest : jobsOf js (jobAt js k .desk) (suc k) ≤ jobsOf js (jobAt js k .desk) (length js)
+      rest = subst (λ (n : ℕ). jobsOf js (jobAt js k .desk) (suc k) ≤ jobsOf js (jobAt js k .desk) n) all (jobs-mono js (jobAt js k .desk) (suc k) (length js - suc k))
+
   -- a lawful job follows where the earlier ones have led
   module _ (sound : SortingSound s) (L : SortingLawful s js) where
     lawful-follows : (k : ℕ) (d : Desks) → Reached s js k d → k < length js → JobFollows s d (jobAt js k)
@@ -188,7 +198,7 @@ module _ (s : SortingSection) (js : List Job) where
       least-desk = least;
       most-desk = most;
       in-turn = L .in-turn k l ∙ ap (λ (x : ℕ). x + 1) (sym done-is);
-      known = omega (arith, L .in-turn k l, jobs-same js (jobAt js k .desk) k refl, rest, L .all-strips (jobAt js k .desk) least most);
+      known = number-known L k l;
       one-scan = r .scanner-least (jobAt js k .scan) (λ i p. L .one-scan i k p l);
       after-scan = L .after-scan k l;
       one-job = r .free-least (jobAt js k .desk - 1) (jobAt js k .start) low (λ i p e. L .one-job i k p l (e ∙ back));
@@ -209,12 +219,6 @@ module _ (s : SortingSection) (js : List Job) where
 
         done-is : getD (d .done) (jobAt js k .desk - 1) 0 ≡ jobsOf js (jobAt js k .desk) k
         done-is = r .done (jobAt js k .desk - 1) low ∙ ap (λ (x : ℕ). jobsOf js x k) back
-
-        all : suc k + (length js - suc k) ≡ length js
-        all = omega arith
-
-        rest : jobsOf js (jobAt js k .desk) (suc k) ≤ jobsOf js (jobAt js k .desk) (length js)
-        rest = subst (λ (n : ℕ). jobsOf js (jobAt js k .desk) (suc k) ≤ jobsOf js (jobAt js k .desk) n) all (jobs-mono js (jobAt js k .desk) (suc k) (length js - suc k))
 
     lawful-done : (d : Desks) → Reached s js (length js) d → AllDone s d
     lawful-done d r = record { all = λ desk p q. r .done (desk - 1) (omega (arith, sound .most-desks)) ∙ ap (λ (x : ℕ). jobsOf js x (length js)) (omega arith) ∙ L .all-strips desk p q }
