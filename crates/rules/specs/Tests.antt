@@ -228,8 +228,12 @@ isFlight f ps =
     && (allBelow (2 * f .blocks) (λ p. allBelow (2 * f .blocks) (apartTest f ps p))
     && allBelow (2 * f .blocks) (λ p. leb (passEnd f ps p) ceiling)))
 
+-- the pass at position k starts after each pass before it in the order
+unfoldable pub startTest : FlightSection → ℕ → List Passes → ℕ → ℕ → Bool
+startTest f order ps k j = ltb (passStart f ps (passAt f order j)) (passStart f ps (passAt f order k))
+
 unfoldable pub keepsOrder : FlightSection → ℕ → List Passes → Bool
-keepsOrder f order ps = allBelow (2 * f .blocks) (λ k. allBelow k (λ j. ltb (passStart f ps (passAt f order j)) (passStart f ps (passAt f order k))))
+keepsOrder f order ps = allBelow (2 * f .blocks) (λ k. allBelow k (startTest f order ps k))
 
 unfoldable pub mayHaveOrder : FlightSection → ℕ → Bool
 mayHaveOrder f order = isProper (f .blocks) order && (not (f .ordered) || eqb order (f .order))
@@ -283,17 +287,12 @@ module _ (f : FlightSection) (ps : List Passes) where
 
   module _ (order : ℕ) where
     keeps-true : keepsOrder f order ps ≡ true → Keeps f order ps
-    unfolding keepsOrder
-    keeps-true e =
-        record {
-          by-start = λ j k h l. ltb-true _ _ (all-true k (λ j. ltb (passStart f ps (passAt f order j)) (passStart f ps (passAt f order k))) (all-true (2 * f .blocks) (λ k. allBelow k (λ j. ltb (passStart f ps (passAt f order j)) (passStart f ps (passAt f order k)))) e k l) j h);
-        }
+    unfolding keepsOrder startTest
+    keeps-true e = record { by-start = λ j k h l. ltb-true _ _ (all-true k (startTest f order ps k) (all-true _ (λ k. allBelow k (startTest f order ps k)) e k l) j h) }
 
     true-keeps : Keeps f order ps → keepsOrder f order ps ≡ true
-    unfolding keepsOrder
-    true-keeps K =
-        true-all (2 * f .blocks) (λ k. allBelow k (λ j. ltb (passStart f ps (passAt f order j)) (passStart f ps (passAt f order k)))) (λ k l.
-        true-all k (λ j. ltb (passStart f ps (passAt f order j)) (passStart f ps (passAt f order k))) (λ j h. lt-ltb _ _ (K .by-start j k h l)))
+    unfolding keepsOrder startTest
+    true-keeps K = true-all _ (λ k. allBelow k (startTest f order ps k)) (λ k l. true-all k (startTest f order ps k) (λ j h. lt-ltb _ _ (K .by-start j k h l)))
 
     pub keeps-decided : Decides (Keeps f order ps) (keepsOrder f order ps)
     keeps-decided = decides (Keeps f order ps) (keepsOrder f order ps) keeps-true true-keeps

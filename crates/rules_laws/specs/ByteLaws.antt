@@ -1,17 +1,17 @@
 -- Numbers and fields in a row of bytes: what is written is read back, and what is read is what stands there.
-use mathlib.Core.Path.{_≡_, refl, sym, ap, subst, _∙_}
-use mathlib.Core.List.{List, [], _∷_, _++_, append-assoc}
-use Prim.Native.Nat.{ℕ, zero, suc, _+_, _-_, _*_, _/_, _%_, _^_, _≤_, _<_}
+use mathlib.Core.Path.{_≡_, refl, sym, ap, _∙_}
+use mathlib.Core.List.{List, [], _∷_, _++_}
+use Prim.Native.Nat.{ℕ, zero, suc, _+_, _*_, _/_, _%_, _^_, _≤_, _<_}
 use native.Mathlib.Nat.{add-zero}
 use native.Mathlib.Numerals.{add-one}
 use native.Mathlib.Omega.{arith}
-use lib.ListN.{length, getD, take, drop, length-append, length-take, length-drop}
+use lib.ListN.{length, getD, take, drop, length-append, length-drop}
 use lib.Pow.{pow-add}
 use lib.Seq.{getD-append-add, drop-cons, length-take-le, take-add, drop-drop}
 use Rattle.field.specs.Bytes.{numberAt, bytesOf, NumberRead}
 use Rattle.field.specs.Field.{fieldAt, fieldBytes}
 use Rattle.field.specs.Fields.{WholeAt, whole-at, field-whole}
-use Rattle.field.specs.Numbers.{length-bytes, number-one}
+use Rattle.field.specs.Numbers.{number-one}
 use Rattle.field.specs.declared.Field.the-variants.{Whole}
 
 -- a row of bytes

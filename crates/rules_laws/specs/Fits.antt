@@ -1,6 +1,6 @@
 -- Lawful timetables of sound sections fit their bytes: members have small numbers and times up to the ceiling, there are no more of them than strips or blocks,
 -- and the figures are at most so many times the ceiling, and at least 1 where the section has a member.
-use mathlib.Core.Path.{_≡_, refl, sym, ap, subst, _∙_}
+use mathlib.Core.Path.{_≡_, refl, sym, ap, _∙_}
 use mathlib.Core.Bool.{Bool, true, false, cond}
 use mathlib.Core.List.{List, [], _∷_}
 use Prim.Native.Nat.{ℕ, zero, suc, _+_, _-_, _*_, _^_, _≤_, _<_}
@@ -9,7 +9,6 @@ use native.Mathlib.Nat.{mul-le-mul-left}
 use native.Mathlib.Omega.{arith}
 use lib.ListN.{length, getD}
 use lib.Dec.{leb}
-use Rattle.order.specs.Order.{Proper}
 use Rattle.order.specs.Word.{proper-fits}
 use Rattle.sheet.specs.Limits.{ceiling, mostStrips, mostDesks, mostStripsOfDesk}
 use Rattle.sheet.specs.Sound.{MosaicSound, SortingSound, FlightSound, stripsInAll}
@@ -28,7 +27,7 @@ use Rattle.rules_laws.specs.Sums.{sum-most, sum-least, greatest-most, gr
 use Rattle.rules_laws.specs.MosaicRunning.{count-within, follows-at, runningFigure}
 use Rattle.rules_laws.specs.Equivalent.{mosaic-runs, mosaic-figure}
 use Rattle.rules_laws.specs.SortingRunning.{jobs-same, jobs-other, number-known}
-use Rattle.rules_laws.specs.FlightRunning.{start-first, start-second, end-is, time-some}
+use Rattle.rules_laws.specs.FlightRunning.{start-second, end-is, time-some}
 use Rattle.rules_laws.specs.RoundTrip.{BatchFits, JobFits, PassesFits}
 
 -- The mosaic.

@@ -1,7 +1,6 @@
 -- The rules of the flight, by pairs of passes and as they run over the blocks and over neighbours in the order, say the same.
 -- Each pass ends before the next one in the order starts, so before every later one; and every pass stands somewhere in a proper order.
 use mathlib.Core.Path.{_≡_, refl, sym, ap, subst, _∙_}
-use mathlib.Core.Bool.{true}
 use mathlib.Core.List.{List}
 use mathlib.Core.Logic.{_⊎_, inl, inr, ⊎-elim}
 use Prim.Native.Nat.{ℕ, zero, suc, _+_, _-_, _*_, _≤_, _<_}
@@ -9,7 +8,7 @@ use native.Mathlib.Nat.{add-zero}
 use native.Mathlib.Decide.{decLt, ℕ-discrete}
 use native.Mathlib.Numerals.{add-one}
 use native.Mathlib.Omega.{arith}
-use lib.ListN.{length, getD}
+use lib.ListN.{getD}
 use borrow.Author.Tests.{lt-ltb, le-ltb, eq-eqb, ne-eqb}
 use Rattle.order.specs.Order.{bit, seconds, firsts, Proper}
 use Rattle.order.specs.Seconds.{bit-cases, seconds-suc, seconds-zero, firsts-seconds, firsts-more}
@@ -18,7 +17,7 @@ use Rattle.sheet.specs.Limits.{ceiling}
 use Rattle.sheet.specs.Sound.{FlightSound}
 use Rattle.sheet.specs.declared.FlightSection.{FlightSection}
 use Rattle.rules.specs.Flight.{passesAt, passStart, passTime, passEnd, passAt, FlightLawful, Keeps, OrderAllowed}
-use Rattle.rules.specs.Running.{BlockFollows, FlightHead, FlightRuns}
+use Rattle.rules.specs.Running.{BlockFollows, FlightRuns}
 use Rattle.rules.specs.declared.Passes.{Passes}
 
 -- each count of passes is that of some position: the counts grow by at most one at a time

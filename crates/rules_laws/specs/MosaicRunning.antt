@@ -1,6 +1,6 @@
 -- The rules of the mosaic, by index and as they run over the batches, say the same: batch i follows the batch before it.
 -- The figure is summed batch by batch: a batch adds the count of its strips times its finish.
-use mathlib.Core.Path.{_≡_, refl, sym, ap, _∙_}
+use mathlib.Core.Path.{_≡_, refl, ap, _∙_}
 use mathlib.Core.List.{List, [], _∷_}
 use Prim.Native.Nat.{ℕ, zero, suc, _+_, _-_, _*_, _≤_, _<_}
 use native.Mathlib.Omega.{arith}

@@ -1,10 +1,10 @@
 -- What a plan's bytes say: members and heads that fit their bytes are read back from what was written, and what is read is what stands there.
 -- The three kinds of members are given once each; the laws over all of them are those of Members.
-use mathlib.Core.Path.{_≡_, refl, sym, ap, subst, _∙_}
+use mathlib.Core.Path.{_≡_, refl, sym, ap, _∙_}
 use mathlib.Core.List.{List, [], _∷_, _++_, append-assoc}
-use Prim.Native.Nat.{ℕ, _+_, _*_, _^_, _≤_, _<_}
+use Prim.Native.Nat.{ℕ, _+_, _*_, _^_, _<_}
 use native.Mathlib.Omega.{arith}
-use lib.ListN.{length, getD, take, drop}
+use lib.ListN.{length, take, drop}
 use Rattle.field.specs.Bytes.{numberAt, bytesOf}
 use Rattle.field.specs.Field.{fieldAt, fieldBytes}
 use Rattle.field.specs.Fields.{WholeAt, whole-at}

@@ -4,18 +4,18 @@
 use mathlib.Core.Path.{_≡_, refl, sym, ap, subst, _∙_}
 use mathlib.Core.Bool.{Bool, cond}
 use mathlib.Core.List.{List, [], _∷_}
-use Prim.Native.Nat.{ℕ, zero, suc, _+_, _-_, _*_, _≤_, _<_}
+use Prim.Native.Nat.{ℕ, zero, suc, _+_, _-_, _≤_, _<_}
 use native.Mathlib.Nat.{le-refl, le-trans}
 use native.Mathlib.Decide.{ℕ-discrete}
 use native.Mathlib.Omega.{arith}
-use lib.ListN.{length, getD, set, length-set}
+use lib.ListN.{length, getD, length-set}
 use lib.Seq.{getD-set-same, getD-set-other}
 use lib.Dec.{eqb}
 use borrow.Author.Tests.{eq-eqb, ne-eqb}
 use Rattle.sheet.specs.declared.SortingSection.{SortingSection}
 use Rattle.sheet.specs.Sound.{SortingSound}
 use Rattle.rules.specs.Sums.{sumOver}
-use Rattle.rules.specs.Sorting.{stripsOf, scanTime, deskTime, scanEnd, deskFinish, noJob, jobAt, jobsOf, SortingLawful, sortingFigure}
+use Rattle.rules.specs.Sorting.{stripsOf, scanEnd, deskFinish, noJob, jobAt, jobsOf, SortingLawful, sortingFigure}
 use Rattle.rules.specs.Running.{JobFollows, freeDesks, afterJob, AllDone, SortingRuns, none, more}
 use Rattle.rules.specs.declared.Job.{Job}
 use Rattle.rules.specs.declared.Desks.{Desks}
