@@ -1,4 +1,5 @@
--- What a user of the rules needs: the theorems (Equivalent), and the laws that lead to them.
+-- What a user of the rules needs. Theorems: Equivalent, the rules as they run over the members; RoundTrip and Sections, what a plan's bytes say;
+-- Fits, that lawful timetables fit their bytes; Determined, that the bytes determine the plan. The others hold the laws that lead to them.
 pub mod Sums
 pub mod MosaicRunning
 pub mod SortingRunning
@@ -7,4 +8,6 @@ pub mod Equivalent
 pub mod ByteLaws
 pub mod Members
 pub mod RoundTrip
+pub mod Sections
 pub mod Fits
+pub mod Determined

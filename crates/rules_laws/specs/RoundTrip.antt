@@ -240,8 +240,8 @@ module _ (pre : List ℕ) (tag : ℕ) (post : List ℕ) where
     head-joined : pre ++ fieldBytes tag (bytesOf 4 figure ++ bytesOf 8 order) ++ post ≡ pre ++ (fieldBytes tag (bytesOf 4 figure ++ bytesOf 8 order) ++ post)
     head-joined = append-assoc pre (fieldBytes tag (bytesOf 4 figure ++ bytesOf 8 order)) post
 
-    pub flight-figure-back : figure < 2 ^ 32 → figureFrom (pre ++ fieldBytes tag (bytesOf 4 figure ++ bytesOf 8 order) ++ post) (length pre) ≡ figure
-    flight-figure-back h = ap (λ (l : List ℕ). figureFrom l (length pre)) head-joined ∙ figure-first figure (bytesOf 8 order) h
+    pub flight-head-figure-back : figure < 2 ^ 32 → figureFrom (pre ++ fieldBytes tag (bytesOf 4 figure ++ bytesOf 8 order) ++ post) (length pre) ≡ figure
+    flight-head-figure-back h = ap (λ (l : List ℕ). figureFrom l (length pre)) head-joined ∙ figure-first figure (bytesOf 8 order) h
 
     pub order-back : order < 2 ^ 64 → orderFrom (pre ++ fieldBytes tag (bytesOf 4 figure ++ bytesOf 8 order) ++ post) (length pre) ≡ order
     unfolding fieldBytes orderFrom bytesOf
