@@ -7,3 +7,5 @@ pub mod Plan
 pub mod Running
 pub mod PlanRead
 pub mod FunctionLaws
+pub mod Tests
+pub mod Worked
