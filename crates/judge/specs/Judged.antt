@@ -26,10 +26,10 @@ partAt s plan section = pickPart section (mosaicPart s plan) (sortingPart s plan
 unfoldable pub sectionFrom : ℕ → Sheet → List ℕ → ℕ → Part → ℕ → Progress → Verdict
 sectionFrom zero s plan section part k st = verdict (headNumber s plan section part st) (part .head)
 sectionFrom (suc left) s plan section part k st =
-    elim (memberFollows s plan section k (memberPlace section (part .head) k) st)
-      [ true ↦ sectionFrom left s plan section part (k + 1) (afterMember s plan section (memberPlace section (part .head) k) st)
+    elim (memberFollows s plan section k (memberPlace section (part .head) k) st) [
+      | true ↦ sectionFrom left s plan section part (k + 1) (afterMember s plan section (memberPlace section (part .head) k) st)
       | false ↦ verdict ruleBroken (memberPlace section (part .head) k)
-      ]
+    ]
 
 unfoldable pub sectionVerdict : Sheet → List ℕ → ℕ → Verdict
 sectionVerdict s plan section =
@@ -42,7 +42,7 @@ unfoldable pub sectionsFrom : ℕ → Sheet → List ℕ → ℕ → Verdict
 sectionsFrom zero s plan section = verdict 0 0
 sectionsFrom (suc left) s plan section =
     elim (eqb (sectionVerdict s plan section .number) 0)
-      [ true ↦ sectionsFrom left s plan (section + 1) | false ↦ sectionVerdict s plan section ]
+    [ true ↦ sectionsFrom left s plan (section + 1) | false ↦ sectionVerdict s plan section ]
 
 -- the figure that a plan states for a section, 0 where it is absent
 unfoldable pub statedFigure : Sheet → List ℕ → ℕ → ℕ

@@ -147,16 +147,16 @@ members-judged s plan section part k p = refl
 pub inner-start : (s : Sheet) (plan : List ℕ) (section : ℕ) (part mosaic sorting flight : Part) (p : Progress) (x : Bool) → Outer s plan section → section ≤ 3 → x ≡ present s section → not x ≡ false → PartsAsked s plan mosaic sorting flight → length plan * 1 < 2 ^ 63 → part ≡ pickPart section mosaic sorting flight → p ≡ begun → Inner s plan section part 0 p
 inner-start s plan section part mosaic sorting flight p x o h ex hx a small ep eb =
     let e = picked s plan section mosaic sorting flight part (a .parts) ep in
-    record
-      { sound = a .sound
-      ; small = small
-      ; outer = o
-      ; below = h
-      ; here = e
-      ; within = omega arith
-      ; kept = rw eb begun-kept
-      ; same = ap₂ (λ n q. sectionFrom n s plan section part 0 q) all eb ∙ section-here s plan section part e (sym ex ∙ not-false x hx)
-      }
+    record {
+      sound = a .sound;
+      small = small;
+      outer = o;
+      below = h;
+      here = e;
+      within = omega arith;
+      kept = rw eb begun-kept;
+      same = ap₂ (λ n q. sectionFrom n s plan section part 0 q) all eb ∙ section-here s plan section part e (sym ex ∙ not-false x hx);
+    }
   where
     all : part .members - 0 ≡ part .members
     all = omega arith
@@ -202,19 +202,19 @@ module _ (s : Sheet) (plan : List ℕ) (section : ℕ) (part : Part) (k : ℕ) (
 
         pub inner-more : (next : Progress) → not x ≡ false → next ≡ afterMember s plan section place p → Inner s plan section part (k + 1) next
         inner-more next h en =
-            record
-              { sound = i .sound
-              ; small = i .small
-              ; outer = i .outer
-              ; below = i .below
-              ; here = i .here
-              ; within = omega arith
-              ; kept = rw en (member-kept s plan section k place p (i .sound) (i .kept) (sym ex ∙ not-false x h))
-              ; same =
+            record {
+              sound = i .sound;
+              small = i .small;
+              outer = i .outer;
+              below = i .below;
+              here = i .here;
+              within = omega arith;
+              kept = rw en (member-kept s plan section k place p (i .sound) (i .kept) (sym ex ∙ not-false x h));
+              same =
                   ap (λ q. sectionFrom (part .members - (k + 1)) s plan section part (k + 1) q) (en ∙ ap (λ n. afterMember s plan section n p) ep)
                   ∙ sym (member-next (part .members - (k + 1)) s plan section part k p (followed h))
-                  ∙ opened-member
-              }
+                  ∙ opened-member;
+            }
 
   pub head-asked : HeadAsked s part
   head-asked = record { sound = i .sound; room = omega (arith, i .small, fits .within, fits .members) }

@@ -1,11 +1,20 @@
 // The judge of a plan: from the rules alone, the number and place of the first fault, or the figure of each section.
 use field::number;
-use judge_layout::{Part, Verdict, flight_part, layout_verdict, mosaic_part, sorting_part};
-use judge_members::{after_member, begin, head_number, is_present, member_follows, member_place};
+use judge_layout::Part;
+use judge_layout::Verdict;
+use judge_layout::flight_part;
+use judge_layout::layout_verdict;
+use judge_layout::mosaic_part;
+use judge_layout::sorting_part;
+use judge_members::after_member;
+use judge_members::begin;
+use judge_members::head_number;
+use judge_members::is_present;
+use judge_members::member_follows;
+use judge_members::member_place;
 use sheet::Sheet;
 use sheet::numbers::RULE_BROKEN;
 use sheet_reader::read;
-
 ghost use mathlib.Core.Path.{_≡_};
 ghost use Prim.Native.Nat.{ℕ, _+_, _*_, _≤_, _<_, _^_};
 ghost use lib.ListN.{length};
@@ -55,7 +64,10 @@ fn judge_sections(s: Sheet, plan: &[u8], mosaic: Part, sorting: Part, flight: Pa
     let mut section: u64 = 1;
     'sections: loop {
         if 3 < section {
-            break 'sections Verdict { number: 0, place: 0 };
+            break 'sections Verdict {
+                number: 0,
+                place: 0,
+            };
         }
         if !is_present(s, section) {
             section += 1;
@@ -69,14 +81,20 @@ fn judge_sections(s: Sheet, plan: &[u8], mosaic: Part, sorting: Part, flight: Pa
         while k < members {
             let place = member_place(section, head, k);
             if !member_follows(s, plan, section, k, place, progress) {
-                break 'sections Verdict { number: RULE_BROKEN, place };
+                break 'sections Verdict {
+                    number: RULE_BROKEN,
+                    place,
+                };
             }
             progress = after_member(s, plan, section, place, progress);
             k += 1;
         }
         let number = head_number(s, plan, section, part, progress);
         if number != 0 {
-            break 'sections Verdict { number, place: head };
+            break 'sections Verdict {
+                number,
+                place: head,
+            };
         }
         section += 1;
     }

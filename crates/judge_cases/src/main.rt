@@ -30,7 +30,10 @@ fn report_all(s: &[u8]) {
         if s.len() - at < sheet + plan + 4 {
             return;
         }
-        report(&s[at + 2..at + 2 + sheet], &s[at + 4 + sheet..at + 4 + sheet + plan]);
+        report(
+            &s[at + 2..at + 2 + sheet],
+            &s[at + 4 + sheet..at + 4 + sheet + plan],
+        );
         at += sheet + plan + 4;
     }
 }

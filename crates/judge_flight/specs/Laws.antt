@@ -123,10 +123,10 @@ module _ (f : FlightSection) (order : ℕ) (plan : List ℕ) (at k : ℕ) (a : O
 
   pub ordered-more : end ≤ start → OrderedSoFar f order (passesOf plan at (f .blocks)) (k + 1)
   ordered-more h =
-      record
-        { within = omega arith
-        ; so-far = ap (passesInOrder f order (passesOf plan at (f .blocks))) (add-one k) ∙ order-suc f order (passesOf plan at (f .blocks)) k ∙ rw (t .so-far, ← end-there, ← start-there, le-leb _ _ h)
-        }
+      record {
+        within = omega arith;
+        so-far = ap (passesInOrder f order (passesOf plan at (f .blocks))) (add-one k) ∙ order-suc f order (passesOf plan at (f .blocks)) k ∙ rw (t .so-far, ← end-there, ← start-there, le-leb _ _ h);
+      }
 
   pub ordered-wrong : start < end → false ≡ passesInOrder f order (passesOf plan at (f .blocks)) (2 * f .blocks - 1)
   ordered-wrong h = sym (ap (passesInOrder f order (passesOf plan at (f .blocks))) all ∙ order-stays f order (passesOf plan at (f .blocks)) (suc k) (2 * f .blocks - 1 - suc k) here)
@@ -175,11 +175,11 @@ module _ (f : FlightSection) (plan : List ℕ) (at p value : ℕ) (t : LatestSoF
   latest-more end next h u e =
       let b = t .fits in
       let c = u .fits in
-      record
-        { within = omega arith
-        ; is = e ∙ rw (t .is, u .is, end-is f plan at p h, add-one p) (sym (latest-suc p (λ q. passEnd f (passesOf plan at (f .blocks)) q)))
-        ; fits = omega arith
-        }
+      record {
+        within = omega arith;
+        is = e ∙ rw (t .is, u .is, end-is f plan at p h, add-one p) (sym (latest-suc p (λ q. passEnd f (passesOf plan at (f .blocks)) q)));
+        fits = omega arith;
+      }
 
   pub latest-asked : HeadAsked f at → p < 2 * f .blocks → PassesAsked f at p
   latest-asked a h = record { sound = a .sound; room = a .room; known = h }

@@ -114,14 +114,14 @@ module _ (plan : List ℕ) (first tag len members end : ℕ) (c : Counted plan f
       go (suc t) e =
           let q = c .enough in
           let a = c .ahead in
-          record
-            { turns = t
-            ; enough = omega arith
-            ; within = w
-            ; ahead = omega arith
-            ; place = omega (arith, c .place, times-more members (3 + len))
-            ; same = omega (arith, run-more t plan end tag len (sym ex ∙ h), rw e at (c .same))
-            }
+          record {
+            turns = t;
+            enough = omega arith;
+            within = w;
+            ahead = omega arith;
+            place = omega (arith, c .place, times-more members (3 + len));
+            same = omega (arith, run-more t plan end tag len (sym ex ∙ h), rw e at (c .same));
+          }
 
   pub counted-all : x ≡ false → (at headLen : ℕ) → first ≡ at + (3 + headLen) → _≡_ {A = Part} (record { right = true; head = at; members = members; end = end }) (partFrom plan at headLen tag len)
   unfolding partFrom
@@ -175,10 +175,10 @@ part-fits true plan at headTag headLen tag len h l = go (isField (fieldAt plan a
 
     go : (b : Bool) → isField (fieldAt plan at) headTag headLen ≡ b → PartFits plan (cond b (record { right = true; head = at; members = run (length plan) plan (at + (3 + headLen)) tag len; end = at + (3 + headLen) + run (length plan) plan (at + (3 + headLen)) tag len * (3 + len) }) (record { right = false; head = at; members = 0; end = at }))
     go true e =
-        record
-          { within = run-within (length plan) plan (at + (3 + headLen)) tag len (field-within plan at headTag headLen e)
-          ; members = omega (arith, mul-le-mul-left (run (length plan) plan (at + (3 + headLen)) tag len) small)
-          }
+        record {
+          within = run-within (length plan) plan (at + (3 + headLen)) tag len (field-within plan at headTag headLen e);
+          members = omega (arith, mul-le-mul-left (run (length plan) plan (at + (3 + headLen)) tag len) small);
+        }
     go false e = record { within = h; members = omega arith }
 
 pub record VerdictAsked (s : Sheet) (plan : List ℕ) (mosaic sorting flight : Part) : Type 0 where

@@ -29,12 +29,12 @@ run (suc turns) plan at tag len =
 
 unfoldable pub partFrom : List ℕ → ℕ → ℕ → ℕ → ℕ → Part
 partFrom plan at headLen tag len =
-    record
-      { right = true
-      ; head = at
-      ; members = run (length plan) plan (at + (3 + headLen)) tag len
-      ; end = at + (3 + headLen) + run (length plan) plan (at + (3 + headLen)) tag len * (3 + len)
-      }
+    record {
+      right = true;
+      head = at;
+      members = run (length plan) plan (at + (3 + headLen)) tag len;
+      end = at + (3 + headLen) + run (length plan) plan (at + (3 + headLen)) tag len * (3 + len);
+    }
 
 -- a section of a plan at an offset, with the tags and content lengths of its head and its members
 unfoldable pub partOf : Bool → List ℕ → ℕ → ℕ → ℕ → ℕ → ℕ → Part

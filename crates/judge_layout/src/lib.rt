@@ -1,9 +1,15 @@
 // The layout of a plan: its sections, each a head and the members that follow.
-use field::{Field, field_at};
-use sheet::{Sheet, SortingSection};
+use field::Field;
+use field::field_at;
+use sheet::Sheet;
+use sheet::SortingSection;
 use sheet::numbers::LAYOUT_WRONG;
-use sheet::tags::{PLAN_BATCH, PLAN_BLOCK, PLAN_FLIGHT, PLAN_MOSAIC, PLAN_SORTING, PLAN_STRIP};
-
+use sheet::tags::PLAN_BATCH;
+use sheet::tags::PLAN_BLOCK;
+use sheet::tags::PLAN_FLIGHT;
+use sheet::tags::PLAN_MOSAIC;
+use sheet::tags::PLAN_SORTING;
+use sheet::tags::PLAN_STRIP;
 ghost use mathlib.Core.Path.{_≡_};
 ghost use Prim.Native.Nat.{ℕ, _+_, _*_, _≤_, _<_};
 ghost use lib.ListN.{length};
@@ -62,7 +68,15 @@ fn part_from(plan: &[u8], at: usize, head_length: usize, tag: u8, length: usize)
 }
 
 // A section of a plan at an offset: absent, not right, or with its members.
-fn part_of(present: bool, plan: &[u8], at: usize, head_tag: u8, head_length: usize, tag: u8, length: usize) -> Part
+fn part_of(
+    present: bool,
+    plan: &[u8],
+    at: usize,
+    head_tag: u8,
+    head_length: usize,
+    tag: u8,
+    length: usize,
+) -> Part
     requires { ⌜ length ≤ 65535 ⌝ }
     ensures { λ r. ⌜ r ≡ partOf present (now (plan .entry)) at «head_tag» «head_length» tag length ⌝ }
 {
@@ -126,16 +140,31 @@ pub fn layout_verdict(s: Sheet, plan: &[u8], mosaic: Part, sorting: Part, flight
     ensures { λ r. ⌜ r ≡ layoutVerdict s (now (plan .entry)) ⌝ }
 {
     if !mosaic.right {
-        return Verdict { number: LAYOUT_WRONG, place: mosaic.head };
+        return Verdict {
+            number: LAYOUT_WRONG,
+            place: mosaic.head,
+        };
     }
     if !sorting.right {
-        return Verdict { number: LAYOUT_WRONG, place: sorting.head };
+        return Verdict {
+            number: LAYOUT_WRONG,
+            place: sorting.head,
+        };
     }
     if !flight.right {
-        return Verdict { number: LAYOUT_WRONG, place: flight.head };
+        return Verdict {
+            number: LAYOUT_WRONG,
+            place: flight.head,
+        };
     }
     if flight.end != plan.len() {
-        return Verdict { number: LAYOUT_WRONG, place: flight.end };
+        return Verdict {
+            number: LAYOUT_WRONG,
+            place: flight.end,
+        };
     }
-    Verdict { number: 0, place: 0 }
+    Verdict {
+        number: 0,
+        place: 0,
+    }
 }

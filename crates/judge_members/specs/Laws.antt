@@ -196,19 +196,19 @@ module _ (s : Sheet) (plan : List ℕ) (section place : ℕ) (p : Progress) (a :
   after-strip-asked j e t =
       let f = job-facts s p j (rw (t .is) (rw e at (a .follows))) in
       let S = a .asked .sound .sorting in
-      record
-        { kept = a .asked .kept
-        ; taken =
-            record
-              { asked = job-asked s plan place p (a .asked) j t
-              ; least-desk = f .0
-              ; most-desk = omega (arith, f .1, S .most-desks)
-              ; least-number = omega (arith, f .2)
-              ; most-number = omega (arith, f .3, S .most-strips (j .desk - 1))
-              }
-        ; in-turn = f .2
-        ; within = f .4
-        }
+      record {
+        kept = a .asked .kept;
+        taken =
+            record {
+              asked = job-asked s plan place p (a .asked) j t;
+              least-desk = f .0;
+              most-desk = omega (arith, f .1, S .most-desks);
+              least-number = omega (arith, f .2);
+              most-number = omega (arith, f .3, S .most-strips (j .desk - 1));
+            };
+        in-turn = f .2;
+        within = f .4;
+      }
 
   pub after-mosaic : (b : Batch) (r : Progress) → section ≡ 1 → BatchRead plan place b → r ≡ afterBatch p b → r ≡ afterMember s plan section place p
   unfolding afterMember
@@ -286,16 +286,16 @@ unfolding afterStrip afterJob
 strip-kept s p j k least most turn few within =
     let f = k .most-figure in
     let D = k .desks in
-    record
-      { desks =
-          record
-            { done-length = simp length-set (D .done-length)
-            ; free-length = simp length-set (D .free-length)
-            ; most-done = set-most (p .desks .done) mostStripsOfDesk (j .desk - 1) (j .number) (D .most-done) few
-            }
-      ; most-last = k .most-last
-      ; most-figure = omega (arith, one-more (p .desks .done) (j .desk - 1) (j .number) (D .done-length) (omega arith) turn)
-      }
+    record {
+      desks =
+          record {
+            done-length = simp length-set (D .done-length);
+            free-length = simp length-set (D .free-length);
+            most-done = set-most (p .desks .done) mostStripsOfDesk (j .desk - 1) (j .number) (D .most-done) few;
+          };
+      most-last = k .most-last;
+      most-figure = omega (arith, one-more (p .desks .done) (j .desk - 1) (j .number) (D .done-length) (omega arith) turn);
+    }
 
 strips-within : (s : Sheet) (desk : ℕ) → SheetSound s → stripsOf (s .sorting) desk ≤ mostStripsOfDesk
 unfolding stripsOf

@@ -1,13 +1,23 @@
 // The members of a plan's section, one after another, and what is checked at its head. The sections are numbered 1, mosaic; 2, sorting; 3, flight.
-use field::{byte, number};
-use judge_flight::{flight_figure, flight_head};
-use judge_layout::{Part, strips_in_all};
-use judge_rules::{after_job, all_done, batch_follows, block_follows, job_follows};
+use field::byte;
+use field::number;
+use judge_flight::flight_figure;
+use judge_flight::flight_head;
+use judge_layout::Part;
+use judge_layout::strips_in_all;
+use judge_rules::after_job;
+use judge_rules::all_done;
+use judge_rules::batch_follows;
+use judge_rules::block_follows;
+use judge_rules::job_follows;
+use rules::Batch;
+use rules::Desks;
+use rules::Job;
+use rules::Passes;
 use rules::sorting::desk_time;
-use rules::{Batch, Desks, Job, Passes};
 use sheet::Sheet;
-use sheet::numbers::{FIGURE_UNTRUE, RULE_BROKEN};
-
+use sheet::numbers::FIGURE_UNTRUE;
+use sheet::numbers::RULE_BROKEN;
 ghost use mathlib.Core.Path.{_≡_};
 ghost use mathlib.Core.Bool.{true};
 ghost use Prim.Native.Nat.{ℕ, _+_, _*_, _≤_, _<_, _^_};
@@ -105,7 +115,14 @@ fn passes_from(plan: &[u8], at: usize) -> Passes
 }
 
 // Whether member k of a section, which stands at a place, follows what was judged before it.
-pub fn member_follows(s: Sheet, plan: &[u8], section: u64, k: usize, place: usize, progress: Progress) -> bool
+pub fn member_follows(
+    s: Sheet,
+    plan: &[u8],
+    section: u64,
+    k: usize,
+    place: usize,
+    progress: Progress,
+) -> bool
     requires { ⌜ MemberAsked s place progress ⌝ }
     ensures { λ r. ⌜ r ≡ memberFollows s (now (plan .entry)) section k place progress ⌝ }
 {
@@ -152,7 +169,13 @@ fn after_strip(s: Sheet, progress: Progress, j: Job) -> Progress
 }
 
 // What is judged after a member that follows.
-pub fn after_member(s: Sheet, plan: &[u8], section: u64, place: usize, progress: Progress) -> Progress
+pub fn after_member(
+    s: Sheet,
+    plan: &[u8],
+    section: u64,
+    place: usize,
+    progress: Progress,
+) -> Progress
     requires { ⌜ AfterAsked s (now plan) section place progress ⌝ }
     ensures { λ r. ⌜ r ≡ afterMember s (now (plan .entry)) section place progress ⌝ }
 {

@@ -1,11 +1,18 @@
 // The rules as tests: whether a batch, a job or a block may follow what was judged before it, and what is checked at a head.
-use rules::mosaic::{bench_sum, ready_time};
-use rules::sorting::{desk_time, scan_time};
-use rules::{Batch, Desks, Job, Passes};
+use rules::Batch;
+use rules::Desks;
+use rules::Job;
+use rules::Passes;
+use rules::mosaic::bench_sum;
+use rules::mosaic::ready_time;
+use rules::sorting::desk_time;
+use rules::sorting::scan_time;
+use sheet::FlightSection;
+use sheet::MosaicSection;
+use sheet::SortingSection;
 use sheet::limits::CEILING;
-use sheet::{FlightSection, MosaicSection, SortingSection};
-use sheet_checks::{desk_index, strips_of_desk};
-
+use sheet_checks::desk_index;
+use sheet_checks::strips_of_desk;
 ghost use mathlib.Core.Path.{_≡_};
 ghost use Prim.Native.Nat.{ℕ, _+_, _-_, _*_, _≤_, _<_, _^_};
 ghost use lib.ListN.{length, getD};
@@ -104,7 +111,14 @@ pub fn job_follows(s: SortingSection, d: Desks, j: Job) -> bool
     }
     let scanned = j.scan + scan_time(s, j);
     let finish = j.start + desk_time(s, j);
-    job_in_time(d.scanner, of_desk(free, desk), j.scan, scanned, j.start, finish)
+    job_in_time(
+        d.scanner,
+        of_desk(free, desk),
+        j.scan,
+        scanned,
+        j.start,
+        finish,
+    )
 }
 
 // The desks and the scanner after one more job.
@@ -118,7 +132,11 @@ pub fn after_job(s: SortingSection, d: Desks, j: Job) -> Desks
     done[i] = j.number;
     free[i] = j.start + desk_time(s, j);
     let scanner = j.scan + scan_time(s, j);
-    Desks { done, free, scanner }
+    Desks {
+        done,
+        free,
+        scanner,
+    }
 }
 
 // Whether each desk has had all its strips.

@@ -1,4 +1,4 @@
--- The rules once more, as they run over the members in order: what the judge follows. Equivalent.antt shows that they say the same as the rules.
+-- The rules once more, as they run over the members in order: what the judge follows. Equivalent.antt of crate rules_laws shows that they say the same as the rules.
 use Prim.Native.Nat.{ℕ, zero, suc, _+_, _-_, _*_, _≤_, _<_}
 use mathlib.Core.Path.{_≡_}
 use mathlib.Core.Bool.{true}
@@ -47,11 +47,11 @@ freeDesks = record { done = 0 ∷ 0 ∷ 0 ∷ []; free = 0 ∷ 0 ∷ 0 ∷ []; s
 
 unfoldable pub afterJob : SortingSection → Desks → Job → Desks
 afterJob s d j =
-    record
-      { done = set (d .done) (j .desk - 1) (j .number)
-      ; free = set (d .free) (j .desk - 1) (deskFinish s j)
-      ; scanner = scanEnd s j
-      }
+    record {
+      done = set (d .done) (j .desk - 1) (j .number);
+      free = set (d .free) (j .desk - 1) (deskFinish s j);
+      scanner = scanEnd s j;
+    }
 
 -- every strip has had its job
 pub record AllDone (s : SortingSection) (d : Desks) : Type 0 where

@@ -1,6 +1,5 @@
 // Ready times and bench times of a mosaic.
 use sheet::MosaicSection;
-
 ghost use mathlib.Core.Path.{_≡_};
 ghost use Prim.Native.Nat.{ℕ, _≤_, _<_, _+_, max};
 ghost use Rattle.sheet.specs.Sound.{MosaicSound};

@@ -35,13 +35,13 @@ withStationTimes s c base (suc k) times = set (withStationTimes s c base k times
 
 unfoldable pub withMosaicStrip : List ℕ → ℕ → MosaicSection → MosaicSection
 withMosaicStrip s c m =
-    record
-      { stations = m .stations
-      ; mount = m .mount
-      ; strips = m .strips + 1
-      ; station = withStationTimes s c (4 * m .strips) (m .stations) (m .station)
-      ; bench = set (m .bench) (m .strips) (numberAt s (c + 2 * m .stations) 2)
-      }
+    record {
+      stations = m .stations;
+      mount = m .mount;
+      strips = m .strips + 1;
+      station = withStationTimes s c (4 * m .strips) (m .stations) (m .station);
+      bench = set (m .bench) (m .strips) (numberAt s (c + 2 * m .stations) 2);
+    }
 
 -- a sorting of a head alone, and with one strip more
 unfoldable pub withSortingHead : List ℕ → ℕ → SortingSection
@@ -50,12 +50,12 @@ withSortingHead s c = record { desks = numberAt s c 1; counts = zeros 3; scan = 
 -- strip k of desk d, both from 0
 unfoldable pub withStripAt : List ℕ → ℕ → SortingSection → ℕ → ℕ → SortingSection
 withStripAt s c t d k =
-    record
-      { desks = t .desks
-      ; counts = set (t .counts) d (k + 1)
-      ; scan = set (t .scan) (6 * d + k) (numberAt s (c + 1) 2)
-      ; desk = set (t .desk) (6 * d + k) (numberAt s (c + 3) 2)
-      }
+    record {
+      desks = t .desks;
+      counts = set (t .counts) d (k + 1);
+      scan = set (t .scan) (6 * d + k) (numberAt s (c + 1) 2);
+      desk = set (t .desk) (6 * d + k) (numberAt s (c + 3) 2);
+    }
 
 unfoldable pub withSortingStrip : List ℕ → ℕ → SortingSection → SortingSection
 withSortingStrip s c t = withStripAt s c t (numberAt s c 1 - 1) (stripsOfDesk (t .counts) (numberAt s c 1))
@@ -63,15 +63,15 @@ withSortingStrip s c t = withStripAt s c t (numberAt s c 1 - 1) (stripsOfDesk (t
 -- the flight with one block more, and with its order, whose field stands at an offset
 unfoldable pub withBlock : List ℕ → ℕ → FlightSection → FlightSection
 withBlock s c f =
-    record
-      { blocks = f .blocks + 1
-      ; first = set (f .first) (f .blocks) (numberAt s c 2)
-      ; delay = set (f .delay) (f .blocks) (numberAt s (c + 2) 2)
-      ; second = set (f .second) (f .blocks) (numberAt s (c + 4) 2)
-      ; ordered = f .ordered
-      ; order = f .order
-      ; place = f .place
-      }
+    record {
+      blocks = f .blocks + 1;
+      first = set (f .first) (f .blocks) (numberAt s c 2);
+      delay = set (f .delay) (f .blocks) (numberAt s (c + 2) 2);
+      second = set (f .second) (f .blocks) (numberAt s (c + 4) 2);
+      ordered = f .ordered;
+      order = f .order;
+      place = f .place;
+    }
 
 unfoldable pub withOrder : List ℕ → ℕ → ℕ → FlightSection → FlightSection
 withOrder s c at f =
@@ -107,15 +107,15 @@ nextHead tag head at = cond (endsSection tag) at head
 -- the reading after a whole field of a tag and a content length
 unfoldable pub nextReading : List ℕ → Reading → ℕ → ℕ → Reading
 nextReading s st tag len =
-    record
-      { at = st .at + 3 + len
-      ; section = nextSection tag (st .section)
-      ; head = nextHead tag (st .head) (st .at)
-      ; members = nextMembers tag (st .members)
-      ; mosaic = nextMosaic s (st .at + 3) tag (st .mosaic)
-      ; sorting = nextSorting s (st .at + 3) tag (st .sorting)
-      ; flight = nextFlight s (st .at + 3) tag (st .at) (st .flight)
-      }
+    record {
+      at = st .at + 3 + len;
+      section = nextSection tag (st .section);
+      head = nextHead tag (st .head) (st .at);
+      members = nextMembers tag (st .members);
+      mosaic = nextMosaic s (st .at + 3) tag (st .mosaic);
+      sorting = nextSorting s (st .at + 3) tag (st .sorting);
+      flight = nextFlight s (st .at + 3) tag (st .at) (st .flight);
+    }
 
 -- before the first field
 unfoldable pub startReading : Reading

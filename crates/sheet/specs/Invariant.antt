@@ -38,39 +38,39 @@ pub record Kept (s : List ℕ) (st : Reading) : Type 0 where
 pub kept-start : (s : List ℕ) → Kept s startReading
 unfolding startReading noFlight
 kept-start s =
-    record
-      { within = omega arith
-      ; few-members = omega arith
-      ; known = omega arith
-      ; mosaic = no-mosaic-sound
-      ; sorting = no-sorting-sound
-      ; flight = no-flight-sound
-      ; in-none = λ _. refl
-      ; in-mosaic = λ e. absurd (omega arith)
-      ; in-sorting = λ e. absurd (omega arith)
-      ; before-flight = λ h. (refl, refl)
-      ; in-flight = λ e. absurd (omega arith)
-      ; after-order = λ e. absurd (omega arith)
-      }
+    record {
+      within = omega arith;
+      few-members = omega arith;
+      known = omega arith;
+      mosaic = no-mosaic-sound;
+      sorting = no-sorting-sound;
+      flight = no-flight-sound;
+      in-none = λ _. refl;
+      in-mosaic = λ e. absurd (omega arith);
+      in-sorting = λ e. absurd (omega arith);
+      before-flight = λ h. (refl, refl);
+      in-flight = λ e. absurd (omega arith);
+      after-order = λ e. absurd (omega arith);
+    }
 
 module _ (s : List ℕ) (st : Reading) (len : ℕ) (k : Kept s st) (w : st .at + 3 + len ≤ length s) where
   kept-mosaic-head : Passed s st mosaicHeadTag len → st .section ≡ noSection → Kept s (nextReading s st mosaicHeadTag len)
   unfolding nextReading nextSection nextHead nextMembers nextMosaic nextSorting nextFlight endsSection inRange withMosaicHead
   kept-mosaic-head p e =
-      record
-        { within = w
-        ; few-members = omega arith
-        ; known = omega arith
-        ; mosaic = mosaic-head-sound s (st .at + 3) (p .range-ok)
-        ; sorting = k .sorting
-        ; flight = k .flight
-        ; in-none = λ q. absurd (omega arith)
-        ; in-mosaic = λ _. refl
-        ; in-sorting = λ q. absurd (omega arith)
-        ; before-flight = λ _. k .before-flight (omega arith)
-        ; in-flight = λ e. absurd (omega arith)
-        ; after-order = λ e. absurd (omega arith)
-        }
+      record {
+        within = w;
+        few-members = omega arith;
+        known = omega arith;
+        mosaic = mosaic-head-sound s (st .at + 3) (p .range-ok);
+        sorting = k .sorting;
+        flight = k .flight;
+        in-none = λ q. absurd (omega arith);
+        in-mosaic = λ _. refl;
+        in-sorting = λ q. absurd (omega arith);
+        before-flight = λ _. k .before-flight (omega arith);
+        in-flight = λ e. absurd (omega arith);
+        after-order = λ e. absurd (omega arith);
+      }
 
   kept-mosaic-strip : Passed s st mosaicStripTag len → st .section ≡ inMosaic → Kept s (nextReading s st mosaicStripTag len)
   unfolding nextReading nextSection nextHead nextMembers nextMosaic nextSorting nextFlight endsSection inRange hasRoom withMosaicStrip
@@ -78,20 +78,20 @@ module _ (s : List ℕ) (st : Reading) (len : ℕ) (k : Kept s st) (w : st .at +
       let f = k .few-members in
       let m = k .in-mosaic e in
       let r : st .members < mostStrips = ltb-true (st .members) mostStrips (p .room-ok) in
-      record
-        { within = w
-        ; few-members = omega arith
-        ; known = omega arith
-        ; mosaic = mosaic-strip-sound s (st .at + 3) (st .mosaic) (k .mosaic) (omega arith) (p .range-ok)
-        ; sorting = k .sorting
-        ; flight = k .flight
-        ; in-none = λ q. absurd (omega arith)
-        ; in-mosaic = λ _. ap (λ n. n + 1) m
-        ; in-sorting = λ q. absurd (omega arith)
-        ; before-flight = λ h. k .before-flight h
-        ; in-flight = λ q. absurd (omega arith)
-        ; after-order = λ q. absurd (omega arith)
-        }
+      record {
+        within = w;
+        few-members = omega arith;
+        known = omega arith;
+        mosaic = mosaic-strip-sound s (st .at + 3) (st .mosaic) (k .mosaic) (omega arith) (p .range-ok);
+        sorting = k .sorting;
+        flight = k .flight;
+        in-none = λ q. absurd (omega arith);
+        in-mosaic = λ _. ap (λ n. n + 1) m;
+        in-sorting = λ q. absurd (omega arith);
+        before-flight = λ h. k .before-flight h;
+        in-flight = λ q. absurd (omega arith);
+        after-order = λ q. absurd (omega arith);
+      }
 
   none-yet : (c : ℕ) → stripsInAll (withSortingHead s c) ≡ 0
   unfolding stripsInAll withSortingHead
@@ -100,58 +100,58 @@ module _ (s : List ℕ) (st : Reading) (len : ℕ) (k : Kept s st) (w : st .at +
   kept-sorting-head : Passed s st sortingHeadTag len → st .section < inSorting → Kept s (nextReading s st sortingHeadTag len)
   unfolding nextReading nextSection nextHead nextMembers nextMosaic nextSorting nextFlight endsSection inRange
   kept-sorting-head p h =
-      record
-        { within = w
-        ; few-members = omega arith
-        ; known = omega arith
-        ; mosaic = k .mosaic
-        ; sorting = sorting-head-sound s (st .at + 3) (p .range-ok)
-        ; flight = k .flight
-        ; in-none = λ q. absurd (omega arith)
-        ; in-mosaic = λ q. absurd (omega arith)
-        ; in-sorting = λ _. sym (none-yet (st .at + 3))
-        ; before-flight = λ _. k .before-flight (omega arith)
-        ; in-flight = λ q. absurd (omega arith)
-        ; after-order = λ q. absurd (omega arith)
-        }
+      record {
+        within = w;
+        few-members = omega arith;
+        known = omega arith;
+        mosaic = k .mosaic;
+        sorting = sorting-head-sound s (st .at + 3) (p .range-ok);
+        flight = k .flight;
+        in-none = λ q. absurd (omega arith);
+        in-mosaic = λ q. absurd (omega arith);
+        in-sorting = λ _. sym (none-yet (st .at + 3));
+        before-flight = λ _. k .before-flight (omega arith);
+        in-flight = λ q. absurd (omega arith);
+        after-order = λ q. absurd (omega arith);
+      }
 
   kept-sorting-strip : Passed s st sortingStripTag len → st .section ≡ inSorting → Kept s (nextReading s st sortingStripTag len)
   unfolding nextReading nextSection nextHead nextMembers nextMosaic nextSorting nextFlight endsSection inRange hasRoom
   kept-sorting-strip p e =
       let f = k .few-members in
-      record
-        { within = w
-        ; few-members = omega arith
-        ; known = omega arith
-        ; mosaic = k .mosaic
-        ; sorting = sorting-strip-sound s (st .at + 3) (st .sorting) (k .sorting) (p .range-ok) (ltb-true _ _ (p .room-ok))
-        ; flight = k .flight
-        ; in-none = λ q. absurd (omega arith)
-        ; in-mosaic = λ q. absurd (omega arith)
-        ; in-sorting = λ _. ap (λ n. n + 1) (k .in-sorting e) ∙ sym (sorting-strip-more s (st .at + 3) (st .sorting) (k .sorting) (p .range-ok))
-        ; before-flight = λ h. k .before-flight h
-        ; in-flight = λ q. absurd (omega arith)
-        ; after-order = λ q. absurd (omega arith)
-        }
+      record {
+        within = w;
+        few-members = omega arith;
+        known = omega arith;
+        mosaic = k .mosaic;
+        sorting = sorting-strip-sound s (st .at + 3) (st .sorting) (k .sorting) (p .range-ok) (ltb-true _ _ (p .room-ok));
+        flight = k .flight;
+        in-none = λ q. absurd (omega arith);
+        in-mosaic = λ q. absurd (omega arith);
+        in-sorting = λ _. ap (λ n. n + 1) (k .in-sorting e) ∙ sym (sorting-strip-more s (st .at + 3) (st .sorting) (k .sorting) (p .range-ok));
+        before-flight = λ h. k .before-flight h;
+        in-flight = λ q. absurd (omega arith);
+        after-order = λ q. absurd (omega arith);
+      }
 
   kept-flight-head : st .section < inFlight → Kept s (nextReading s st flightHeadTag len)
   unfolding nextReading nextSection nextHead nextMembers nextMosaic nextSorting nextFlight endsSection
   kept-flight-head h =
       let b = k .before-flight h in
-      record
-        { within = w
-        ; few-members = omega arith
-        ; known = omega arith
-        ; mosaic = k .mosaic
-        ; sorting = k .sorting
-        ; flight = k .flight
-        ; in-none = λ q. absurd (omega arith)
-        ; in-mosaic = λ q. absurd (omega arith)
-        ; in-sorting = λ q. absurd (omega arith)
-        ; before-flight = λ q. absurd (omega arith)
-        ; in-flight = λ _. (sym (b .0), b .1)
-        ; after-order = λ q. absurd (omega arith)
-        }
+      record {
+        within = w;
+        few-members = omega arith;
+        known = omega arith;
+        mosaic = k .mosaic;
+        sorting = k .sorting;
+        flight = k .flight;
+        in-none = λ q. absurd (omega arith);
+        in-mosaic = λ q. absurd (omega arith);
+        in-sorting = λ q. absurd (omega arith);
+        before-flight = λ q. absurd (omega arith);
+        in-flight = λ _. (sym (b .0), b .1);
+        after-order = λ q. absurd (omega arith);
+      }
 
   kept-flight-block : Passed s st flightBlockTag len → st .section ≡ inFlight → Kept s (nextReading s st flightBlockTag len)
   unfolding nextReading nextSection nextHead nextMembers nextMosaic nextSorting nextFlight endsSection inRange hasRoom withBlock
@@ -159,40 +159,40 @@ module _ (s : List ℕ) (st : Reading) (len : ℕ) (k : Kept s st) (w : st .at +
       let f = k .few-members in
       let b = k .in-flight e in
       let r : st .members < mostBlocks = ltb-true (st .members) mostBlocks (p .room-ok) in
-      record
-        { within = w
-        ; few-members = omega arith
-        ; known = omega arith
-        ; mosaic = k .mosaic
-        ; sorting = k .sorting
-        ; flight = block-sound s (st .at + 3) (st .flight) (k .flight) (b .1) (omega (arith, b .0)) (p .range-ok)
-        ; in-none = λ q. absurd (omega arith)
-        ; in-mosaic = λ q. absurd (omega arith)
-        ; in-sorting = λ q. absurd (omega arith)
-        ; before-flight = λ q. absurd (omega arith)
-        ; in-flight = λ _. (ap (λ n. n + 1) (b .0), b .1)
-        ; after-order = λ q. absurd (omega arith)
-        }
+      record {
+        within = w;
+        few-members = omega arith;
+        known = omega arith;
+        mosaic = k .mosaic;
+        sorting = k .sorting;
+        flight = block-sound s (st .at + 3) (st .flight) (k .flight) (b .1) (omega (arith, b .0)) (p .range-ok);
+        in-none = λ q. absurd (omega arith);
+        in-mosaic = λ q. absurd (omega arith);
+        in-sorting = λ q. absurd (omega arith);
+        before-flight = λ q. absurd (omega arith);
+        in-flight = λ _. (ap (λ n. n + 1) (b .0), b .1);
+        after-order = λ q. absurd (omega arith);
+      }
 
   kept-flight-order : Passed s st flightOrderTag len → st .section ≡ inFlight → Kept s (nextReading s st flightOrderTag len)
   unfolding nextReading nextSection nextHead nextMembers nextMosaic nextSorting nextFlight endsSection orderProper withOrder
   kept-flight-order p e =
       let f = k .few-members in
       let b = k .in-flight e in
-      record
-        { within = w
-        ; few-members = omega arith
-        ; known = omega arith
-        ; mosaic = k .mosaic
-        ; sorting = k .sorting
-        ; flight = order-sound s (st .at + 3) (st .at) (st .flight) (k .flight) (rw (b .0) at (p .order-ok))
-        ; in-none = λ q. absurd (omega arith)
-        ; in-mosaic = λ q. absurd (omega arith)
-        ; in-sorting = λ q. absurd (omega arith)
-        ; before-flight = λ q. absurd (omega arith)
-        ; in-flight = λ q. absurd (omega arith)
-        ; after-order = λ _. (b .0, refl)
-        }
+      record {
+        within = w;
+        few-members = omega arith;
+        known = omega arith;
+        mosaic = k .mosaic;
+        sorting = k .sorting;
+        flight = order-sound s (st .at + 3) (st .at) (st .flight) (k .flight) (rw (b .0) at (p .order-ok));
+        in-none = λ q. absurd (omega arith);
+        in-mosaic = λ q. absurd (omega arith);
+        in-sorting = λ q. absurd (omega arith);
+        before-flight = λ q. absurd (omega arith);
+        in-flight = λ q. absurd (omega arith);
+        after-order = λ _. (b .0, refl);
+      }
 
 -- a field that passes its checks keeps what holds
 module _ (s : List ℕ) (st : Reading) (tag len : ℕ) (k : Kept s st) (w : st .at + 3 + len ≤ length s) (p : Passed s st tag len) where

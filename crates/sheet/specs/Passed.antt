@@ -33,15 +33,15 @@ passes s st tag len e =
     let p5 = passed _ _ _ tt (p4 .1) in
     let p6 = passed _ _ _ tt (p5 .1) in
     let p7 = passed _ _ _ tt (p6 .1) in
-    record
-      { filled = p1 .0
-      ; given = p2 .0
-      ; tag-ok = p3 .0
-      ; length-ok = eqb-true _ _ (p4 .0)
-      ; range-ok = p5 .0
-      ; room-ok = p6 .0
-      ; order-ok = p7 .0
-      }
+    record {
+      filled = p1 .0;
+      given = p2 .0;
+      tag-ok = p3 .0;
+      length-ok = eqb-true _ _ (p4 .0);
+      range-ok = p5 .0;
+      room-ok = p6 .0;
+      order-ok = p7 .0;
+    }
 
 -- the seven ways to go on
 pub data Next (tag section members : ℕ) : Type 0 where

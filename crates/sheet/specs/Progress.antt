@@ -82,12 +82,12 @@ module _ (s : List ℕ) (st : Reading) (p : Progress s st) where
           let w = within in
           let q = p .enough in
           rw h
-          (record
-            { kept = kept-next s st tag len (p .kept) w (passes s st tag len (sym en ∙ hn))
-            ; turns = p .turns - 1
-            ; enough = omega (arith, ahead)
-            ; same = sym (turn-next (p .turns - 1) s st tag len (sym ef ∙ e) (sym en ∙ hn)) ∙ opened
-            })
+          (record {
+            kept = kept-next s st tag len (p .kept) w (passes s st tag len (sym en ∙ hn));
+            turns = p .turns - 1;
+            enough = omega (arith, ahead);
+            same = sym (turn-next (p .turns - 1) s st tag len (sym ef ∙ e) (sym en ∙ hn)) ∙ opened;
+          })
 
       pub progress-less : (next : Reading) → next ≡ nextReading s st tag len → length s - next .at < length s - st .at
       progress-less next h = let w = within in rw h (omega (arith, ahead))

@@ -53,15 +53,15 @@ atEnd st number = cond (eqb number 0) (accepted st) (refused number (st .head))
 unfoldable pub readFrom : ℕ → List ℕ → Reading → Sheet
 readFrom zero s st = refused 0 0
 readFrom (suc turns) s st =
-    elim (fieldAt s (st .at))
-      [ End ↦ atEnd st (endNumber (st .section) (st .members))
+    elim (fieldAt s (st .at)) [
+      | End ↦ atEnd st (endNumber (st .section) (st .members))
       | Cut ↦ refused fieldCut (st .at)
       | Whole tag len ↦
-          elim (eqb (fieldNumber s st tag len) 0)
-            [ true ↦ readFrom turns s (nextReading s st tag len)
+          elim (eqb (fieldNumber s st tag len) 0) [
+            | true ↦ readFrom turns s (nextReading s st tag len)
             | false ↦ refused (fieldNumber s st tag len) (placeOf (fieldNumber s st tag len) (st .head) (st .at))
-            ]
-      ]
+          ]
+    ]
 
 unfoldable pub readSheet : List ℕ → Sheet
 readSheet s = readFrom (length s + 1) s startReading

@@ -29,16 +29,16 @@ zero-most n i most = omega (arith, zeros-at n i)
 
 mosaic-begun : (stations mount : ℕ) → stations ≤ mostStations → mount ≤ mostTime → MosaicSound (record { stations = stations; mount = mount; strips = 0; station = zeros 160; bench = zeros 40 })
 mosaic-begun stations mount h₁ h₂ =
-    record
-      { most-stations = h₁
-      ; most-mount = h₂
-      ; most-strips = omega arith
-      ; station-length = length-zeros 160
-      ; bench-length = length-zeros 40
-      ; most-station = λ i. zero-most 160 i mostTime
-      ; most-bench = λ i. zero-most 40 i mostTime
-      ; least-bench = λ j h. absurd (omega arith)
-      }
+    record {
+      most-stations = h₁;
+      most-mount = h₂;
+      most-strips = omega arith;
+      station-length = length-zeros 160;
+      bench-length = length-zeros 40;
+      most-station = λ i. zero-most 160 i mostTime;
+      most-bench = λ i. zero-most 40 i mostTime;
+      least-bench = λ j h. absurd (omega arith);
+    }
 
 pub no-mosaic-sound : MosaicSound noMosaic
 unfolding noMosaic
@@ -69,33 +69,33 @@ mosaic-strip-sound s c m h room e =
     let p = both _ _ e in
     let b = is-between 1 (numberAt s (c + 2 * m .stations) 2) mostTime (p .1) in
     let long = h .bench-length in
-    record
-      { most-stations = h .most-stations
-      ; most-mount = h .most-mount
-      ; most-strips = omega arith
-      ; station-length = length-times s c (4 * m .strips) (m .station) (m .stations) ∙ h .station-length
-      ; bench-length = simp length-set (h .bench-length)
-      ; most-station = times-most s c (4 * m .strips) (m .station) (h .most-station) (m .stations) (p .0)
-      ; most-bench = set-most (m .bench) mostTime (m .strips) _ (h .most-bench) (b .1)
-      ; least-bench = set-least (m .bench) (m .strips) _ (h .least-bench) (b .0) (omega arith)
-      }
+    record {
+      most-stations = h .most-stations;
+      most-mount = h .most-mount;
+      most-strips = omega arith;
+      station-length = length-times s c (4 * m .strips) (m .station) (m .stations) ∙ h .station-length;
+      bench-length = simp length-set (h .bench-length);
+      most-station = times-most s c (4 * m .strips) (m .station) (h .most-station) (m .stations) (p .0);
+      most-bench = set-most (m .bench) mostTime (m .strips) _ (h .most-bench) (b .1);
+      least-bench = set-least (m .bench) (m .strips) _ (h .least-bench) (b .0) (omega arith);
+    }
 
 -- the sorting
 
 sorting-begun : (desks : ℕ) → desks ≤ mostDesks → SortingSound (record { desks = desks; counts = zeros 3; scan = zeros 18; desk = zeros 18 })
 sorting-begun desks h =
-    record
-      { most-desks = h
-      ; counts-length = length-zeros 3
-      ; scan-length = length-zeros 18
-      ; desk-length = length-zeros 18
-      ; most-strips = λ d. zero-most 3 d mostStripsOfDesk
-      ; no-desk = λ d l. zeros-at 3 d
-      ; most-scan = λ i. zero-most 18 i mostTime
-      ; most-desk = λ i. zero-most 18 i mostTime
-      ; least-scan = λ d k l. absurd (omega (arith, zeros-at 3 d))
-      ; least-desk = λ d k l. absurd (omega (arith, zeros-at 3 d))
-      }
+    record {
+      most-desks = h;
+      counts-length = length-zeros 3;
+      scan-length = length-zeros 18;
+      desk-length = length-zeros 18;
+      most-strips = λ d. zero-most 3 d mostStripsOfDesk;
+      no-desk = λ d l. zeros-at 3 d;
+      most-scan = λ i. zero-most 18 i mostTime;
+      most-desk = λ i. zero-most 18 i mostTime;
+      least-scan = λ d k l. absurd (omega (arith, zeros-at 3 d));
+      least-desk = λ d k l. absurd (omega (arith, zeros-at 3 d));
+    }
 
 pub no-sorting-sound : SortingSound noSorting
 unfolding noSorting
@@ -132,18 +132,18 @@ strip-at-sound s c t d k h hd here room e₁ e₂ =
     let lc = h .counts-length in
     let ls = h .scan-length in
     let ld = h .desk-length in
-    record
-      { most-desks = h .most-desks
-      ; counts-length = simp length-set (h .counts-length)
-      ; scan-length = simp length-set (h .scan-length)
-      ; desk-length = simp length-set (h .desk-length)
-      ; most-strips = set-most (t .counts) mostStripsOfDesk d (k + 1) (h .most-strips) (omega arith)
-      ; no-desk = λ d′ l. set-there (t .counts) d d′ (k + 1) (λ q. absurd (omega arith)) ∙ h .no-desk d′ l
-      ; most-scan = set-most (t .scan) mostTime (6 * d + k) _ (h .most-scan) (b₁ .1)
-      ; most-desk = set-most (t .desk) mostTime (6 * d + k) _ (h .most-desk) (b₂ .1)
-      ; least-scan = λ d′ k′ l. least-strip (t .counts) (t .scan) d k _ here (omega arith) (h .most-strips) room (omega arith) (h .least-scan) (b₁ .0) d′ k′ l (ℕ-discrete d′ d)
-      ; least-desk = λ d′ k′ l. least-strip (t .counts) (t .desk) d k _ here (omega arith) (h .most-strips) room (omega arith) (h .least-desk) (b₂ .0) d′ k′ l (ℕ-discrete d′ d)
-      }
+    record {
+      most-desks = h .most-desks;
+      counts-length = simp length-set (h .counts-length);
+      scan-length = simp length-set (h .scan-length);
+      desk-length = simp length-set (h .desk-length);
+      most-strips = set-most (t .counts) mostStripsOfDesk d (k + 1) (h .most-strips) (omega arith);
+      no-desk = λ d′ l. set-there (t .counts) d d′ (k + 1) (λ q. absurd (omega arith)) ∙ h .no-desk d′ l;
+      most-scan = set-most (t .scan) mostTime (6 * d + k) _ (h .most-scan) (b₁ .1);
+      most-desk = set-most (t .desk) mostTime (6 * d + k) _ (h .most-desk) (b₂ .1);
+      least-scan = λ d′ k′ l. least-strip (t .counts) (t .scan) d k _ here (omega arith) (h .most-strips) room (omega arith) (h .least-scan) (b₁ .0) d′ k′ l (ℕ-discrete d′ d);
+      least-desk = λ d′ k′ l. least-strip (t .counts) (t .desk) d k _ here (omega arith) (h .most-strips) room (omega arith) (h .least-desk) (b₂ .0) d′ k′ l (ℕ-discrete d′ d);
+    }
 
 pub sorting-strip-sound : (s : List ℕ) (c : ℕ) (t : SortingSection) → SortingSound t → sortingStripInRange (t .desks) (numberAt s c 1) (numberAt s (c + 1) 2) (numberAt s (c + 3) 2) ≡ true → stripsOfDesk (t .counts) (numberAt s c 1) < mostStripsOfDesk → SortingSound (withSortingStrip s c t)
 unfolding sortingStripInRange withSortingStrip stripsOfDesk
@@ -175,19 +175,19 @@ sorting-strip-more s c t h e =
 pub no-flight-sound : FlightWithin mostBlocks noFlight
 unfolding noFlight
 no-flight-sound =
-    record
-      { most-blocks = omega arith
-      ; first-length = length-zeros 32
-      ; delay-length = length-zeros 32
-      ; second-length = length-zeros 32
-      ; most-first = λ i. zero-most 32 i mostTime
-      ; most-delay = λ i. zero-most 32 i mostTime
-      ; most-second = λ i. zero-most 32 i mostTime
-      ; least-first = λ i h. absurd (omega arith)
-      ; least-second = λ i h. absurd (omega arith)
-      ; given = λ e. absurd (differ e)
-      ; free = λ e. omega arith
-      }
+    record {
+      most-blocks = omega arith;
+      first-length = length-zeros 32;
+      delay-length = length-zeros 32;
+      second-length = length-zeros 32;
+      most-first = λ i. zero-most 32 i mostTime;
+      most-delay = λ i. zero-most 32 i mostTime;
+      most-second = λ i. zero-most 32 i mostTime;
+      least-first = λ i h. absurd (omega arith);
+      least-second = λ i h. absurd (omega arith);
+      given = λ e. absurd (differ e);
+      free = λ e. omega arith;
+    }
   where
     differ : false ≡ true → ⊥
     differ q = let z : _≡_ {A = ℕ} 0 1 = cc in omega arith
@@ -201,19 +201,19 @@ block-sound s c f h plain room e =
     let b = is-between 1 (numberAt s (c + 4) 2) mostTime (q .1) in
     let la = h .first-length in
     let lb = h .second-length in
-    record
-      { most-blocks = omega arith
-      ; first-length = simp length-set (h .first-length)
-      ; delay-length = simp length-set (h .delay-length)
-      ; second-length = simp length-set (h .second-length)
-      ; most-first = set-most (f .first) mostTime (f .blocks) _ (h .most-first) (a .1)
-      ; most-delay = set-most (f .delay) mostTime (f .blocks) _ (h .most-delay) (leb-true _ _ (q .0))
-      ; most-second = set-most (f .second) mostTime (f .blocks) _ (h .most-second) (b .1)
-      ; least-first = set-least (f .first) (f .blocks) _ (h .least-first) (a .0) (omega arith)
-      ; least-second = set-least (f .second) (f .blocks) _ (h .least-second) (b .0) (omega arith)
-      ; given = λ e. absurd (differ (sym plain ∙ e))
-      ; free = λ e. omega arith
-      }
+    record {
+      most-blocks = omega arith;
+      first-length = simp length-set (h .first-length);
+      delay-length = simp length-set (h .delay-length);
+      second-length = simp length-set (h .second-length);
+      most-first = set-most (f .first) mostTime (f .blocks) _ (h .most-first) (a .1);
+      most-delay = set-most (f .delay) mostTime (f .blocks) _ (h .most-delay) (leb-true _ _ (q .0));
+      most-second = set-most (f .second) mostTime (f .blocks) _ (h .most-second) (b .1);
+      least-first = set-least (f .first) (f .blocks) _ (h .least-first) (a .0) (omega arith);
+      least-second = set-least (f .second) (f .blocks) _ (h .least-second) (b .0) (omega arith);
+      given = λ e. absurd (differ (sym plain ∙ e));
+      free = λ e. omega arith;
+    }
   where
     differ : false ≡ true → ⊥
     differ q = let z : _≡_ {A = ℕ} 0 1 = cc in omega arith
@@ -221,16 +221,16 @@ block-sound s c f h plain room e =
 pub order-sound : (s : List ℕ) (c at : ℕ) (f : FlightSection) → FlightWithin mostBlocks f → isProper (f .blocks) (numberAt s c 8) ≡ true → FlightWithin mostBlocks (withOrder s c at f)
 unfolding withOrder
 order-sound s c at f h e =
-    record
-      { most-blocks = h .most-blocks
-      ; first-length = h .first-length
-      ; delay-length = h .delay-length
-      ; second-length = h .second-length
-      ; most-first = h .most-first
-      ; most-delay = h .most-delay
-      ; most-second = h .most-second
-      ; least-first = h .least-first
-      ; least-second = h .least-second
-      ; given = λ _. proper-true (f .blocks) (numberAt s c 8) e
-      ; free = λ _. h .most-blocks
-      }
+    record {
+      most-blocks = h .most-blocks;
+      first-length = h .first-length;
+      delay-length = h .delay-length;
+      second-length = h .second-length;
+      most-first = h .most-first;
+      most-delay = h .most-delay;
+      most-second = h .most-second;
+      least-first = h .least-first;
+      least-second = h .least-second;
+      given = λ _. proper-true (f .blocks) (numberAt s c 8) e;
+      free = λ _. h .most-blocks;
+    }

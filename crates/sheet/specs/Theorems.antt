@@ -212,25 +212,25 @@ complete-sound : (s : List ℕ) (st : Reading) → Kept s st → Complete s st �
 unfolding accepted
 complete-sound s st k c =
     let f = k .flight in
-    record
-      { mosaic = k .mosaic
-      ; sorting = k .sorting
-      ; flight =
-          record
-            { most-blocks = f .most-blocks
-            ; first-length = f .first-length
-            ; delay-length = f .delay-length
-            ; second-length = f .second-length
-            ; most-first = f .most-first
-            ; most-delay = f .most-delay
-            ; most-second = f .most-second
-            ; least-first = f .least-first
-            ; least-second = f .least-second
-            ; given = f .given
-            ; free = flight-free s st k (c .few)
-            }
-      ; some-member = members-somewhere s st k (c .filled) (st .section) refl
-      }
+    record {
+      mosaic = k .mosaic;
+      sorting = k .sorting;
+      flight =
+          record {
+            most-blocks = f .most-blocks;
+            first-length = f .first-length;
+            delay-length = f .delay-length;
+            second-length = f .second-length;
+            most-first = f .most-first;
+            most-delay = f .most-delay;
+            most-second = f .most-second;
+            least-first = f .least-first;
+            least-second = f .least-second;
+            given = f .given;
+            free = flight-free s st k (c .few);
+          };
+      some-member = members-somewhere s st k (c .filled) (st .section) refl;
+    }
 
 pub read-sound : (s : List ℕ) → readSheet s .number ≡ 0 → SheetSound (readSheet s)
 unfolding refused

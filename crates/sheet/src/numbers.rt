@@ -1,16 +1,29 @@
 // The refusal numbers (01, "Turned back"). specs/Refusals.antt states the same for the definitions.
 
 pub const TABLE_TOO_SMALL: u64 = 1;
+
 pub const BUFFER_TOO_SMALL: u64 = 2;
+
 pub const FIELD_CUT: u64 = 3;
+
 pub const TAG_NOT_PERMITTED: u64 = 4;
+
 pub const LENGTH_WRONG: u64 = 5;
+
 pub const OUT_OF_RANGE: u64 = 6;
+
 pub const TOO_MANY: u64 = 7;
+
 pub const NO_MEMBERS: u64 = 8;
+
 pub const ORDER_NOT_PROPER: u64 = 9;
+
 pub const ORDER_MISSING: u64 = 10;
+
 pub const ORDER_IMPOSSIBLE: u64 = 11;
+
 pub const LAYOUT_WRONG: u64 = 12;
+
 pub const RULE_BROKEN: u64 = 13;
+
 pub const FIGURE_UNTRUE: u64 = 14;

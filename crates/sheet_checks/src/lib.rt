@@ -1,12 +1,32 @@
 // What each field of a sheet is checked for: one function a check, and the chain of them in 01's order.
-use field::{byte, number};
+use field::byte;
+use field::number;
 use sheet::Reading;
-use sheet::limits::{MOST_BLOCKS, MOST_BLOCKS_WITHOUT_ORDER, MOST_DESKS, MOST_STATIONS, MOST_STRIPS, MOST_STRIPS_OF_DESK, MOST_TIME};
-use sheet::numbers::{LENGTH_WRONG, NO_MEMBERS, ORDER_MISSING, ORDER_NOT_PROPER, OUT_OF_RANGE, TAG_NOT_PERMITTED, TOO_MANY};
-use sheet::sections::{IN_FLIGHT, IN_MOSAIC, IN_SORTING, NO_SECTION};
-use sheet::tags::{FLIGHT_BLOCK, FLIGHT_HEAD, FLIGHT_ORDER, MOSAIC_HEAD, MOSAIC_STRIP, SORTING_HEAD, SORTING_STRIP};
-
-
+use sheet::limits::MOST_BLOCKS;
+use sheet::limits::MOST_BLOCKS_WITHOUT_ORDER;
+use sheet::limits::MOST_DESKS;
+use sheet::limits::MOST_STATIONS;
+use sheet::limits::MOST_STRIPS;
+use sheet::limits::MOST_STRIPS_OF_DESK;
+use sheet::limits::MOST_TIME;
+use sheet::numbers::LENGTH_WRONG;
+use sheet::numbers::NO_MEMBERS;
+use sheet::numbers::ORDER_MISSING;
+use sheet::numbers::ORDER_NOT_PROPER;
+use sheet::numbers::OUT_OF_RANGE;
+use sheet::numbers::TAG_NOT_PERMITTED;
+use sheet::numbers::TOO_MANY;
+use sheet::sections::IN_FLIGHT;
+use sheet::sections::IN_MOSAIC;
+use sheet::sections::IN_SORTING;
+use sheet::sections::NO_SECTION;
+use sheet::tags::FLIGHT_BLOCK;
+use sheet::tags::FLIGHT_HEAD;
+use sheet::tags::FLIGHT_ORDER;
+use sheet::tags::MOSAIC_HEAD;
+use sheet::tags::MOSAIC_STRIP;
+use sheet::tags::SORTING_HEAD;
+use sheet::tags::SORTING_STRIP;
 ghost use mathlib.Core.Path.{_≡_};
 ghost use Prim.Native.Nat.{ℕ, _+_, _-_, _*_, _≤_, _<_, _^_};
 ghost use lib.ListN.{length};
@@ -158,8 +178,17 @@ fn is_in_range(s: &[u8], c: usize, tag: u8, stations: usize, desks: usize) -> bo
         MOSAIC_HEAD => mosaic_head_in_range(byte(s, c), number(s, c + 1, 2)),
         MOSAIC_STRIP => mosaic_strip_in_range(s, c, stations),
         SORTING_HEAD => is_between(1, byte(s, c), MOST_DESKS),
-        SORTING_STRIP => sorting_strip_in_range(desks as u64, byte(s, c), number(s, c + 1, 2), number(s, c + 3, 2)),
-        FLIGHT_BLOCK => flight_block_in_range(number(s, c, 2), number(s, c + 2, 2), number(s, c + 4, 2)),
+        SORTING_STRIP => sorting_strip_in_range(
+            desks as u64,
+            byte(s, c),
+            number(s, c + 1, 2),
+            number(s, c + 3, 2),
+        ),
+        FLIGHT_BLOCK => flight_block_in_range(
+            number(s, c, 2),
+            number(s, c + 2, 2),
+            number(s, c + 4, 2),
+        ),
         _ => true,
     }
 }

@@ -1,10 +1,26 @@
 // What a field that passes its checks adds to the sheet. A field's content begins at offset c.
-use field::{byte, number};
-use sheet::sections::{AFTER_ORDER, IN_FLIGHT, IN_MOSAIC, IN_SORTING, NO_SECTION};
-use sheet::tags::{FLIGHT_BLOCK, FLIGHT_HEAD, FLIGHT_ORDER, MOSAIC_HEAD, MOSAIC_STRIP, SORTING_HEAD, SORTING_STRIP};
-use sheet::{FlightSection, MosaicSection, Reading, Sheet, SortingSection};
-use sheet_checks::{desk_index, ends_section, strips_of_desk};
-
+use field::byte;
+use field::number;
+use sheet::FlightSection;
+use sheet::MosaicSection;
+use sheet::Reading;
+use sheet::Sheet;
+use sheet::SortingSection;
+use sheet::sections::AFTER_ORDER;
+use sheet::sections::IN_FLIGHT;
+use sheet::sections::IN_MOSAIC;
+use sheet::sections::IN_SORTING;
+use sheet::sections::NO_SECTION;
+use sheet::tags::FLIGHT_BLOCK;
+use sheet::tags::FLIGHT_HEAD;
+use sheet::tags::FLIGHT_ORDER;
+use sheet::tags::MOSAIC_HEAD;
+use sheet::tags::MOSAIC_STRIP;
+use sheet::tags::SORTING_HEAD;
+use sheet::tags::SORTING_STRIP;
+use sheet_checks::desk_index;
+use sheet_checks::ends_section;
+use sheet_checks::strips_of_desk;
 ghost use mathlib.Core.Path.{_≡_};
 ghost use Prim.Native.Nat.{ℕ, _+_, _*_, _≤_, _<_, _^_};
 ghost use lib.ListN.{length};
@@ -109,7 +125,13 @@ fn with_mosaic_head(s: &[u8], c: usize) -> MosaicSection
 }
 
 // The station times with those of a strip of `count` stations from an index on.
-fn with_station_times(s: &[u8], c: usize, base: usize, count: usize, times: [u64; 160]) -> [u64; 160]
+fn with_station_times(
+    s: &[u8],
+    c: usize,
+    base: usize,
+    count: usize,
+    times: [u64; 160],
+) -> [u64; 160]
     requires { ⌜ TimesRoom c base count ⌝ }
     ensures { λ r. ⌜ r ≡ withStationTimes (now (s .entry)) c base count times ⌝ }
 {

@@ -50,13 +50,13 @@ module _ (s : List ℕ) (st : Reading) (tag len : ℕ) (k : Kept s st) (w : st .
 
   pub next-pre : length s * 1 < 2 ^ 63 → NextPre s st tag len
   next-pre big =
-      record
-        { within = w
-        ; few-members = k .few-members
-        ; mosaic = record { content = omega arith; stations-fit = k .mosaic .most-stations; strip-fits = strip-fits }
-        ; sorting = record { content = omega arith; desk-fits = desk-fits; strip-fits = desk-strip-fits }
-        ; flight = record { content = omega arith; block-fits = block-fits }
-        }
+      record {
+        within = w;
+        few-members = k .few-members;
+        mosaic = record { content = omega arith; stations-fit = k .mosaic .most-stations; strip-fits = strip-fits };
+        sorting = record { content = omega arith; desk-fits = desk-fits; strip-fits = desk-strip-fits };
+        flight = record { content = omega arith; block-fits = block-fits };
+      }
 
 module _ (s : List ℕ) (st : Reading) (p : Progress s st) (f : Field) (ef : f ≡ fieldAt s (st .at)) (tag len : ℕ) (e : f ≡ Whole tag len) where
   within : st .at + 3 + len ≤ length s

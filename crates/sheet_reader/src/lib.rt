@@ -1,10 +1,16 @@
 // The reader of a sheet: for every row of bytes the number and place of its refusal, or 0, 0 and its sections.
-use field::{Field, field_at};
+use field::Field;
+use field::field_at;
+use sheet::Reading;
+use sheet::Sheet;
 use sheet::numbers::FIELD_CUT;
-use sheet::{Reading, Sheet};
-use sheet_checks::{end_number, field_number, place_of};
-use sheet_decode::{accept, next_reading, refuse, start};
-
+use sheet_checks::end_number;
+use sheet_checks::field_number;
+use sheet_checks::place_of;
+use sheet_decode::accept;
+use sheet_decode::next_reading;
+use sheet_decode::refuse;
+use sheet_decode::start;
 ghost use mathlib.Core.Path.{_≡_};
 ghost use Rattle.sheet.specs.Read.{endNumber, atEnd, readSheet};
 
