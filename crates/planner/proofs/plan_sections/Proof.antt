@@ -1,0 +1,53 @@
+-- `planner::plan_sections` meets its contract: each section is planned as its crate promises, and the joined bytes are the chosen plan.
+use Rattle.planner.specs.Laws.{sheet-refused, order-impossible, flight-asked, mosaic-asked, sorting-asked, writer-asked, sheet-planned}
+use borrow.Author.Needs.{needs}
+use Rattle.planner.proofs.plan_sections.Statement.{statement}
+use Rattle.planner.proofs.plan_sections.Tie as tie
+
+returns : tie.Need-returns
+returns c = search sheet-refused
+
+plan-flight-requires : tie.Need-plan-flight-requires
+plan-flight-requires c κs = search flight-asked
+
+returns-2 : tie.Need-returns-2
+returns-2 c = order-impossible _ _ _ (c .before .before .before .if1 .left) (c .before .before .plan-flight .ensures) (c .if2 .taken)
+
+plan-mosaic-requires : tie.Need-plan-mosaic-requires
+plan-mosaic-requires c κs = search mosaic-asked
+
+plan-sorting-requires : tie.Need-plan-sorting-requires
+plan-sorting-requires c κs = search sorting-asked
+
+write-plan-requires : tie.Need-write-plan-requires
+write-plan-requires c κs = search writer-asked
+
+same-length : tie.Need-same-length
+same-length c = search needs
+
+same-length-2 : tie.Need-same-length-2
+same-length-2 c = search needs
+
+returns-3 : tie.Need-returns-3
+returns-3 c =
+    sheet-planned _ _ _ (c .before .before .before .before .before .before .before .before .before .before .before .before .before .before .before .before .pre)
+    (c .before .before .before .before .before .before .before .before .before .before .before .before .if1 .left) _
+    (c .before .before .before .before .before .before .before .before .plan-mosaic .ensures) _ _
+    (c .before .before .before .before .before .before .plan-sorting .ensures) _
+    (c .before .before .before .before .before .before .before .before .before .before .before .plan-flight .ensures)
+    (c .before .before .before .before .before .before .before .before .before .if2 .left) _ _
+    (c .before .before .write-plan .ensures)
+
+pub plan-sections-spec : {M : Type 1} → statement M
+plan-sections-spec =
+    tie.close
+    (tie.spec
+    returns
+    plan-flight-requires
+    returns-2
+    plan-mosaic-requires
+    plan-sorting-requires
+    write-plan-requires
+    same-length
+    same-length-2
+    returns-3)

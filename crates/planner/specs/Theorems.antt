@@ -1,0 +1,190 @@
+-- What holds of the planner's answers and plans, for every row of bytes as a sheet (the demands, and 01, "What the committee holds the text to").
+-- `readSheet` is what reading gives (crate sheet), `PlanLawful` and `Allowed` are the rules' (crate rules), `chosenPlan` and `answerOf` are Call.antt's:
+-- the contract of `plan` says that a call answers `answerOf` and writes `planBytes .. (chosenPlan ..)` where it accepts.
+use Prim.Native.Nat.{ℕ, _≤_, _<_}
+use mathlib.Core.Path.{_≡_, refl, sym, subst, _∙_}
+use mathlib.Core.Bool.{Bool, true, false, true≢false}
+use mathlib.Core.List.{List}
+use native.Mathlib.Omega.{arith}
+use lib.ListN.{length}
+use lib.Dec.{ltb, eqb}
+use borrow.Author.Tests.{le-ltb, eq-eqb, ne-eqb}
+use Rattle.sheet.specs.Limits.{tableLength, planLength}
+use Rattle.sheet.specs.Refusals.{orderImpossible}
+use Rattle.sheet.specs.Read.{readSheet}
+use Rattle.sheet.specs.Sound.{SheetSound}
+use Rattle.sheet.specs.Theorems.{read-sound}
+use Rattle.sheet.specs.declared.Sheet.{Sheet}
+use Rattle.rules.specs.Mosaic.{mosaicFigure}
+use Rattle.rules.specs.Sorting.{sortingFigure}
+use Rattle.rules.specs.Flight.{passesAt, FlightLawful, Keeps, OrderAllowed, flightFigure}
+use Rattle.rules.specs.Plan.{Plan, planBytes, PlanLawful, Allowed, AllowedFor}
+use Rattle.rules.specs.declared.Passes.{Passes}
+use Rattle.mosaic.specs.Theorems.{mosaic-lawful, mosaic-figure, mosaic-least}
+use Rattle.sorting.specs.Theorems.{sorting-lawful, sorting-figure, sorting-least}
+use Rattle.flight.specs.Choice.{isPossible, chosenOrder, chosenPasses}
+use Rattle.flight.specs.Chosen.{chosen-given}
+use Rattle.flight.specs.Theorems.{flight-lawful, flight-figure, flight-least, flight-earliest, flight-impossible}
+use Rattle.planner.specs.Call.{chosenPlan, answer, sheetAnswer, answerOf}
+
+-- The figures of a plan.
+unfoldable pub figureOfMosaic : Sheet → Plan → ℕ
+figureOfMosaic s p = mosaicFigure (s .mosaic) (p .batches)
+
+unfoldable pub figureOfSorting : Sheet → Plan → ℕ
+figureOfSorting s p = sortingFigure (s .sorting) (p .jobs)
+
+unfoldable pub figureOfFlight : Sheet → Plan → ℕ
+figureOfFlight s p = flightFigure (s .flight) (p .passes)
+
+-- No lawful plan of the sheet has a smaller figure.
+unfoldable pub Least : (Sheet → Plan → ℕ) → Sheet → Plan → Type 0
+Least figure s q = (other : Plan) → PlanLawful s other → figure s q ≤ figure s other
+
+-- Some timetable of the flight keeps an allowed order. Where an order is given, the allowed order is the given one.
+pub record Possible (s : Sheet) : Type 0 where
+  pub order : ℕ
+  pub passes : List Passes
+  pub lawful : FlightLawful (s .flight) passes
+  pub kept : Keeps (s .flight) order passes
+  pub allowed : OrderAllowed (s .flight) order
+
+-- Equal to the least is least, and least is equal to it.
+least-exactly : (figure : Sheet → Plan → ℕ) (s : Sheet) (p : Plan) → PlanLawful s p → Least figure s p → (q : Plan) → PlanLawful s q
+    → (figure s q ≡ figure s p → Least figure s q) × (Least figure s q → figure s q ≡ figure s p)
+unfolding Least
+least-exactly figure s p p-lawful p-least q q-lawful = (
+  λ e other l. below (figure s q) (figure s p) (figure s other) e (p-least other l),
+  λ q-least. same (figure s q) (figure s p) (q-least p p-lawful) (p-least q q-lawful),
+)
+  where
+    below : (a b k : ℕ) → a ≡ b → b ≤ k → a ≤ k
+    below a b k e h = omega arith
+
+    same : (a b : ℕ) → a ≤ b → b ≤ a → a ≡ b
+    same a b h k = omega arith
+
+module _ (sheet : List ℕ) (sound : readSheet sheet .number ≡ 0) where
+  s : Sheet
+  s = readSheet sheet
+
+  whole : SheetSound (readSheet sheet)
+  whole = read-sound sheet sound
+
+  -- The flight is possible exactly where some timetable keeps an allowed order.
+  possible-of : Possible (readSheet sheet) → isPossible (readSheet sheet .flight) ≡ true
+  possible-of p = go (isPossible (readSheet sheet .flight)) refl
+    where
+      go : (b : Bool) → isPossible (readSheet sheet .flight) ≡ b → b ≡ true
+      go true e = refl
+      go false e = absurd (flight-impossible (readSheet sheet .flight) (whole .flight) .0 e (p .order) (p .passes) (p .lawful) (p .kept) (p .allowed))
+
+  of-possible : isPossible (readSheet sheet .flight) ≡ true → Possible (readSheet sheet)
+  of-possible e =
+      let h = flight-lawful (readSheet sheet .flight) (whole .flight) e in
+      record { order = chosenOrder (readSheet sheet .flight); passes = chosenPasses (readSheet sheet .flight); lawful = h .0; kept = h .1; allowed = h .2 }
+
+  lawful-possible : (q : Plan) → PlanLawful (readSheet sheet) q → Possible (readSheet sheet)
+  lawful-possible q l = record { order = q .order; passes = q .passes; lawful = l .flight; kept = l .kept; allowed = l .order }
+
+  chosen-lawful : isPossible (readSheet sheet .flight) ≡ true → PlanLawful (readSheet sheet) (chosenPlan (readSheet sheet))
+  unfolding chosenPlan
+  chosen-lawful e =
+      let h = flight-lawful (readSheet sheet .flight) (whole .flight) e in
+      record {
+        mosaic = mosaic-lawful (readSheet sheet .mosaic) (whole .mosaic);
+        sorting = sorting-lawful (readSheet sheet .sorting) (whole .sorting);
+        flight = h .0;
+        kept = h .1;
+        order = h .2;
+      }
+
+  -- The plan of a sound and possible sheet is lawful ..
+  pub plan-lawful : Possible (readSheet sheet) → PlanLawful (readSheet sheet) (chosenPlan (readSheet sheet))
+  plan-lawful p = chosen-lawful (possible-of p)
+
+  -- .. and its bytes are an allowed plan.
+  pub plan-allowed : Possible (readSheet sheet) → AllowedFor sheet (planBytes (readSheet sheet) (chosenPlan (readSheet sheet)))
+  plan-allowed p =
+      record { sound = sound; allowed = record { plan = chosenPlan (readSheet sheet); lawful = plan-lawful p; layout = refl } }
+
+  -- No lawful plan of the sheet has a smaller figure in any section.
+  pub plan-least-mosaic : Least figureOfMosaic (readSheet sheet) (chosenPlan (readSheet sheet))
+  unfolding Least figureOfMosaic chosenPlan
+  plan-least-mosaic q l =
+      omega (arith, mosaic-figure (readSheet sheet .mosaic) (whole .mosaic), mosaic-least (readSheet sheet .mosaic) (whole .mosaic) (q .batches) (l .mosaic))
+
+  pub plan-least-sorting : Least figureOfSorting (readSheet sheet) (chosenPlan (readSheet sheet))
+  unfolding Least figureOfSorting chosenPlan
+  plan-least-sorting q l =
+      omega (arith, sorting-figure (readSheet sheet .sorting) (whole .sorting), sorting-least (readSheet sheet .sorting) (whole .sorting) (q .jobs) (l .sorting))
+
+  pub plan-least-flight : Least figureOfFlight (readSheet sheet) (chosenPlan (readSheet sheet))
+  unfolding Least figureOfFlight chosenPlan
+  plan-least-flight q l =
+      omega (
+        arith,
+        flight-figure (readSheet sheet .flight) (whole .flight) (possible-of (lawful-possible q l)),
+        flight-least (readSheet sheet .flight) (whole .flight) (q .order) (q .passes) (l .flight) (l .kept) (l .order),
+      )
+
+  -- For every lawful plan Q and each section: Q's figure there equals ours exactly when every other lawful plan has at least as large a figure there.
+  module _ (q : Plan) (q-lawful : PlanLawful (readSheet sheet) q) where
+    ours : PlanLawful (readSheet sheet) (chosenPlan (readSheet sheet))
+    ours = plan-lawful (lawful-possible q q-lawful)
+
+    pub best-exactly-mosaic : (figureOfMosaic (readSheet sheet) q ≡ figureOfMosaic (readSheet sheet) (chosenPlan (readSheet sheet)) → Least figureOfMosaic (readSheet sheet) q)
+        × (Least figureOfMosaic (readSheet sheet) q → figureOfMosaic (readSheet sheet) q ≡ figureOfMosaic (readSheet sheet) (chosenPlan (readSheet sheet)))
+    best-exactly-mosaic = least-exactly figureOfMosaic (readSheet sheet) (chosenPlan (readSheet sheet)) ours plan-least-mosaic q q-lawful
+
+    pub best-exactly-sorting : (figureOfSorting (readSheet sheet) q ≡ figureOfSorting (readSheet sheet) (chosenPlan (readSheet sheet)) → Least figureOfSorting (readSheet sheet) q)
+        × (Least figureOfSorting (readSheet sheet) q → figureOfSorting (readSheet sheet) q ≡ figureOfSorting (readSheet sheet) (chosenPlan (readSheet sheet)))
+    best-exactly-sorting = least-exactly figureOfSorting (readSheet sheet) (chosenPlan (readSheet sheet)) ours plan-least-sorting q q-lawful
+
+    pub best-exactly-flight : (figureOfFlight (readSheet sheet) q ≡ figureOfFlight (readSheet sheet) (chosenPlan (readSheet sheet)) → Least figureOfFlight (readSheet sheet) q)
+        × (Least figureOfFlight (readSheet sheet) q → figureOfFlight (readSheet sheet) q ≡ figureOfFlight (readSheet sheet) (chosenPlan (readSheet sheet)))
+    best-exactly-flight = least-exactly figureOfFlight (readSheet sheet) (chosenPlan (readSheet sheet)) ours plan-least-flight q q-lawful
+
+    -- With a given order each pass of ours starts no later than the same pass in every lawful plan.
+    pub plan-earliest : readSheet sheet .flight .ordered ≡ true → (i : ℕ) → i < readSheet sheet .flight .blocks
+        → (passesAt (chosenPlan (readSheet sheet) .passes) i .first ≤ passesAt (q .passes) i .first)
+        × (passesAt (chosenPlan (readSheet sheet) .passes) i .second ≤ passesAt (q .passes) i .second)
+    unfolding chosenPlan
+    plan-earliest given i l = flight-earliest (readSheet sheet .flight) (whole .flight) (q .passes) (q-lawful .flight) keeps i l
+      where
+        same : q .order ≡ chosenOrder (readSheet sheet .flight)
+        same = q-lawful .order .as-given given ∙ sym (chosen-given (readSheet sheet .flight) given)
+
+        keeps : Keeps (readSheet sheet .flight) (chosenOrder (readSheet sheet .flight)) (q .passes)
+        keeps = subst (λ (w : ℕ). Keeps (readSheet sheet .flight) w (q .passes)) same (q-lawful .kept)
+
+  -- The answers, with buffers that are large enough.
+  module _ (planRoom tableRoom : ℕ) (plan-large : planLength ≤ planRoom) (table-large : tableLength ≤ tableRoom) where
+    answer-is : (b : Bool) → isPossible (readSheet sheet .flight) ≡ b → answerOf sheet planRoom tableRoom .number ≡ elim b [ true ↦ 0 | false ↦ orderImpossible ]
+    unfolding answerOf sheetAnswer
+    answer-is true e = rw (le-ltb tableRoom tableLength table-large, le-ltb planRoom planLength plan-large, eq-eqb (readSheet sheet .number) 0 sound, e)
+    answer-is false e = rw (le-ltb tableRoom tableLength table-large, le-ltb planRoom planLength plan-large, eq-eqb (readSheet sheet .number) 0 sound, e)
+
+    -- A sheet that is sound and possible is accepted.
+    pub accepted-exactly : (Possible (readSheet sheet) → answerOf sheet planRoom tableRoom .number ≡ 0) × (answerOf sheet planRoom tableRoom .number ≡ 0 → Possible (readSheet sheet))
+    accepted-exactly = (λ p. answer-is true (possible-of p), λ z. go (isPossible (readSheet sheet .flight)) refl z)
+      where
+        go : (b : Bool) → isPossible (readSheet sheet .flight) ≡ b → answerOf sheet planRoom tableRoom .number ≡ 0 → Possible (readSheet sheet)
+        go true e z = of-possible e
+        go false e z = absurd (omega (arith, answer-is false e))
+
+    -- It is refused with 11 exactly where no timetable keeps an allowed order.
+    pub impossible-exactly : (answerOf sheet planRoom tableRoom .number ≡ orderImpossible → Possible (readSheet sheet) → ⊥)
+        × ((Possible (readSheet sheet) → ⊥) → answerOf sheet planRoom tableRoom .number ≡ orderImpossible)
+    impossible-exactly = (
+      λ z p. eleven z (answer-is true (possible-of p)),
+      λ none. go (isPossible (readSheet sheet .flight)) refl none,
+    )
+      where
+        eleven : answerOf sheet planRoom tableRoom .number ≡ orderImpossible → answerOf sheet planRoom tableRoom .number ≡ 0 → ⊥
+        eleven z e = omega arith
+
+        go : (b : Bool) → isPossible (readSheet sheet .flight) ≡ b → (Possible (readSheet sheet) → ⊥) → answerOf sheet planRoom tableRoom .number ≡ orderImpossible
+        go true e none = absurd (none (of-possible e))
+        go false e none = answer-is false e
+
