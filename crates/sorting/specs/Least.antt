@@ -23,7 +23,7 @@ use Rattle.sorting.specs.Instance.{instance-sound, weight-of}
 use Rattle.sorting.specs.Route.{Serves, reached-same, reached-next, reached-consistent, reached-left, reached-lengths, reached-completes, step-time, step-cost, free-same, free-other, jobs-same, jobs-other, taken-is, path-begins}
 use Rattle.sorting.specs.Chosen.{chosenDesk, chosenState, chosen}
 use Rattle.sorting.specs.Times.{scan-time, desk-time, strips-of, no-strips, start-taken, start-free, start-time, start-cost}
-use Rattle.sorting.specs.Lawful.{desk-is, scan-is, start-is}
+use Rattle.sorting.specs.Lawful.{job-start, desk-is, scan-is, start-is}
 
 jobs-next : (js : List Job) (desk i : ℕ) → jobsOf js desk i ≤ jobsOf js desk (suc i)
 jobs-next js desk i = go (ℕ-discrete (jobAt js i .desk) desk)
@@ -175,7 +175,7 @@ module _ (s : SortingSection) (h : SortingSound s) (js : List Job) (law : Sortin
     pub lawful-later : (jobAt (chosenJobs s) i .scan ≤ jobAt js i .scan) × (jobAt (chosenJobs s) i .start ≤ jobAt js i .start)
     lawful-later = (
       omega (arith, scan-is s h i (omega (arith, lawful-length)), ap (λ (x : State). x .time) state, ahead i (omega arith) .time i (le-refl _) l),
-      omega (arith, start-is s h i (omega (arith, lawful-length)), ap (λ (x : State). maxOf (getD (x .free) (G i) 0) (scanned J x (G i))) state, ap (λ (d : ℕ). maxOf (getD (chosenState J i .free) d 0) (scanned J (chosenState J i) d)) desk, start-ahead i l (ahead i (omega arith))),
+      omega (arith, start-is s h i (omega (arith, lawful-length)), job-start J (chosenState J i) (chosenDesk J i), ap (λ (x : State). maxOf (getD (x .free) (G i) 0) (scanned J x (G i))) state, ap (λ (d : ℕ). maxOf (getD (chosenState J i .free) d 0) (scanned J (chosenState J i) d)) desk, start-ahead i l (ahead i (omega arith))),
     )
 
   module _ (least : sortingFigure s js ≡ leastFigure s) where
