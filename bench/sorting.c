@@ -9,14 +9,14 @@
 
 typedef uint64_t u64;
 
-extern void sorting_best(const u64 *jobs, size_t jobs_len, u64 *table, size_t table_len, u64 *out);
-
 enum { COUNTS = 3, TIMES = 18, JOBS = 57, TABLE = 6400, KEYS = 343, LABELS = 5488 };
 
 static u64 jobs[JOBS], table[TABLE];
 
 typedef struct { u64 left, time, cost, path, free[3], taken[3]; } State;
 typedef struct { u64 figure, path; } Incumbent;
+
+extern Incumbent sorting_best(const u64 *jobs, size_t jobs_len, u64 *table, size_t table_len);
 
 static u64 nodes;
 
@@ -189,9 +189,7 @@ static Incumbent plain(void)
 
 static Incumbent ours(void)
 {
-    u64 out[2];
-    sorting_best(jobs, JOBS, table, TABLE, out);
-    return (Incumbent){out[0], out[1]};
+    return sorting_best(jobs, JOBS, table, TABLE);
 }
 
 /* families of instances */

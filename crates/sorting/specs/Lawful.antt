@@ -2,7 +2,7 @@
 use mathlib.Core.Path.{_≡_, refl, sym, ap, subst, _∙_}
 use mathlib.Core.List.{List}
 use Prim.Native.Nat.{ℕ, zero, suc, _+_, _-_, _*_, _≤_, _<_}
-use native.Mathlib.Nat.{le-refl, le-trans}
+use native.Mathlib.Nat.{le-refl}
 use native.Mathlib.Decide.{decLt, ℕ-discrete}
 use native.Mathlib.Omega.{arith}
 use lib.ListN.{length, getD}
@@ -19,7 +19,7 @@ use Rattle.interleaving.specs.Consistent.{Consistent, consistent-start}
 use Rattle.sorting.specs.Plan.{instanceOf, leastFigure, reached, jobOf, jobsOfList, chosenJobs}
 use Rattle.sorting.specs.Listed.{listed-length, listed-at}
 use Rattle.sorting.specs.Instance.{instance-sound, scan-of, desk-of, weight-of}
-use Rattle.sorting.specs.Route.{reached-consistent, reached-left, reached-lengths, step-time, step-cost, free-same, free-other, taken-is}
+use Rattle.sorting.specs.Route.{rises, reached-consistent, reached-left, reached-lengths, step-time, step-cost, free-same, free-other, taken-is}
 use Rattle.sorting.specs.Chosen.{chosenDesk, chosenState, Chosen, chosen}
 use Rattle.sorting.specs.Times.{scan-time, desk-time, strips-of, no-strips, start-taken, start-free, start-time, start-cost}
 
@@ -112,15 +112,7 @@ module _ (s : SortingSection) (h : SortingSound s) where
   time-next i = step-time J (S i) (F i)
 
   time-mono : (i k : ℕ) → i ≤ k → S i .time ≤ S k .time
-  time-mono i zero l = rw none (le-refl _)
-    where
-      none : i ≡ 0
-      none = omega arith
-  time-mono i (suc k) l = go (ℕ-discrete i (suc k)) (time-mono i k)
-    where
-      go : Dec (i ≡ suc k) → (i ≤ k → S i .time ≤ S k .time) → S i .time ≤ S (suc k) .time
-      go (yes e) m = rw e (le-refl _)
-      go (no e) m = omega (arith, time-next k, m (omega arith))
+  time-mono i k l = rises (λ x. S x .time) k (λ x m. omega (arith, time-next x)) i k l (le-refl _)
 
   free-next : (i d : ℕ) → i < N → getD (S i .free) d 0 ≤ getD (S (suc i) .free) d 0
   unfolding reached
@@ -133,15 +125,7 @@ module _ (s : SortingSection) (h : SortingSound s) where
       go (no e) = omega (arith, free-other J (S i) (F i) d e)
 
   free-mono : (i k d : ℕ) → i ≤ k → k ≤ N → getD (S i .free) d 0 ≤ getD (S k .free) d 0
-  free-mono i zero d l m = rw none (le-refl _)
-    where
-      none : i ≡ 0
-      none = omega arith
-  free-mono i (suc k) d l m = go (ℕ-discrete i (suc k)) (λ q. free-mono i k d q (omega arith))
-    where
-      go : Dec (i ≡ suc k) → (i ≤ k → getD (S i .free) d 0 ≤ getD (S k .free) d 0) → getD (S i .free) d 0 ≤ getD (S (suc k) .free) d 0
-      go (yes e) q = rw e (le-refl _)
-      go (no e) q = le-trans (q (omega arith)) (free-next k d (omega arith))
+  free-mono i k d l m = rises (λ x. getD (S x .free) d 0) N (λ x q. free-next x d q) i k l m
 
   free-after : (i : ℕ) → i < N → getD (S (suc i) .free) (F i) 0 ≡ finish J (S i) (F i)
   unfolding reached

@@ -20,7 +20,7 @@ use Rattle.interleaving.specs.Consistent.{Consistent, consistent-start}
 use Rattle.interleaving.specs.Completion.{bound-completes, search-first, step-path}
 use Rattle.sorting.specs.Plan.{instanceOf, leastFigure, reached, chosenJobs}
 use Rattle.sorting.specs.Instance.{instance-sound, weight-of}
-use Rattle.sorting.specs.Route.{Serves, reached-same, reached-next, reached-consistent, reached-left, reached-lengths, reached-completes, step-time, step-cost, free-same, free-other, jobs-same, jobs-other, taken-is, path-begins}
+use Rattle.sorting.specs.Route.{rises, Serves, reached-same, reached-next, reached-consistent, reached-left, reached-lengths, reached-completes, step-time, step-cost, free-same, free-other, jobs-same, jobs-other, taken-is, path-begins}
 use Rattle.sorting.specs.Chosen.{chosenDesk, chosenState, chosen}
 use Rattle.sorting.specs.Times.{scan-time, desk-time, strips-of, no-strips, start-taken, start-free, start-time, start-cost}
 use Rattle.sorting.specs.Lawful.{job-start, desk-is, scan-is, start-is}
@@ -33,15 +33,7 @@ jobs-next js desk i = go (ℕ-discrete (jobAt js i .desk) desk)
     go (no e) = omega (arith, jobs-other js desk i e)
 
 jobs-mono : (js : List Job) (desk i k : ℕ) → i ≤ k → jobsOf js desk i ≤ jobsOf js desk k
-jobs-mono js desk i zero l = rw none (le-refl _)
-  where
-    none : i ≡ 0
-    none = omega arith
-jobs-mono js desk i (suc k) l = go (ℕ-discrete i (suc k)) (jobs-mono js desk i k)
-  where
-    go : Dec (i ≡ suc k) → (i ≤ k → jobsOf js desk i ≤ jobsOf js desk k) → jobsOf js desk i ≤ jobsOf js desk (suc k)
-    go (yes e) m = rw e (le-refl _)
-    go (no e) m = le-trans (m (omega arith)) (jobs-next js desk k)
+jobs-mono js desk i k l = rises (jobsOf js desk) k (λ x m. jobs-next js desk x) i k l (le-refl _)
 
 none-over : (J : List ℕ) (s : State) → Consistent J s → ((d : ℕ) → d < 3 → getD J d 0 ≤ getD (s .taken) d 0) → s .left ≡ 0
 none-over J s g h = omega (arith, g .left, h 0 (omega arith), h 1 (omega arith), h 2 (omega arith))
