@@ -1,6 +1,6 @@
 /* Times the search of the sorting planner against plain C: the same search with the same cuts, and plain enumeration of all interleavings.
    Full sections of 6 + 6 + 6 strips, in families; ours and the C search must give the same figure and the same list as plain enumeration.
-   cc -O2 bench/sorting.c target/staticlib/libsorting_bench.a; arguments: instances to a family, repetitions of a short run. */
+   bench/sorting.sh builds and runs it. Arguments: instances to a family, repetitions of a short run (the least time counts). */
 #include <stdint.h>
 #include <stdio.h>
 #include <stdlib.h>
@@ -9,14 +9,14 @@
 
 typedef uint64_t u64;
 
-extern void sorting_best(const u64 *jobs, size_t jobs_len, u64 *table, size_t table_len, u64 *out);
-
 enum { COUNTS = 3, TIMES = 18, JOBS = 57, TABLE = 6400, KEYS = 343, LABELS = 5488 };
 
 static u64 jobs[JOBS], table[TABLE];
 
 typedef struct { u64 left, time, cost, path, free[3], taken[3]; } State;
 typedef struct { u64 figure, path; } Incumbent;
+
+extern Incumbent sorting_best(const u64 *jobs, size_t jobs_len, u64 *table, size_t table_len);
 
 static u64 nodes;
 
@@ -189,9 +189,7 @@ static Incumbent plain(void)
 
 static Incumbent ours(void)
 {
-    u64 out[2];
-    sorting_best(jobs, JOBS, table, TABLE, out);
-    return (Incumbent){out[0], out[1]};
+    return sorting_best(jobs, JOBS, table, TABLE);
 }
 
 /* families of instances */
@@ -256,13 +254,13 @@ static int rising(const void *a, const void *b)
 
 int main(int argc, char **argv)
 {
-    int count = argc > 1 ? atoi(argv[1]) : 5, times = argc > 2 ? atoi(argv[2]) : 3, wrong = 0;
+    int count = argc > 1 ? atoi(argv[1]) : 5, times = argc > 2 ? atoi(argv[2]) : 5, wrong = 0;
     double *to_c = malloc(count * sizeof *to_c), *to_plain = malloc(count * sizeof *to_plain), *took = malloc(count * sizeof *took);
     printf("%-26s %10s %10s %12s | %9s %9s | %10s %10s\n", "family (6 + 6 + 6)", "nodes", "worst", "plain nodes", "median ms", "worst ms", "to same C", "to plain");
     for (int f = 0; f < 9; f++) {
         u64 sum = 0, most = 0, all = 0;
         for (int i = 0; i < count; i++) {
-            Incumbent a, b, c;
+            Incumbent a = {0, 0}, b = {0, 0}, c = {0, 0};
             make(f, i);
             double t = timed(ours, times, &a);
             nodes = 0;

@@ -8,7 +8,7 @@ use native.Mathlib.Omega.{arith}
 use lib.ListN.{length, getD, set, length-set}
 use lib.Seq.{getD-set-same, getD-set-other}
 use Rattle.interleaving.specs.declared.State.{State}
-use Rattle.interleaving.specs.Instance.{Instance, scanOf, deskOf, weightOf, instanceLength, timeCap, scannerCap, stripSpan, freeCap, stripCost, costCap, pathCap}
+use Rattle.interleaving.specs.Instance.{Instance, scanOf, deskOf, weightOf, instanceLength, timeCap, weightCap, scannerCap, stripSpan, freeCap, stripCost, costCap, pathCap}
 use Rattle.interleaving.specs.Search.{maxOf, StripLeft, scanned, finish, stepOf}
 use Rattle.interleaving.specs.SearchLaws.{max-least}
 
@@ -25,8 +25,11 @@ pub record Capped (s : State) : Type 0 where
 -- what the sums of a step come to
 pub record StepCapped (J : List ℕ) (s : State) (d : ℕ) : Type 0 where
   pub index : d * 6 + getD (s .taken) d 0 ≤ 17
-  pub p : scanOf J d (getD (s .taken) d 0) ≤ timeCap
-  pub q : deskOf J d (getD (s .taken) d 0) ≤ timeCap
+  pub scan : scanOf J d (getD (s .taken) d 0) ≤ timeCap
+  pub desk : deskOf J d (getD (s .taken) d 0) ≤ timeCap
+  pub weight : weightOf J d (getD (s .taken) d 0) ≤ weightCap
+  pub free : getD (s .free) d 0 ≤ freeCap
+  pub before : s .cost ≤ costCap
   pub time : scanned J s d + (s .left - 1) * timeCap ≤ scannerCap
   pub done : finish J s d + (s .left - 1) * stripSpan ≤ freeCap
   pub cost : s .cost + weightOf J d (getD (s .taken) d 0) * finish J s d + (s .left - 1) * stripCost ≤ costCap
@@ -50,15 +53,15 @@ module _ (J : List ℕ) (j : Instance J) (s : State) (f : Capped s) (d : ℕ) (p
   scan-small : scanOf J d (getD (s .taken) d 0) ≤ timeCap
   scan-small = j .small (d * 6 + getD (s .taken) d 0)
 
-  work-small : deskOf J d (getD (s .taken) d 0) ≤ timeCap
-  work-small = rw e (j .small (18 + (d * 6 + getD (s .taken) d 0)))
+  desk-small : deskOf J d (getD (s .taken) d 0) ≤ timeCap
+  desk-small = rw e (j .small (18 + (d * 6 + getD (s .taken) d 0)))
     where
       e : 3 + (d * 6 + getD (s .taken) d 0) + 18 ≡ 3 + (18 + (d * 6 + getD (s .taken) d 0))
       e = omega arith
 
   finish-small : finish J s d + (s .left - 1) * stripSpan ≤ freeCap
   finish-small =
-      omega (arith, max-least (getD (s .free) d 0) (scanned J s d) (freeCap - s .left * stripSpan + timeCap) (omega (arith, f .free d)) (omega (arith, f .time, f .left, scan-small)), f .left, work-small)
+      omega (arith, max-least (getD (s .free) d 0) (scanned J s d) (freeCap - s .left * stripSpan + timeCap) (omega (arith, f .free d)) (omega (arith, f .time, f .left, scan-small)), f .left, desk-small)
 
   weighted-small : weightOf J d (getD (s .taken) d 0) * finish J s d ≤ stripCost
   weighted-small = le-trans (mul-le-mul-right (finish J s d) (j .light (d * 6 + getD (s .taken) d 0))) (omega (arith, finish-small))
@@ -72,8 +75,11 @@ module _ (J : List ℕ) (j : Instance J) (s : State) (f : Capped s) (d : ℕ) (p
   pub step-capped : StepCapped J s d
   step-capped = record {
     index = at-most;
-    p = scan-small;
-    q = work-small;
+    scan = scan-small;
+    desk = desk-small;
+    weight = j .light (d * 6 + getD (s .taken) d 0);
+    free = omega (arith, f .free d);
+    before = omega (arith, f .cost);
     time = omega (arith, f .time, scan-small);
     done = finish-small;
     cost = omega (arith, f .cost, weighted-small);
@@ -102,6 +108,10 @@ module _ (J : List ℕ) (j : Instance J) (s : State) (f : Capped s) (d : ℕ) (p
 pub can-serve-capped : {J : List ℕ} {s : State} {d : ℕ} → CanServe J s d → StepCapped J s d
 can-serve-capped {J} {s} {d} h = step-capped J (h .jobs) s (h .capped) d (h .desk) (h .strip) (h .left)
 
-pub step-capped-by : (J : List ℕ) (s : State) (d m : ℕ) → StepCapped J s d → m ≡ maxOf (getD (s .free) d 0) (scanned J s d)
-    → (weightOf J d (getD (s .taken) d 0) * (m + deskOf J d (getD (s .taken) d 0)) ≤ stripCost) × (s .cost + weightOf J d (getD (s .taken) d 0) * (m + deskOf J d (getD (s .taken) d 0)) ≤ costCap)
-step-capped-by J s d m h e = rw e (h .weighted, omega (arith, h .cost))
+-- the later of two times that are capped, and the cost of a strip that starts there
+pub later-capped : (a b m : ℕ) → m ≡ maxOf a b → a ≤ freeCap → b ≤ freeCap → m ≤ freeCap
+later-capped a b m e p q = rw e (max-least a b freeCap p q)
+
+pub weighted-capped : {J : List ℕ} {s : State} {d : ℕ} → StepCapped J s d → (m : ℕ) → m ≤ freeCap
+    → weightOf J d (getD (s .taken) d 0) * (m + deskOf J d (getD (s .taken) d 0)) ≤ weightCap * (freeCap + timeCap)
+weighted-capped {J} {s} {d} h m l = le-trans (mul-le-mul-right (m + deskOf J d (getD (s .taken) d 0)) (h .weight)) (omega (arith, h .desk))

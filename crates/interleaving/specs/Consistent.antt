@@ -55,6 +55,12 @@ module _ (J : List ℕ) (j : Instance J) (s : State) (g : Consistent J s) (d : �
       go e q (yes w) = rw (w, getD-set-same (s .taken) d (getD (s .taken) d 0 + 1) 0 (omega (arith, g .fits .takens))) (omega arith)
       go e q (no w) = rw (getD-set-other (s .taken) d e (getD (s .taken) d 0 + 1) 0 w) (g .within e q)
 
+pub zeros : (d : ℕ) → getD {A = ℕ} (replicate 3 0) d 0 ≡ 0
+zeros zero = refl
+zeros (suc zero) = refl
+zeros (suc (suc zero)) = refl
+zeros (suc (suc (suc d))) = refl
+
 pub consistent-start : (J : List ℕ) → Instance J → Consistent J (startState J)
 unfolding startState scanSum
 consistent-start J j = record {
@@ -74,12 +80,6 @@ consistent-start J j = record {
   where
     few : getD J 0 0 + getD J 1 0 + getD J 2 0 ≤ 18
     few = omega (arith, j .few 0 (omega arith), j .few 1 (omega arith), j .few 2 (omega arith))
-
-    zeros : (d : ℕ) → getD {A = ℕ} (replicate 3 0) d 0 ≡ 0
-    zeros zero = refl
-    zeros (suc zero) = refl
-    zeros (suc (suc zero)) = refl
-    zeros (suc (suc (suc d))) = refl
 
 pub start-sum : (J : List ℕ) → Instance J → getD J 0 0 + getD J 1 0 + getD J 2 0 ≤ 18
 start-sum J j = omega (arith, j .few 0 (omega arith), j .few 1 (omega arith), j .few 2 (omega arith))

@@ -1,8 +1,8 @@
 -- The chosen jobs are a lawful timetable, and their figure is the least figure. Each job is read off the state that the list has reached.
-use mathlib.Core.Path.{_≡_, sym, ap, subst, _∙_}
+use mathlib.Core.Path.{_≡_, refl, sym, ap, subst, _∙_}
 use mathlib.Core.List.{List}
 use Prim.Native.Nat.{ℕ, zero, suc, _+_, _-_, _*_, _≤_, _<_}
-use native.Mathlib.Nat.{le-refl, le-trans}
+use native.Mathlib.Nat.{le-refl}
 use native.Mathlib.Decide.{decLt, ℕ-discrete}
 use native.Mathlib.Omega.{arith}
 use lib.ListN.{length, getD}
@@ -19,9 +19,23 @@ use Rattle.interleaving.specs.Consistent.{Consistent, consistent-start}
 use Rattle.sorting.specs.Plan.{instanceOf, leastFigure, reached, jobOf, jobsOfList, chosenJobs}
 use Rattle.sorting.specs.Listed.{listed-length, listed-at}
 use Rattle.sorting.specs.Instance.{instance-sound, scan-of, desk-of, weight-of}
-use Rattle.sorting.specs.Route.{reached-consistent, reached-left, reached-lengths, step-time, step-cost, free-same, free-other, taken-is}
+use Rattle.sorting.specs.Route.{rises, reached-consistent, reached-left, reached-lengths, step-time, step-cost, free-same, free-other, taken-is}
 use Rattle.sorting.specs.Chosen.{chosenDesk, chosenState, Chosen, chosen}
 use Rattle.sorting.specs.Times.{scan-time, desk-time, strips-of, no-strips, start-taken, start-free, start-time, start-cost}
+
+-- a job starts once its scan ends and its desk is free, and no later
+module _ (J : List ℕ) (s : State) (d : ℕ) where
+  job-after-scan : scanned J s d ≤ jobOf J s d .start
+  unfolding jobOf
+  job-after-scan = max-right (getD (s .free) d 0) (scanned J s d)
+
+  job-after-desk : getD (s .free) d 0 ≤ jobOf J s d .start
+  unfolding jobOf
+  job-after-desk = max-left (getD (s .free) d 0) (scanned J s d)
+
+  pub job-start : jobOf J s d .start ≡ maxOf (getD (s .free) d 0) (scanned J s d)
+  unfolding jobOf
+  job-start = refl
 
 -- all desks of a consistent state with no strip left are through
 pub all-taken : (J : List ℕ) (s : State) → Consistent J s → s .left ≡ 0 → (d : ℕ) → d < 3 → getD (s .taken) d 0 ≡ getD J d 0
@@ -69,8 +83,7 @@ module _ (s : SortingSection) (h : SortingSound s) where
   unfolding jobOf
   scan-is i l = ap (λ (q : Job). q .scan) (chosen-at i l)
 
-  pub start-is : (i : ℕ) → i < N → jobAt (chosenJobs s) i .start ≡ maxOf (getD (S i .free) (F i) 0) (scanned J (S i) (F i))
-  unfolding jobOf
+  pub start-is : (i : ℕ) → i < N → jobAt (chosenJobs s) i .start ≡ jobOf J (S i) (F i) .start
   start-is i l = ap (λ (q : Job). q .start) (chosen-at i l)
 
   consistent : (i : ℕ) → i ≤ N → Consistent J (S i)
@@ -91,7 +104,7 @@ module _ (s : SortingSection) (h : SortingSound s) where
 
   finish-is : (i : ℕ) → i < N → deskFinish s (jobAt (chosenJobs s) i) ≡ finish J (S i) (F i)
   unfolding deskFinish
-  finish-is i l = omega (arith, start-is i l, desk-time s h (jobAt (chosenJobs s) i) (F i) (getD (S i .taken) (F i) 0) (desk-is i l) (number-is i l) (in-slot i l))
+  finish-is i l = omega (arith, start-is i l, job-start J (S i) (F i), desk-time s h (jobAt (chosenJobs s) i) (F i) (getD (S i .taken) (F i) 0) (desk-is i l) (number-is i l) (in-slot i l))
 
   -- the scanner's time and each desk's free time never fall
   time-next : (i : ℕ) → S (suc i) .time ≡ scanned J (S i) (F i)
@@ -99,15 +112,7 @@ module _ (s : SortingSection) (h : SortingSound s) where
   time-next i = step-time J (S i) (F i)
 
   time-mono : (i k : ℕ) → i ≤ k → S i .time ≤ S k .time
-  time-mono i zero l = rw none (le-refl _)
-    where
-      none : i ≡ 0
-      none = omega arith
-  time-mono i (suc k) l = go (ℕ-discrete i (suc k)) (time-mono i k)
-    where
-      go : Dec (i ≡ suc k) → (i ≤ k → S i .time ≤ S k .time) → S i .time ≤ S (suc k) .time
-      go (yes e) m = rw e (le-refl _)
-      go (no e) m = omega (arith, time-next k, m (omega arith))
+  time-mono i k l = rises (λ x. S x .time) k (λ x m. omega (arith, time-next x)) i k l (le-refl _)
 
   free-next : (i d : ℕ) → i < N → getD (S i .free) d 0 ≤ getD (S (suc i) .free) d 0
   unfolding reached
@@ -120,15 +125,7 @@ module _ (s : SortingSection) (h : SortingSound s) where
       go (no e) = omega (arith, free-other J (S i) (F i) d e)
 
   free-mono : (i k d : ℕ) → i ≤ k → k ≤ N → getD (S i .free) d 0 ≤ getD (S k .free) d 0
-  free-mono i zero d l m = rw none (le-refl _)
-    where
-      none : i ≡ 0
-      none = omega arith
-  free-mono i (suc k) d l m = go (ℕ-discrete i (suc k)) (λ q. free-mono i k d q (omega arith))
-    where
-      go : Dec (i ≡ suc k) → (i ≤ k → getD (S i .free) d 0 ≤ getD (S k .free) d 0) → getD (S i .free) d 0 ≤ getD (S (suc k) .free) d 0
-      go (yes e) q = rw e (le-refl _)
-      go (no e) q = le-trans (q (omega arith)) (free-next k d (omega arith))
+  free-mono i k d l m = rises (λ x. getD (S x .free) d 0) N (λ x q. free-next x d q) i k l m
 
   free-after : (i : ℕ) → i < N → getD (S (suc i) .free) (F i) 0 ≡ finish J (S i) (F i)
   unfolding reached
@@ -192,7 +189,7 @@ module _ (s : SortingSection) (h : SortingSound s) where
 
   one-job : (i k : ℕ) → i < k → k < N → jobAt (chosenJobs s) i .desk ≡ jobAt (chosenJobs s) k .desk → deskFinish s (jobAt (chosenJobs s) i) ≤ jobAt (chosenJobs s) k .start
   one-job i k l m e =
-      omega (arith, finish-is i (omega arith), free-after i (omega arith), free-mono (suc i) k (F i) (omega arith) (omega arith), ap (λ (x : ℕ). getD (S k .free) x 0) same, max-left (getD (S k .free) (F k) 0) (scanned J (S k) (F k)), start-is k m)
+      omega (arith, finish-is i (omega arith), free-after i (omega arith), free-mono (suc i) k (F i) (omega arith) (omega arith), ap (λ (x : ℕ). getD (S k .free) x 0) same, job-after-desk J (S k) (F k), start-is k m)
     where
       same : F i ≡ F k
       same = omega (arith, desk-is i (omega arith), desk-is k m)
@@ -203,7 +200,7 @@ module _ (s : SortingSection) (h : SortingSound s) where
     in-turn = λ i l. in-turn i (at i l);
     all-strips = λ desk p q. ap (jobsOf (chosenJobs s) desk) chosen-length ∙ all-strips desk p q;
     one-scan = λ i k l m. omega (arith, scan-end i (omega (arith, at k m)), time-next i, time-mono (suc i) k (omega arith), scan-is k (at k m));
-    after-scan = λ i l. omega (arith, scan-end i (at i l), start-is i (at i l), max-right (getD (S i .free) (F i) 0) (scanned J (S i) (F i)));
+    after-scan = λ i l. omega (arith, scan-end i (at i l), start-is i (at i l), job-after-scan J (S i) (F i));
     one-job = λ i k l m e. one-job i k l (at k m) e;
     within = λ i l. omega (arith, chosen-early i (at i l));
   }

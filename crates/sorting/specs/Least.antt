@@ -20,10 +20,10 @@ use Rattle.interleaving.specs.Consistent.{Consistent, consistent-start}
 use Rattle.interleaving.specs.Completion.{bound-completes, search-first, step-path}
 use Rattle.sorting.specs.Plan.{instanceOf, leastFigure, reached, chosenJobs}
 use Rattle.sorting.specs.Instance.{instance-sound, weight-of}
-use Rattle.sorting.specs.Route.{Serves, reached-same, reached-next, reached-consistent, reached-left, reached-lengths, reached-completes, step-time, step-cost, free-same, free-other, jobs-same, jobs-other, taken-is, path-begins}
+use Rattle.sorting.specs.Route.{rises, Serves, reached-same, reached-next, reached-consistent, reached-left, reached-lengths, reached-completes, step-time, step-cost, free-same, free-other, jobs-same, jobs-other, taken-is, path-begins}
 use Rattle.sorting.specs.Chosen.{chosenDesk, chosenState, chosen}
 use Rattle.sorting.specs.Times.{scan-time, desk-time, strips-of, no-strips, start-taken, start-free, start-time, start-cost}
-use Rattle.sorting.specs.Lawful.{desk-is, scan-is, start-is}
+use Rattle.sorting.specs.Lawful.{job-start, desk-is, scan-is, start-is}
 
 jobs-next : (js : List Job) (desk i : ℕ) → jobsOf js desk i ≤ jobsOf js desk (suc i)
 jobs-next js desk i = go (ℕ-discrete (jobAt js i .desk) desk)
@@ -33,15 +33,7 @@ jobs-next js desk i = go (ℕ-discrete (jobAt js i .desk) desk)
     go (no e) = omega (arith, jobs-other js desk i e)
 
 jobs-mono : (js : List Job) (desk i k : ℕ) → i ≤ k → jobsOf js desk i ≤ jobsOf js desk k
-jobs-mono js desk i zero l = rw none (le-refl _)
-  where
-    none : i ≡ 0
-    none = omega arith
-jobs-mono js desk i (suc k) l = go (ℕ-discrete i (suc k)) (jobs-mono js desk i k)
-  where
-    go : Dec (i ≡ suc k) → (i ≤ k → jobsOf js desk i ≤ jobsOf js desk k) → jobsOf js desk i ≤ jobsOf js desk (suc k)
-    go (yes e) m = rw e (le-refl _)
-    go (no e) m = le-trans (m (omega arith)) (jobs-next js desk k)
+jobs-mono js desk i k l = rises (jobsOf js desk) k (λ x m. jobs-next js desk x) i k l (le-refl _)
 
 none-over : (J : List ℕ) (s : State) → Consistent J s → ((d : ℕ) → d < 3 → getD J d 0 ≤ getD (s .taken) d 0) → s .left ≡ 0
 none-over J s g h = omega (arith, g .left, h 0 (omega arith), h 1 (omega arith), h 2 (omega arith))
@@ -175,7 +167,7 @@ module _ (s : SortingSection) (h : SortingSound s) (js : List Job) (law : Sortin
     pub lawful-later : (jobAt (chosenJobs s) i .scan ≤ jobAt js i .scan) × (jobAt (chosenJobs s) i .start ≤ jobAt js i .start)
     lawful-later = (
       omega (arith, scan-is s h i (omega (arith, lawful-length)), ap (λ (x : State). x .time) state, ahead i (omega arith) .time i (le-refl _) l),
-      omega (arith, start-is s h i (omega (arith, lawful-length)), ap (λ (x : State). maxOf (getD (x .free) (G i) 0) (scanned J x (G i))) state, ap (λ (d : ℕ). maxOf (getD (chosenState J i .free) d 0) (scanned J (chosenState J i) d)) desk, start-ahead i l (ahead i (omega arith))),
+      omega (arith, start-is s h i (omega (arith, lawful-length)), job-start J (chosenState J i) (chosenDesk J i), ap (λ (x : State). maxOf (getD (x .free) (G i) 0) (scanned J x (G i))) state, ap (λ (d : ℕ). maxOf (getD (chosenState J i .free) d 0) (scanned J (chosenState J i) d)) desk, start-ahead i l (ahead i (omega arith))),
     )
 
   module _ (least : sortingFigure s js ≡ leastFigure s) where

@@ -3,7 +3,7 @@ use mathlib.Core.Path.{_≡_, refl, sym, ap, subst, _∙_}
 use mathlib.Core.Bool.{Bool, cond}
 use mathlib.Core.List.{List}
 use Prim.Native.Nat.{ℕ, zero, suc, _+_, _-_, _*_, _^_, _/_, _≤_, _<_}
-use native.Mathlib.Nat.{mul-assoc, pow-suc, div-eq-of-lt-le}
+use native.Mathlib.Nat.{le-refl, le-trans, mul-assoc, pow-suc, div-eq-of-lt-le}
 use native.Mathlib.Decide.{decLt, ℕ-discrete}
 use native.Mathlib.Omega.{arith}
 use lib.Dec.{eqb}
@@ -20,6 +20,18 @@ use Rattle.interleaving.specs.SearchLaws.{step-left}
 use Rattle.interleaving.specs.Consistent.{Consistent, consistent-step}
 use Rattle.interleaving.specs.Completion.{step-path}
 use Rattle.sorting.specs.Plan.{reached}
+
+-- what never falls from one place to the next never falls
+pub rises : (f : ℕ → ℕ) (n : ℕ) → ((i : ℕ) → i < n → f i ≤ f (suc i)) → (i k : ℕ) → i ≤ k → k ≤ n → f i ≤ f k
+rises f n h i zero l m = rw none (le-refl _)
+  where
+    none : i ≡ 0
+    none = omega arith
+rises f n h i (suc k) l m = go (ℕ-discrete i (suc k)) (λ q. rises f n h i k q (omega arith))
+  where
+    go : Dec (i ≡ suc k) → (i ≤ k → f i ≤ f k) → f i ≤ f (suc k)
+    go (yes e) q = rw e (le-refl _)
+    go (no e) q = le-trans (q (omega arith)) (h k (omega arith))
 
 pub reached-same : (J : List ℕ) (s : State) (f g : ℕ → ℕ) (n : ℕ) → ((i : ℕ) → i < n → f i ≡ g i) → reached J s f n ≡ reached J s g n
 unfolding reached

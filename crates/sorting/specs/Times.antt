@@ -1,7 +1,7 @@
 -- The times of a strip, as the rules and as the search read them.
 use mathlib.Core.Path.{_≡_, refl, sym, ap, _∙_}
 use mathlib.Core.List.{List}
-use Prim.Native.Nat.{ℕ, zero, suc, _+_, _-_, _*_, _≤_, _<_}
+use Prim.Native.Nat.{ℕ, _+_, _-_, _*_, _≤_, _<_}
 use native.Mathlib.Omega.{arith}
 use lib.ListN.{getD}
 use Rattle.sheet.specs.declared.SortingSection.{SortingSection}
@@ -10,6 +10,7 @@ use Rattle.rules.specs.declared.Job.{Job}
 use Rattle.rules.specs.Sorting.{slot, scanTime, deskTime, stripsOf}
 use Rattle.interleaving.specs.Instance.{scanOf, deskOf}
 use Rattle.interleaving.specs.Search.{startState}
+use Rattle.interleaving.specs.Consistent.{zeros}
 use Rattle.sorting.specs.Plan.{instanceOf}
 use Rattle.sorting.specs.Instance.{scan-of, desk-of, count-at}
 
@@ -42,17 +43,11 @@ module _ (s : SortingSection) (h : SortingSound s) where
 module _ (J : List ℕ) where
   pub start-taken : (d : ℕ) → getD (startState J .taken) d 0 ≡ 0
   unfolding startState
-  start-taken zero = refl
-  start-taken (suc zero) = refl
-  start-taken (suc (suc zero)) = refl
-  start-taken (suc (suc (suc d))) = refl
+  start-taken d = zeros d
 
   pub start-free : (d : ℕ) → getD (startState J .free) d 0 ≡ 0
   unfolding startState
-  start-free zero = refl
-  start-free (suc zero) = refl
-  start-free (suc (suc zero)) = refl
-  start-free (suc (suc (suc d))) = refl
+  start-free d = zeros d
 
   pub start-time : startState J .time ≡ 0
   unfolding startState
@@ -61,7 +56,3 @@ module _ (J : List ℕ) where
   pub start-cost : startState J .cost ≡ 0
   unfolding startState
   start-cost = refl
-
-  pub start-path : startState J .path ≡ 0
-  unfolding startState
-  start-path = refl

@@ -16,7 +16,7 @@ use Rattle.interleaving.specs.Instance.{largest, Instance, deskOf, weightOf}
 use Rattle.interleaving.specs.Search.{maxOf, scanned, finish, stepOf, searchFrom, LowerBound}
 use Rattle.interleaving.specs.SearchLaws.{max-left, max-right, max-least, bound-down, search-bound, search-falls}
 use Rattle.interleaving.specs.Consistent.{Consistent, sum3, scanSum}
-use Rattle.sorting_bounds.specs.Layout.{countKey, labelsLength}
+use Rattle.sorting_bounds.specs.Layout.{countKey, labelsLength, key-digits}
 
 -- a number that no label has
 abbrev pub noLabel : ℕ
@@ -133,17 +133,14 @@ module _ (M : List ℕ) (a : ℕ) (s : State) where
     store-3 = getD-set-same (set (set (set M a (s .cost)) (a + 1) (getD (s .free) 0 0)) (a + 2) (getD (s .free) 1 0)) (a + 3) (getD (s .free) 2 0) 0 (simp length-set (omega arith))
 
 module _ (J : List ℕ) (j : Instance J) where
-  -- equal keys, equal counts
+  -- equal numbers, equal counts
   same-counts : (s z : State) → Consistent J s → Consistent J z → countKey s ≡ countKey z → s .taken ≡ z .taken
   same-counts s z g h e = ext-getD 0 (s .taken) (z .taken) (g .fits .takens ∙ sym (h .fits .takens)) (λ i l. go i (omega (arith, g .fits .takens)))
     where
-      few : (x : State) → Consistent J x → (d : ℕ) → d < 3 → getD (x .taken) d 0 ≤ 6
-      few x k d p = le-trans (k .within d p) (j .few d p)
-
       go : (i : ℕ) → i < 3 → getD (s .taken) i 0 ≡ getD (z .taken) i 0
-      go zero p = omega (arith, few s g 0 (omega arith), few s g 1 (omega arith), few s g 2 (omega arith), few z h 0 (omega arith), few z h 1 (omega arith), few z h 2 (omega arith))
-      go (suc zero) p = omega (arith, few s g 0 (omega arith), few s g 1 (omega arith), few s g 2 (omega arith), few z h 0 (omega arith), few z h 1 (omega arith), few z h 2 (omega arith))
-      go (suc (suc zero)) p = omega (arith, few s g 0 (omega arith), few s g 1 (omega arith), few s g 2 (omega arith), few z h 0 (omega arith), few z h 1 (omega arith), few z h 2 (omega arith))
+      go zero p = omega (arith, key-digits J j s g, key-digits J j z h)
+      go (suc zero) p = omega (arith, key-digits J j s g, key-digits J j z h)
+      go (suc (suc zero)) p = omega (arith, key-digits J j s g, key-digits J j z h)
       go (suc (suc (suc i))) p = absurd (omega arith)
 
   dominated : (s z : State) → Consistent J s → Consistent J z → countKey s ≡ countKey z → s .cost ≤ z .cost → getD (s .free) 0 0 ≤ getD (z .free) 0 0 → getD (s .free) 1 0 ≤ getD (z .free) 1 0 → getD (s .free) 2 0 ≤ getD (z .free) 2 0 → Dominates s z
@@ -166,10 +163,7 @@ module _ (J : List ℕ) (j : Instance J) where
       go (suc (suc (suc d))) = rw (List·getD-eq-default (s .free) 0 {n = suc (suc (suc d))} (omega (arith, g .fits .frees))) (omega arith)
 
   key-small : (s : State) → Consistent J s → countKey s < 343
-  key-small s g = omega (arith, few 0 (omega arith), few 1 (omega arith), few 2 (omega arith))
-    where
-      few : (d : ℕ) → d < 3 → getD (s .taken) d 0 ≤ 6
-      few d p = le-trans (g .within d p) (j .few d p)
+  key-small s g = omega (arith, key-digits J j s g)
 
   pub labels-store : (M : List ℕ) (s : State) (slot B : ℕ) → labelsLength ≤ length M → slot < 4 → Consistent J s → LabelsHold J M B → LowerBound J (s .left) s B → LabelsHold J (storeLabel M (labelPlace (countKey s) slot) s) B
   unfolding LabelsHold

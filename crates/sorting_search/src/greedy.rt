@@ -1,5 +1,9 @@
 // A greedy list, whose figure is where the search starts.
+ghost use mathlib.Core.Path.{_≡_};
+ghost use Rattle.interleaving.specs.Search.{maxOf};
 ghost use Rattle.interleaving.specs.Caps.{CanServe};
+ghost use Rattle.sorting_bounds.specs.DeskBound.{deskBound};
+ghost use Rattle.sorting_bounds.specs.ScannerBound.{scannerBound};
 ghost use Rattle.sorting_search.specs.Greedy.{Bounded, Going, Choosing, GreedyFigure};
 use interleaving::State;
 
@@ -20,6 +24,7 @@ fn first_desk(jobs: &[u64], s: State, m: &[u64]) -> usize
 // The greater of the two lower bounds of s.
 fn lower_bound(jobs: &[u64], s: State, m: &[u64]) -> u64
     requires { ⌜ Bounded (now jobs) s (now m) ⌝ }
+    ensures { λ r. ⌜ r ≡ maxOf (scannerBound (now (m .entry)) s) (deskBound (now (jobs .entry)) s) ⌝ }
 {
     let k = super::labels::count_key(jobs, s);
     let by_scanner = sorting_bounds::scanner_bound::scanner_bound(jobs, s, k, m);

@@ -1,6 +1,6 @@
 -- `interleaving::step` meets its contract. What the strip's sums come to is known from `can-serve-capped`, so that none wraps;
 -- the new state is the definition's.
-use Rattle.interleaving.specs.Caps.{can-serve-capped, step-capped-by}
+use Rattle.interleaving.specs.Caps.{can-serve-capped, later-capped, weighted-capped}
 use Rattle.interleaving.specs.SearchLaws.{step-is}
 use native.Mathlib.Omega.{arith}
 use borrow.Author.Needs.{needs}
@@ -50,7 +50,7 @@ shared-slice-read-done : tie.Need-shared-slice-read-done
 shared-slice-read-done c = let h = can-serve-capped (c .before .before .before .before .before .before .before .pre) in omega arith
 
 add-done-2 : tie.Need-add-done-2
-add-done-2 c = let h = can-serve-capped (c .before .before .before .before .before .before .before .pre) in omega arith
+add-done-2 c = let h = can-serve-capped (c .before .before .before .before .before .before .before .pre) in let k = later-capped _ _ _ (c .before .later .ensures) (omega arith) (omega arith) in omega arith
 
 mul-free : tie.Need-mul-free
 mul-free c = search needs
@@ -80,10 +80,10 @@ shared-slice-read-t15 : tie.Need-shared-slice-read-t15
 shared-slice-read-t15 c = let h = can-serve-capped (c .before .before .before .before .before .before .before .before .before .pre) in omega arith
 
 mul-t18 : tie.Need-mul-t18
-mul-t18 c = let h = can-serve-capped (c .before .before .before .before .before .before .before .before .before .pre) in let k = step-capped-by _ _ _ _ h (c .before .before .before .later .ensures) in omega arith
+mul-t18 c = let h = can-serve-capped (c .before .before .before .before .before .before .before .before .before .pre) in let k = weighted-capped h _ (later-capped _ _ _ (c .before .before .before .later .ensures) (omega arith) (omega arith)) in omega arith
 
 add-t21 : tie.Need-add-t21
-add-t21 c = let h = can-serve-capped (c .before .before .before .before .before .before .before .before .before .before .pre) in let k = step-capped-by _ _ _ _ h (c .before .before .before .before .later .ensures) in omega arith
+add-t21 c = let h = can-serve-capped (c .before .before .before .before .before .before .before .before .before .before .pre) in let k = weighted-capped h _ (later-capped _ _ _ (c .before .before .before .before .later .ensures) (omega arith) (omega arith)) in omega arith
 
 mul-t27 : tie.Need-mul-t27
 mul-t27 c = let h = can-serve-capped (c .before .before .before .before .before .before .before .before .before .before .before .pre) in omega arith

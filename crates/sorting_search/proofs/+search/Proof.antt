@@ -80,10 +80,10 @@ search-strip-left-requires : (t : ℕ) → search-lts.Need-strip-left-requires (
 search-strip-left-requires t c κs = search needs
 
 search-step-requires : (t : ℕ) → search-lts.Need-step-requires (claims t) (search-at t) search′.Post search-Inv-loop search-μ-loop
-search-step-requires t c κs = search can-serve
+search-step-requires t c κs = let p : c .before .before .before .loop .d < 3 = omega arith in search can-serve
 
 search-search-requires : (t : ℕ) → search-lts.Need-search-requires (claims t) (search-at t) search′.Post search-Inv-loop search-μ-loop
-search-search-requires t c κs = (search (step-less, can-serve), search (searchable-step, can-serve))
+search-search-requires t c κs = let p : c .before .before .before .before .before .loop .d < 3 = omega arith in (search (step-less, can-serve), search (searchable-step, can-serve))
 
 search-add-d : (t : ℕ) → search-lts.Need-add-d (claims t) (search-at t) search′.Post search-Inv-loop search-μ-loop
 search-add-d t c = omega arith
