@@ -23,6 +23,7 @@ ghost use Rattle.judge.specs.Judged.{pickPart, sectionsFrom, statedFigur
 ghost use Rattle.judge.specs.Loops.{PartsAsked, StatedAsked};
 
 // What the judge answers: number 0, place 0 and the figure of each section, 0 for an absent one; or the number and place of a fault and no figure.
+#[repr(C)]
 pub struct Judged {
     pub number: u64,
     pub place: usize,
