@@ -1,0 +1,25 @@
+// The functions of the count viewer, which is written in C: thin, over the planner and the judge. The working table is supplied here.
+use judge::Judged;
+use planner::Answer;
+use sheet::limits::TABLE_LENGTH;
+
+ghost use mathlib.Core.Path.{_≡_};
+ghost use Rattle.judge.specs.Judged.{judged};
+ghost use Rattle.viewer.specs.Viewed.{Viewed};
+
+// Plans a sheet into a buffer.
+#[no_mangle]
+pub extern "C" fn sevulamon_plan(sheet: &[u8], plan: &mut [u8]) -> Answer
+    ensures { λ r. ⌜ Viewed (now (sheet .entry)) (now (plan .entry)) (now (plan .exit)) r ⌝ }
+{
+    let mut table = [0u64; TABLE_LENGTH];
+    planner::plan(sheet, plan, &mut table)
+}
+
+// Judges a plan for a sheet.
+#[no_mangle]
+pub extern "C" fn sevulamon_judge(sheet: &[u8], plan: &[u8]) -> Judged
+    ensures { λ r. ⌜ r ≡ judged (now (sheet .entry)) (now (plan .entry)) ⌝ }
+{
+    judge::judge(sheet, plan)
+}

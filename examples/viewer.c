@@ -1,0 +1,59 @@
+/* Plans a sheet file, judges the plan, and prints the timetable. */
+#include "sevulamon.h"
+
+#include <inttypes.h>
+#include <stdio.h>
+
+static uint64_t number(const uint8_t *bytes, size_t width) {
+    uint64_t value = 0;
+    while (width-- > 0)
+        value = value * 256 + bytes[width];
+    return value;
+}
+
+/* One line for each field of a plan. */
+static void print_field(uint8_t tag, const uint8_t *c) {
+    switch (tag) {
+    case 0x90:
+        printf("mosaic, figure %" PRIu64 "\n", number(c, 4));
+        break;
+    case 0x91:
+        printf("  batch up to strip %" PRIu64 ": mount at %" PRIu64 ", finished at %" PRIu64 "\n", number(c, 1), number(c + 1, 4), number(c + 5, 4));
+        break;
+    case 0xA0:
+        printf("sorting, figure %" PRIu64 "\n", number(c, 4));
+        break;
+    case 0xA1:
+        printf("  desk %" PRIu64 " strip %" PRIu64 ": scan at %" PRIu64 ", desk at %" PRIu64 "\n", number(c, 1), number(c + 1, 1), number(c + 2, 4), number(c + 6, 4));
+        break;
+    case 0xB0:
+        printf("flight, figure %" PRIu64 ", order %" PRIX64 "\n", number(c, 4), number(c + 4, 8));
+        break;
+    case 0xB1:
+        printf("  block: first pass at %" PRIu64 ", second at %" PRIu64 "\n", number(c, 4), number(c + 4, 4));
+        break;
+    }
+}
+
+int main(int argc, char **argv) {
+    static uint8_t sheet[65536], plan[SEVULAMON_PLAN_LENGTH];
+    FILE *file = argc == 2 ? fopen(argv[1], "rb") : NULL;
+    if (file == NULL) {
+        fprintf(stderr, "usage: viewer SHEET\n");
+        return 2;
+    }
+    size_t length = fread(sheet, 1, sizeof sheet, file);
+    fclose(file);
+
+    struct sevulamon_answer answer = sevulamon_plan(sheet, length, plan, sizeof plan);
+    if (answer.number != SEVULAMON_ACCEPTED) {
+        printf("refused: number %" PRIu64 ", place %zu\n", answer.number, answer.place);
+        return 1;
+    }
+    for (size_t at = 0; at < answer.length; at += 3 + (size_t)number(plan + at + 1, 2))
+        print_field(plan[at], plan + at + 3);
+
+    struct sevulamon_judged judged = sevulamon_judge(sheet, length, plan, answer.length);
+    printf("judged: number %" PRIu64 ", figures %" PRIu64 " %" PRIu64 " %" PRIu64 "\n", judged.number, judged.mosaic, judged.sorting, judged.flight);
+    return judged.number == SEVULAMON_ACCEPTED ? 0 : 1;
+}
