@@ -9,12 +9,12 @@ use borrow.Author.Tests.{lt-ltb, le-ltb}
 use Rattle.field.specs.Bytes.{bytesOf}
 use Rattle.field.specs.Field.{fieldBytes}
 use Rattle.field.specs.Numbers.{length-bytes}
-use Rattle.field.specs.Put.{put, put-none, put-one, put-more, length-put}
-use Rattle.sheet.specs.Tags.{planMosaicTag, planBatchTag, planSortingTag, planStripTag, planFlightTag, planBlockTag}
+use Rattle.field.specs.Put.{put, put-whole, holding, put-none, put-one, put-more, length-put}
+use Rattle.sheet.specs.Tags.{planMosaicTag, planBatchTag, planSortingTag, planStripTag, planFlightTag, planBlockTag, planRefusalTag}
 use Rattle.sheet.specs.Sound.{SortingSound, stripsInAll}
 use Rattle.sheet.specs.declared.Sheet.{Sheet}
 use Rattle.sheet.specs.declared.SortingSection.{SortingSection}
-use Rattle.rules.specs.Plan.{membersBytes, batchBytes, jobBytes, passesBytes, mosaicBytes, sortingBytes, flightBytes, ifPresent}
+use Rattle.rules.specs.Plan.{membersBytes, batchBytes, jobBytes, passesBytes, mosaicBytes, sortingBytes, flightBytes, refusalBytes, ifPresent}
 use Rattle.mosaic.specs.Plan.{batchesOf}
 use Rattle.mosaic.specs.declared.MosaicPlan.{MosaicPlan}
 use Rattle.sorting.specs.Plan.{jobsOfPlan}
@@ -55,6 +55,10 @@ field-joined tag size content e = rw e
 field-stored : (d d₁ d₂ : List ℕ) (at tag size : ℕ) (content : List ℕ) → d₁ ≡ put d at (headBytes tag size) → d₂ ≡ put d₁ (at + 3) content → size ≡ length content → d₂ ≡ put d at (fieldBytes tag content)
 field-stored d d₁ d₂ at tag size content e₁ e₂ l =
     joined d d₁ d₂ at (at + 3) (headBytes tag size) content e₁ e₂ (omega (arith, head-long tag size)) ∙ ap (put d at) (field-joined tag size content l)
+
+refusal-is : (number place : ℕ) → fieldBytes planRefusalTag (bytesOf 2 number ++ bytesOf 4 place) ≡ refusalBytes number place
+unfolding refusalBytes
+refusal-is number place = refl
 
 -- numbers one behind the other: how long they are
 length-two : (k l x y : ℕ) → length (bytesOf k x ++ bytesOf l y) ≡ k + l
@@ -115,6 +119,22 @@ module _ (d d₁ d₂ d₃ : List ℕ) (at : ℕ) where
       field-stored d d₁ d₃ at planFlightTag 12 (bytesOf 4 figure ++ bytesOf 8 order) e₁
         (joined d₁ d₂ d₃ (at + 3) (at + 7) (bytesOf 4 figure) (bytesOf 8 order) e₂ e₃ (omega (arith, length-bytes 4 figure)))
         (sym (length-two 4 8 figure order))
+
+pub length-refusal : (number place : ℕ) → length (refusalBytes number place) ≡ 9
+unfolding refusalBytes fieldBytes bytesOf
+length-refusal number place = refl
+
+pub refusal-stored : (d d₁ d₂ d₃ : List ℕ) (number place : ℕ) → 9 ≤ length d → d₁ ≡ put d 0 (headBytes planRefusalTag 6) → d₂ ≡ put d₁ 3 (bytesOf 2 number) → d₃ ≡ put d₂ 5 (bytesOf 4 place) → d₃ ≡ holding (refusalBytes number place) d
+refusal-stored d d₁ d₂ d₃ number place h e₁ e₂ e₃ = stored ∙ put-whole d (refusalBytes number place) (omega (arith, length-refusal number place))
+  where
+    content : d₃ ≡ put d₁ 3 (bytesOf 2 number ++ bytesOf 4 place)
+    content = joined d₁ d₂ d₃ 3 5 (bytesOf 2 number) (bytesOf 4 place) e₂ e₃ (omega (arith, length-bytes 2 number))
+
+    field : d₃ ≡ put d 0 (fieldBytes planRefusalTag (bytesOf 2 number ++ bytesOf 4 place))
+    field = field-stored d d₁ d₃ 0 planRefusalTag 6 (bytesOf 2 number ++ bytesOf 4 place) e₁ content (sym (length-two 2 4 number place))
+
+    stored : d₃ ≡ put d 0 (refusalBytes number place)
+    stored = field ∙ ap (put d 0) (refusal-is number place)
 
 pub figure-stored : (d d₁ d₂ : List ℕ) (at tag figure : ℕ) → d₁ ≡ put d at (headBytes tag 4) → d₂ ≡ put d₁ (at + 3) (bytesOf 4 figure) → d₂ ≡ put d at (figureBytes tag figure)
 unfolding figureBytes

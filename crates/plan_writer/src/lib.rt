@@ -2,9 +2,9 @@
 ghost use mathlib.Core.Path.{_≡_};
 ghost use Prim.Native.Nat.{ℕ, _+_, _≤_};
 ghost use lib.ListN.{length};
-ghost use Rattle.field.specs.Put.{put};
+ghost use Rattle.field.specs.Put.{put, holding};
 ghost use Rattle.sheet.specs.Sound.{SortingSound, stripsInAll};
-ghost use Rattle.rules.specs.Plan.{membersBytes, batchBytes, jobBytes, passesBytes, mosaicBytes, sortingBytes, flightBytes, ifPresent};
+ghost use Rattle.rules.specs.Plan.{membersBytes, batchBytes, jobBytes, passesBytes, mosaicBytes, sortingBytes, flightBytes, refusalBytes, ifPresent};
 ghost use Rattle.mosaic.specs.Plan.{batchesOf};
 ghost use Rattle.sorting.specs.Plan.{jobsOfPlan};
 ghost use Rattle.flight.specs.Choice.{passesOf};
@@ -13,7 +13,7 @@ ghost use Rattle.plan_writer.specs.Stored.{headBytes, stripBytes, figure
 use field::put_number;
 use flight::FlightPlan;
 use mosaic::MosaicPlan;
-use sheet::tags::{PLAN_BATCH, PLAN_BLOCK, PLAN_FLIGHT, PLAN_MOSAIC, PLAN_SORTING, PLAN_STRIP};
+use sheet::tags::{PLAN_BATCH, PLAN_BLOCK, PLAN_FLIGHT, PLAN_MOSAIC, PLAN_REFUSAL, PLAN_SORTING, PLAN_STRIP};
 use sheet::{Sheet, SortingSection};
 use sorting::SortingPlan;
 
@@ -206,4 +206,14 @@ pub fn write_plan(d: &mut [u8], s: Sheet, m: MosaicPlan, t: SortingPlan, f: Flig
     let sorting_at = write_mosaic(d, 0, s.mosaic.strips, m);
     let flight_at = write_sorting(d, sorting_at, strips, t);
     write_flight(d, flight_at, s.flight.blocks, f)
+}
+
+// The field of a refusal, at the start of the buffer.
+pub fn put_refusal(d: &mut [u8], number: u64, place: u64)
+    requires { ⌜ 9 ≤ length (now d) ⌝ }
+    ensures { λ _. ⌜ now (d .exit) ≡ holding (refusalBytes number place) (now (d .entry)) ⌝ }
+{
+    put_head(d, 0, PLAN_REFUSAL, 6);
+    put_number(d, 3, 2, number);
+    put_number(d, 5, 4, place);
 }
