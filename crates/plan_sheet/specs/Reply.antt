@@ -15,7 +15,7 @@ use Rattle.planner.specs.declared.Answer.{Answer}
 unfoldable pub replyBytes : List ℕ → List ℕ
 replyBytes sheet =
     cond (eqb (sheetAnswer (readSheet sheet) .number) 0) (sheetPlan (readSheet sheet))
-      (refusalBytes (sheetAnswer (readSheet sheet) .number) (sheetAnswer (readSheet sheet) .place))
+    (refusalBytes (sheetAnswer (readSheet sheet) .number) (sheetAnswer (readSheet sheet) .place))
 
 -- buffers that are large enough
 pub record Asked (out table : List ℕ) : Type 0 where

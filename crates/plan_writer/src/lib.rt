@@ -9,12 +9,18 @@ ghost use Rattle.mosaic.specs.Plan.{batchesOf};
 ghost use Rattle.sorting.specs.Plan.{jobsOfPlan};
 ghost use Rattle.flight.specs.Choice.{passesOf};
 ghost use Rattle.plan_writer.specs.Stored.{headBytes, stripBytes, figureBytes, flightHeadBytes, batch, job, passes, batchIn, jobIn, passesIn, membersTo, Three, Four, Two, BatchesAsked, JobsAsked, BlocksAsked, MosaicAsked, SortingAsked, FlightAsked, PlanAsked, Written, planOf};
-
 use field::put_number;
 use flight::FlightPlan;
 use mosaic::MosaicPlan;
-use sheet::tags::{PLAN_BATCH, PLAN_BLOCK, PLAN_FLIGHT, PLAN_MOSAIC, PLAN_REFUSAL, PLAN_SORTING, PLAN_STRIP};
-use sheet::{Sheet, SortingSection};
+use sheet::Sheet;
+use sheet::SortingSection;
+use sheet::tags::PLAN_BATCH;
+use sheet::tags::PLAN_BLOCK;
+use sheet::tags::PLAN_FLIGHT;
+use sheet::tags::PLAN_MOSAIC;
+use sheet::tags::PLAN_REFUSAL;
+use sheet::tags::PLAN_SORTING;
+use sheet::tags::PLAN_STRIP;
 use sorting::SortingPlan;
 
 // A field's tag and content length.
@@ -65,7 +71,14 @@ fn put_passes(d: &mut [u8], at: usize, first: u64, second: u64)
 }
 
 // The first n batches of the lists.
-fn put_batches<'a>(d: &mut [u8], at: usize, last: &'a [u64], start: &'a [u64], finish: &'a [u64], n: usize)
+fn put_batches<'a>(
+    d: &mut [u8],
+    at: usize,
+    last: &'a [u64],
+    start: &'a [u64],
+    finish: &'a [u64],
+    n: usize,
+)
     requires { ⌜ Three (now d) at (now last) (now start) (now finish) n ⌝ }
     ensures { λ _. ⌜ now (d .exit) ≡ put (now (d .entry)) at (membersTo batchBytes (batchIn (now (last .entry)) (now (start .entry)) (now (finish .entry))) n) ⌝ }
 {
@@ -77,7 +90,15 @@ fn put_batches<'a>(d: &mut [u8], at: usize, last: &'a [u64], start: &'a [u64], f
 }
 
 // The first n jobs of the lists.
-fn put_jobs<'a>(d: &mut [u8], at: usize, desk: &'a [u64], number: &'a [u64], scan: &'a [u64], start: &'a [u64], n: usize)
+fn put_jobs<'a>(
+    d: &mut [u8],
+    at: usize,
+    desk: &'a [u64],
+    number: &'a [u64],
+    scan: &'a [u64],
+    start: &'a [u64],
+    n: usize,
+)
     requires { ⌜ Four (now d) at (now desk) (now number) (now scan) (now start) n ⌝ }
     ensures { λ _. ⌜ now (d .exit) ≡ put (now (d .entry)) at (membersTo jobBytes (jobIn (now (desk .entry)) (now (number .entry)) (now (scan .entry)) (now (start .entry))) n) ⌝ }
 {
