@@ -9,12 +9,12 @@ use borrow.Author.Tests.{lt-ltb, le-ltb}
 use Rattle.field.specs.Bytes.{bytesOf}
 use Rattle.field.specs.Field.{fieldBytes}
 use Rattle.field.specs.Numbers.{length-bytes}
-use Rattle.field.specs.Put.{put, put-none, put-one, put-more, length-put}
-use Rattle.sheet.specs.Tags.{planMosaicTag, planBatchTag, planSortingTag, planStripTag, planFlightTag, planBlockTag}
+use Rattle.field.specs.Put.{put, put-whole, holding, put-none, put-one, put-more, length-put}
+use Rattle.sheet.specs.Tags.{planMosaicTag, planBatchTag, planSortingTag, planStripTag, planFlightTag, planBlockTag, planRefusalTag}
 use Rattle.sheet.specs.Sound.{SortingSound, stripsInAll}
 use Rattle.sheet.specs.declared.Sheet.{Sheet}
 use Rattle.sheet.specs.declared.SortingSection.{SortingSection}
-use Rattle.rules.specs.Plan.{membersBytes, batchBytes, jobBytes, passesBytes, mosaicBytes, sortingBytes, flightBytes, ifPresent}
+use Rattle.rules.specs.Plan.{membersBytes, batchBytes, jobBytes, passesBytes, mosaicBytes, sortingBytes, flightBytes, refusalBytes, ifPresent}
 use Rattle.mosaic.specs.Plan.{batchesOf}
 use Rattle.mosaic.specs.declared.MosaicPlan.{MosaicPlan}
 use Rattle.sorting.specs.Plan.{jobsOfPlan}
@@ -56,6 +56,10 @@ field-stored : (d d₁ d₂ : List ℕ) (at tag size : ℕ) (content : List ℕ)
 field-stored d d₁ d₂ at tag size content e₁ e₂ l =
     joined d d₁ d₂ at (at + 3) (headBytes tag size) content e₁ e₂ (omega (arith, head-long tag size)) ∙ ap (put d at) (field-joined tag size content l)
 
+refusal-is : (number place : ℕ) → fieldBytes planRefusalTag (bytesOf 2 number ++ bytesOf 4 place) ≡ refusalBytes number place
+unfolding refusalBytes
+refusal-is number place = refl
+
 -- numbers one behind the other: how long they are
 length-two : (k l x y : ℕ) → length (bytesOf k x ++ bytesOf l y) ≡ k + l
 length-two k l x y = omega (arith, length-append (bytesOf k x) (bytesOf l y), length-bytes k x, length-bytes l y)
@@ -68,26 +72,25 @@ module _ (d d₁ d₂ d₃ : List ℕ) (at : ℕ) where
   unfolding passesBytes
   passes-stored first second e₁ e₂ e₃ =
       field-stored d d₁ d₃ at planBlockTag 8 (bytesOf 4 first ++ bytesOf 4 second) e₁
-        (joined d₁ d₂ d₃ (at + 3) (at + 7) (bytesOf 4 first) (bytesOf 4 second) e₂ e₃ (omega (arith, length-bytes 4 first)))
-        (sym (length-two 4 4 first second))
+      (joined d₁ d₂ d₃ (at + 3) (at + 7) (bytesOf 4 first) (bytesOf 4 second) e₂ e₃ (omega (arith, length-bytes 4 first)))
+      (sym (length-two 4 4 first second))
 
   module _ (d₄ : List ℕ) where
     pub batch-stored : (last start finish : ℕ) → d₁ ≡ put d at (headBytes planBatchTag 9) → d₂ ≡ put d₁ (at + 3) (bytesOf 1 last) → d₃ ≡ put d₂ (at + 4) (bytesOf 4 start) → d₄ ≡ put d₃ (at + 8) (bytesOf 4 finish) → d₄ ≡ put d at (batchBytes (batch last start finish))
     unfolding batchBytes
     batch-stored last start finish e₁ e₂ e₃ e₄ =
         field-stored d d₁ d₄ at planBatchTag 9 (bytesOf 1 last ++ bytesOf 4 start ++ bytesOf 4 finish) e₁
-          (joined d₁ d₃ d₄ (at + 3) (at + 8) (bytesOf 1 last ++ bytesOf 4 start) (bytesOf 4 finish)
-            (joined d₁ d₂ d₃ (at + 3) (at + 4) (bytesOf 1 last) (bytesOf 4 start) e₂ e₃ (omega (arith, length-bytes 1 last)))
-            e₄ (omega (arith, length-two 1 4 last start)))
-          (sym (length-more (bytesOf 1 last ++ bytesOf 4 start) 5 4 finish (length-two 1 4 last start)))
-
+        (joined d₁ d₃ d₄ (at + 3) (at + 8) (bytesOf 1 last ++ bytesOf 4 start) (bytesOf 4 finish)
+        (joined d₁ d₂ d₃ (at + 3) (at + 4) (bytesOf 1 last) (bytesOf 4 start) e₂ e₃ (omega (arith, length-bytes 1 last)))
+        e₄ (omega (arith, length-two 1 4 last start)))
+        (sym (length-more (bytesOf 1 last ++ bytesOf 4 start) 5 4 finish (length-two 1 4 last start)))
 
   pub strip-stored : (desk number : ℕ) → d₁ ≡ put d at (headBytes planStripTag 10) → d₂ ≡ put d₁ (at + 3) (bytesOf 1 desk) → d₃ ≡ put d₂ (at + 4) (bytesOf 1 number) → d₃ ≡ put d at (stripBytes desk number)
   unfolding stripBytes
   strip-stored desk number e₁ e₂ e₃ =
       joined d d₂ d₃ at (at + 4) (headBytes planStripTag 10 ++ bytesOf 1 desk) (bytesOf 1 number)
-        (joined d d₁ d₂ at (at + 3) (headBytes planStripTag 10) (bytesOf 1 desk) e₁ e₂ (omega (arith, head-long planStripTag 10)))
-        e₃ (omega (arith, length-more (headBytes planStripTag 10) 3 1 desk (head-long planStripTag 10)))
+      (joined d d₁ d₂ at (at + 3) (headBytes planStripTag 10) (bytesOf 1 desk) e₁ e₂ (omega (arith, head-long planStripTag 10)))
+      e₃ (omega (arith, length-more (headBytes planStripTag 10) 3 1 desk (head-long planStripTag 10)))
 
   strip-long : (desk number : ℕ) → length (stripBytes desk number) ≡ 5
   unfolding stripBytes
@@ -97,7 +100,7 @@ module _ (d d₁ d₂ d₃ : List ℕ) (at : ℕ) where
   unfolding stripBytes jobBytes
   job-joined desk number scan start = regroup (headBytes planStripTag 10) (bytesOf 1 desk) (bytesOf 1 number) (bytesOf 4 scan) (bytesOf 4 start)
       ∙ field-joined planStripTag 10 (bytesOf 1 desk ++ bytesOf 1 number ++ bytesOf 4 scan ++ bytesOf 4 start)
-        (sym (length-more (bytesOf 1 desk ++ bytesOf 1 number ++ bytesOf 4 scan) 6 4 start (length-more (bytesOf 1 desk ++ bytesOf 1 number) 2 4 scan (length-two 1 1 desk number))))
+      (sym (length-more (bytesOf 1 desk ++ bytesOf 1 number ++ bytesOf 4 scan) 6 4 start (length-more (bytesOf 1 desk ++ bytesOf 1 number) 2 4 scan (length-two 1 1 desk number))))
     where
       regroup : (h a b e f : List ℕ) → h ++ a ++ b ++ e ++ f ≡ h ++ (a ++ b ++ e ++ f)
       regroup h a b e f = simp append-assoc
@@ -105,16 +108,32 @@ module _ (d d₁ d₂ d₃ : List ℕ) (at : ℕ) where
   pub job-stored : (desk number scan start : ℕ) → d₁ ≡ put d at (stripBytes desk number) → d₂ ≡ put d₁ (at + 5) (bytesOf 4 scan) → d₃ ≡ put d₂ (at + 9) (bytesOf 4 start) → d₃ ≡ put d at (jobBytes (job desk number scan start))
   job-stored desk number scan start e₁ e₂ e₃ =
       joined d d₂ d₃ at (at + 9) (stripBytes desk number ++ bytesOf 4 scan) (bytesOf 4 start)
-        (joined d d₁ d₂ at (at + 5) (stripBytes desk number) (bytesOf 4 scan) e₁ e₂ (omega (arith, strip-long desk number)))
-        e₃ (omega (arith, length-more (stripBytes desk number) 5 4 scan (strip-long desk number)))
+      (joined d d₁ d₂ at (at + 5) (stripBytes desk number) (bytesOf 4 scan) e₁ e₂ (omega (arith, strip-long desk number)))
+      e₃ (omega (arith, length-more (stripBytes desk number) 5 4 scan (strip-long desk number)))
       ∙ ap (put d at) (job-joined desk number scan start)
 
   pub flight-head-stored : (figure order : ℕ) → d₁ ≡ put d at (headBytes planFlightTag 12) → d₂ ≡ put d₁ (at + 3) (bytesOf 4 figure) → d₃ ≡ put d₂ (at + 7) (bytesOf 8 order) → d₃ ≡ put d at (flightHeadBytes figure order)
   unfolding flightHeadBytes
   flight-head-stored figure order e₁ e₂ e₃ =
       field-stored d d₁ d₃ at planFlightTag 12 (bytesOf 4 figure ++ bytesOf 8 order) e₁
-        (joined d₁ d₂ d₃ (at + 3) (at + 7) (bytesOf 4 figure) (bytesOf 8 order) e₂ e₃ (omega (arith, length-bytes 4 figure)))
-        (sym (length-two 4 8 figure order))
+      (joined d₁ d₂ d₃ (at + 3) (at + 7) (bytesOf 4 figure) (bytesOf 8 order) e₂ e₃ (omega (arith, length-bytes 4 figure)))
+      (sym (length-two 4 8 figure order))
+
+pub length-refusal : (number place : ℕ) → length (refusalBytes number place) ≡ 9
+unfolding refusalBytes fieldBytes bytesOf
+length-refusal number place = refl
+
+pub refusal-stored : (d d₁ d₂ d₃ : List ℕ) (number place : ℕ) → 9 ≤ length d → d₁ ≡ put d 0 (headBytes planRefusalTag 6) → d₂ ≡ put d₁ 3 (bytesOf 2 number) → d₃ ≡ put d₂ 5 (bytesOf 4 place) → d₃ ≡ holding (refusalBytes number place) d
+refusal-stored d d₁ d₂ d₃ number place h e₁ e₂ e₃ = stored ∙ put-whole d (refusalBytes number place) (omega (arith, length-refusal number place))
+  where
+    content : d₃ ≡ put d₁ 3 (bytesOf 2 number ++ bytesOf 4 place)
+    content = joined d₁ d₂ d₃ 3 5 (bytesOf 2 number) (bytesOf 4 place) e₂ e₃ (omega (arith, length-bytes 2 number))
+
+    field : d₃ ≡ put d 0 (fieldBytes planRefusalTag (bytesOf 2 number ++ bytesOf 4 place))
+    field = field-stored d d₁ d₃ 0 planRefusalTag 6 (bytesOf 2 number ++ bytesOf 4 place) e₁ content (sym (length-two 2 4 number place))
+
+    stored : d₃ ≡ put d 0 (refusalBytes number place)
+    stored = field ∙ ap (put d 0) (refusal-is number place)
 
 pub figure-stored : (d d₁ d₂ : List ℕ) (at tag figure : ℕ) → d₁ ≡ put d at (headBytes tag 4) → d₂ ≡ put d₁ (at + 3) (bytesOf 4 figure) → d₂ ≡ put d at (figureBytes tag figure)
 unfolding figureBytes
@@ -137,13 +156,13 @@ module _ {A : Type 0} (bytes : A → List ℕ) (member : ℕ → A) where
 
   storing-more : (size : ℕ) → ((x : A) → length (bytes x) ≡ size) → (d₀ d d₁ : List ℕ) (at n i : ℕ) → Storing bytes member d₀ d at n i → i < n → d₁ ≡ put d (at + size * i) (bytes (member i)) → Storing bytes member d₀ d₁ at n (i + 1)
   storing-more size each d₀ d d₁ at n i s l e =
-      record
-        { within = omega arith
-        ; long = ap length e ∙ length-put d (at + size * i) (bytes (member i)) ∙ s .long
-        ; stored =
+      record {
+        within = omega arith;
+        long = ap length e ∙ length-put d (at + size * i) (bytes (member i)) ∙ s .long;
+        stored =
             joined d₀ d d₁ at (at + size * i) (membersTo bytes member i) (bytes (member i)) (s .stored) e (omega (arith, length-members bytes size each member i))
-            ∙ ap (put d₀ at) (members-next i)
-        }
+            ∙ ap (put d₀ at) (members-next i);
+      }
 
   storing-all : (d₀ d : List ℕ) (at n i : ℕ) → Storing bytes member d₀ d at n i → n ≤ i → d ≡ put d₀ at (membersTo bytes member n)
   storing-all d₀ d at n i s h = s .stored ∙ ap (λ (k : ℕ). put d₀ at (membersTo bytes member k)) all
@@ -320,19 +339,19 @@ module _ (d : List ℕ) (s : Sheet) (m : MosaicPlan) (t : SortingPlan) (asked : 
           record {
             few = asked .blocks;
             room =
-              omega (
-                arith,
-                first-long,
-                ap length (w₂ .buffer) ∙ length-put d₁ at₁ (ifPresent strips (sortingBytes (t .figure) (jobsOfPlan t))),
-                w₁ .end,
-                w₂ .end,
-                mosaic-long (s .mosaic .strips) m,
-                sorting-long strips t,
-                asked .room,
-                asked .batches,
-                asked .jobs,
-                asked .blocks,
-              );
+                omega (
+                  arith,
+                  first-long,
+                  ap length (w₂ .buffer) ∙ length-put d₁ at₁ (ifPresent strips (sortingBytes (t .figure) (jobsOfPlan t))),
+                  w₁ .end,
+                  w₂ .end,
+                  mosaic-long (s .mosaic .strips) m,
+                  sorting-long strips t,
+                  asked .room,
+                  asked .batches,
+                  asked .jobs,
+                  asked .blocks,
+                );
           }
 
       pub plan-written : (d₃ : List ℕ) (f : FlightPlan) (at₃ : ℕ) → Written d₂ d₃ at₂ (ifPresent (s .flight .blocks) (flightBytes (f .figure) (f .order) (passesOf (s .flight .blocks) f))) at₃ → Written d d₃ 0 (planOf s m t f) at₃

@@ -2,19 +2,25 @@
 ghost use mathlib.Core.Path.{_≡_};
 ghost use Prim.Native.Nat.{ℕ, _+_, _≤_};
 ghost use lib.ListN.{length};
-ghost use Rattle.field.specs.Put.{put};
+ghost use Rattle.field.specs.Put.{put, holding};
 ghost use Rattle.sheet.specs.Sound.{SortingSound, stripsInAll};
-ghost use Rattle.rules.specs.Plan.{membersBytes, batchBytes, jobBytes, passesBytes, mosaicBytes, sortingBytes, flightBytes, ifPresent};
+ghost use Rattle.rules.specs.Plan.{membersBytes, batchBytes, jobBytes, passesBytes, mosaicBytes, sortingBytes, flightBytes, refusalBytes, ifPresent};
 ghost use Rattle.mosaic.specs.Plan.{batchesOf};
 ghost use Rattle.sorting.specs.Plan.{jobsOfPlan};
 ghost use Rattle.flight.specs.Choice.{passesOf};
 ghost use Rattle.plan_writer.specs.Stored.{headBytes, stripBytes, figureBytes, flightHeadBytes, batch, job, passes, batchIn, jobIn, passesIn, membersTo, Three, Four, Two, BatchesAsked, JobsAsked, BlocksAsked, MosaicAsked, SortingAsked, FlightAsked, PlanAsked, Written, planOf};
-
 use field::put_number;
 use flight::FlightPlan;
 use mosaic::MosaicPlan;
-use sheet::tags::{PLAN_BATCH, PLAN_BLOCK, PLAN_FLIGHT, PLAN_MOSAIC, PLAN_SORTING, PLAN_STRIP};
-use sheet::{Sheet, SortingSection};
+use sheet::Sheet;
+use sheet::SortingSection;
+use sheet::tags::PLAN_BATCH;
+use sheet::tags::PLAN_BLOCK;
+use sheet::tags::PLAN_FLIGHT;
+use sheet::tags::PLAN_MOSAIC;
+use sheet::tags::PLAN_REFUSAL;
+use sheet::tags::PLAN_SORTING;
+use sheet::tags::PLAN_STRIP;
 use sorting::SortingPlan;
 
 // A field's tag and content length.
@@ -65,7 +71,14 @@ fn put_passes(d: &mut [u8], at: usize, first: u64, second: u64)
 }
 
 // The first n batches of the lists.
-fn put_batches<'a>(d: &mut [u8], at: usize, last: &'a [u64], start: &'a [u64], finish: &'a [u64], n: usize)
+fn put_batches<'a>(
+    d: &mut [u8],
+    at: usize,
+    last: &'a [u64],
+    start: &'a [u64],
+    finish: &'a [u64],
+    n: usize,
+)
     requires { ⌜ Three (now d) at (now last) (now start) (now finish) n ⌝ }
     ensures { λ _. ⌜ now (d .exit) ≡ put (now (d .entry)) at (membersTo batchBytes (batchIn (now (last .entry)) (now (start .entry)) (now (finish .entry))) n) ⌝ }
 {
@@ -77,7 +90,15 @@ fn put_batches<'a>(d: &mut [u8], at: usize, last: &'a [u64], start: &'a [u64], f
 }
 
 // The first n jobs of the lists.
-fn put_jobs<'a>(d: &mut [u8], at: usize, desk: &'a [u64], number: &'a [u64], scan: &'a [u64], start: &'a [u64], n: usize)
+fn put_jobs<'a>(
+    d: &mut [u8],
+    at: usize,
+    desk: &'a [u64],
+    number: &'a [u64],
+    scan: &'a [u64],
+    start: &'a [u64],
+    n: usize,
+)
     requires { ⌜ Four (now d) at (now desk) (now number) (now scan) (now start) n ⌝ }
     ensures { λ _. ⌜ now (d .exit) ≡ put (now (d .entry)) at (membersTo jobBytes (jobIn (now (desk .entry)) (now (number .entry)) (now (scan .entry)) (now (start .entry))) n) ⌝ }
 {
@@ -206,4 +227,14 @@ pub fn write_plan(d: &mut [u8], s: Sheet, m: MosaicPlan, t: SortingPlan, f: Flig
     let sorting_at = write_mosaic(d, 0, s.mosaic.strips, m);
     let flight_at = write_sorting(d, sorting_at, strips, t);
     write_flight(d, flight_at, s.flight.blocks, f)
+}
+
+// The field of a refusal, at the start of the buffer.
+pub fn put_refusal(d: &mut [u8], number: u64, place: u64)
+    requires { ⌜ 9 ≤ length (now d) ⌝ }
+    ensures { λ _. ⌜ now (d .exit) ≡ holding (refusalBytes number place) (now (d .entry)) ⌝ }
+{
+    put_head(d, 0, PLAN_REFUSAL, 6);
+    put_number(d, 3, 2, number);
+    put_number(d, 5, 4, place);
 }

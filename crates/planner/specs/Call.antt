@@ -34,8 +34,8 @@ answer number place length = record { number = number; place = place; length = l
 unfoldable pub sheetAnswer : Sheet → Answer
 sheetAnswer s =
     cond (eqb (s .number) 0)
-      (cond (isPossible (s .flight)) (answer 0 0 (length (planBytes s (chosenPlan s)))) (answer orderImpossible (s .flight .place) 0))
-      (answer (s .number) (s .place) 0)
+    (cond (isPossible (s .flight)) (answer 0 0 (length (planBytes s (chosenPlan s)))) (answer orderImpossible (s .flight .place) 0))
+    (answer (s .number) (s .place) 0)
 
 -- The plan of a sheet, no byte where it is refused.
 unfoldable pub sheetPlan : Sheet → List ℕ
@@ -45,7 +45,7 @@ sheetPlan s = cond (eqb (s .number) 0) (cond (isPossible (s .flight)) (planBytes
 unfoldable pub answerOf : List ℕ → ℕ → ℕ → Answer
 answerOf sheet planRoom tableRoom =
     cond (ltb tableRoom tableLength) (answer tableTooSmall 0 0)
-      (cond (ltb planRoom planLength) (answer bufferTooSmall 0 0) (sheetAnswer (readSheet sheet)))
+    (cond (ltb planRoom planLength) (answer bufferTooSmall 0 0) (sheetAnswer (readSheet sheet)))
 
 -- and the bytes that it writes
 unfoldable pub plannedBytes : List ℕ → ℕ → ℕ → List ℕ

@@ -162,8 +162,8 @@ module _ (s : Sheet) (plan table : List ℕ) (asked : PlanAsked s plan table) (e
     pub sheet-planned : (f : FlightPlan) → flight.Planned (s .flight) f → not (f .possible) ≡ false → (after : List ℕ) (k : ℕ) → Written plan after 0 (planOf s m t f) k → Planned s plan after (answer 0 0 k)
     sheet-planned f flight-planned h after k w =
         accepted s plan after k e possible
-          (rw (← same) (omega (arith, asked .room, plan-long s (asked .sound e) possible m mosaic-planned t table tableEnd sorting-planned f flight-planned)))
-          (rw same at w)
+        (rw (← same) (omega (arith, asked .room, plan-long s (asked .sound e) possible m mosaic-planned t table tableEnd sorting-planned f flight-planned)))
+        (rw same at w)
       where
         possible : isPossible (s .flight) ≡ true
         possible = sym (flight-planned .possible) ∙ not-false (f .possible) h

@@ -187,4 +187,3 @@ module _ (sheet : List ℕ) (sound : readSheet sheet .number ≡ 0) where
         go : (b : Bool) → isPossible (readSheet sheet .flight) ≡ b → (Possible (readSheet sheet) → ⊥) → answerOf sheet planRoom tableRoom .number ≡ orderImpossible
         go true e none = absurd (none (of-possible e))
         go false e none = answer-is false e
-

@@ -2,10 +2,12 @@
 ghost use mathlib.Core.Path.{_≡_};
 ghost use lib.ListN.{length};
 ghost use Rattle.planner.specs.Call.{Called, PlanAsked, WithinAsked, Within, Planned, zeros};
-
-use sheet::limits::{PLAN_LENGTH, TABLE_LENGTH};
-use sheet::numbers::{BUFFER_TOO_SMALL, ORDER_IMPOSSIBLE, TABLE_TOO_SMALL};
 use sheet::Sheet;
+use sheet::limits::PLAN_LENGTH;
+use sheet::limits::TABLE_LENGTH;
+use sheet::numbers::BUFFER_TOO_SMALL;
+use sheet::numbers::ORDER_IMPOSSIBLE;
+use sheet::numbers::TABLE_TOO_SMALL;
 
 // A call's answer: 0, 0 and the plan's length, or the number and place of its refusal and 0.
 #[repr(C)]

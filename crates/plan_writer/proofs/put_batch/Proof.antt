@@ -1,3 +1,4 @@
+-- `plan_writer::put_batch` meets its contract: the stores one behind the other are the batch's field.
 use Rattle.plan_writer.specs.Laws.{batch-stored}
 use borrow.Author.Needs.{needs}
 use Rattle.plan_writer.proofs.put_batch.Statement.{statement}

@@ -1,3 +1,4 @@
+-- `plan_writer::put_batches` meets its contract: the first i batches are stored.
 use Prim.Native.Nat.{_-_}
 use Rattle.rules.specs.Plan.{batchBytes}
 use Rattle.plan_writer.specs.Stored.{batchIn}

@@ -1,3 +1,4 @@
+-- `plan_writer::put_blocks` meets its contract: the first i blocks are stored.
 use Prim.Native.Nat.{_-_}
 use Rattle.rules.specs.Plan.{passesBytes}
 use Rattle.plan_writer.specs.Stored.{passesIn}

@@ -1,3 +1,4 @@
+-- `plan_writer::put_figure` meets its contract: the head's field.
 use Rattle.plan_writer.specs.Laws.{figure-stored}
 use borrow.Author.Needs.{needs}
 use Rattle.plan_writer.proofs.put_figure.Statement.{statement}

@@ -1,3 +1,4 @@
+-- `plan_writer::put_flight_blocks` meets its contract: the lists are long enough, and hold the plan's passes.
 use native.Mathlib.Omega.{arith}
 use Rattle.plan_writer.specs.Laws.{blocks-stored}
 use borrow.Author.Needs.{needs}

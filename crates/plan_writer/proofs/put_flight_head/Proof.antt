@@ -1,3 +1,4 @@
+-- `plan_writer::put_flight_head` meets its contract: the head's field.
 use Rattle.plan_writer.specs.Laws.{flight-head-stored}
 use borrow.Author.Needs.{needs}
 use Rattle.plan_writer.proofs.put_flight_head.Statement.{statement}

@@ -1,3 +1,4 @@
+-- `plan_writer::put_head` meets its contract: the tag, and the content length behind it.
 use Rattle.plan_writer.specs.Laws.{head-room, head-kept, head-stored}
 use borrow.Author.Needs.{needs}
 use Rattle.plan_writer.proofs.put_head.Statement.{statement}

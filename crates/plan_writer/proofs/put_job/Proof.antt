@@ -1,3 +1,4 @@
+-- `plan_writer::put_job` meets its contract: the stores one behind the other are the job's field.
 use Rattle.plan_writer.specs.Laws.{job-stored}
 use borrow.Author.Needs.{needs}
 use Rattle.plan_writer.proofs.put_job.Statement.{statement}

@@ -1,3 +1,4 @@
+-- `plan_writer::put_jobs` meets its contract: the first i jobs are stored.
 use Prim.Native.Nat.{_-_}
 use Rattle.rules.specs.Plan.{jobBytes}
 use Rattle.plan_writer.specs.Stored.{jobIn}

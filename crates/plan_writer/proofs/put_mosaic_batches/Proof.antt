@@ -1,3 +1,4 @@
+-- `plan_writer::put_mosaic_batches` meets its contract: the lists are long enough, and hold the plan's batches.
 use native.Mathlib.Omega.{arith}
 use Rattle.plan_writer.specs.Laws.{batches-stored}
 use borrow.Author.Needs.{needs}

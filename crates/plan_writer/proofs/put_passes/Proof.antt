@@ -1,3 +1,4 @@
+-- `plan_writer::put_passes` meets its contract: the stores one behind the other are the block's field.
 use Rattle.plan_writer.specs.Laws.{passes-stored}
 use borrow.Author.Needs.{needs}
 use Rattle.plan_writer.proofs.put_passes.Statement.{statement}

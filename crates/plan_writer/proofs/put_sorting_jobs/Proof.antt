@@ -1,3 +1,4 @@
+-- `plan_writer::put_sorting_jobs` meets its contract: the lists are long enough, and hold the plan's jobs.
 use native.Mathlib.Omega.{arith}
 use Rattle.plan_writer.specs.Laws.{jobs-stored}
 use borrow.Author.Needs.{needs}

@@ -1,3 +1,4 @@
+-- `plan_writer::put_strip` meets its contract: the stores one behind the other begin a job's field.
 use Rattle.plan_writer.specs.Laws.{strip-stored}
 use borrow.Author.Needs.{needs}
 use Rattle.plan_writer.proofs.put_strip.Statement.{statement}

@@ -1,3 +1,4 @@
+-- `plan_writer::strips_in_all` meets its contract: three counts of at most 6 fit their sum.
 use Rattle.sheet.specs.Sound.{stripsInAll}
 use Rattle.plan_writer.specs.Laws.{two-desks-fit, all-desks-fit}
 use borrow.Author.Needs.{needs}

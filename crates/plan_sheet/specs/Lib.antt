@@ -1,0 +1,3 @@
+-- What the program writes for a sheet.
+pub mod Reply
+pub mod Laws

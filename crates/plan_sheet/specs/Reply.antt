@@ -1,0 +1,28 @@
+-- What the program writes for a sheet. 01: it "writes the plan; on refusal it writes one field of tag E0".
+use Prim.Native.Nat.{ℕ, _≤_}
+use mathlib.Core.Path.{_≡_}
+use mathlib.Core.Bool.{cond}
+use mathlib.Core.List.{List}
+use lib.ListN.{length}
+use lib.Dec.{eqb}
+use Rattle.field.specs.Put.{holding}
+use Rattle.sheet.specs.Limits.{tableLength, planLength}
+use Rattle.sheet.specs.Read.{readSheet}
+use Rattle.rules.specs.Plan.{refusalBytes}
+use Rattle.planner.specs.Call.{sheetAnswer, sheetPlan}
+use Rattle.planner.specs.declared.Answer.{Answer}
+
+unfoldable pub replyBytes : List ℕ → List ℕ
+replyBytes sheet =
+    cond (eqb (sheetAnswer (readSheet sheet) .number) 0) (sheetPlan (readSheet sheet))
+    (refusalBytes (sheetAnswer (readSheet sheet) .number) (sheetAnswer (readSheet sheet) .place))
+
+-- buffers that are large enough
+pub record Asked (out table : List ℕ) : Type 0 where
+  pub room : planLength ≤ length out
+  pub size : tableLength ≤ length table
+
+pub record Replied (sheet out after : List ℕ) (r : ℕ) : Type 0 where
+  pub buffer : after ≡ holding (replyBytes sheet) out
+  pub length-is : r ≡ length (replyBytes sheet)
+  pub within : r ≤ length after
