@@ -11,7 +11,7 @@ plan-flight-requires : tie.Need-plan-flight-requires
 plan-flight-requires c κs = search flight-asked
 
 returns-2 : tie.Need-returns-2
-returns-2 c = order-impossible _ _ _ (c .before .before .before .if1 .left) (c .before .before .plan-flight .ensures) (c .if2 .taken)
+returns-2 c = search order-impossible
 
 plan-mosaic-requires : tie.Need-plan-mosaic-requires
 plan-mosaic-requires c κs = search mosaic-asked
