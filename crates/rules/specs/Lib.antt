@@ -7,3 +7,4 @@ pub mod Plan
 pub mod Running
 pub mod PlanRead
 pub mod FunctionLaws
+pub mod Tests

@@ -1,0 +1,313 @@
+-- The rules as tests that can be computed, by index as the rules are: each test says whether the timetable is lawful (mosaic-decided, sorting-decided, flight-decided).
+use Prim.Native.Nat.{ℕ, zero, suc, _+_, _-_, _*_, _≤_, _<_}
+use mathlib.Core.Path.{_≡_, refl, sym, ap, subst, _∙_}
+use mathlib.Core.Bool.{Bool, true, false, not, _&&_, _||_, true≢false}
+use mathlib.Core.List.{List}
+use mathlib.Core.Logic.{_⊎_, inl, inr, ⊎-elim}
+use native.Mathlib.Decide.{ℕ-discrete}
+use native.Mathlib.Omega.{arith}
+use lib.ListN.{length, getD}
+use lib.Dec.{ltb, leb, eqb}
+use borrow.Author.Tests.{lt-ltb, le-leb, eq-eqb, ltb-true, leb-true, eqb-true}
+use Rattle.order.specs.Order.{isProper, Decides}
+use Rattle.order.specs.Decided.{proper-true, true-proper}
+use Rattle.sheet.specs.Limits.{ceiling}
+use Rattle.sheet.specs.declared.MosaicSection.{MosaicSection}
+use Rattle.sheet.specs.declared.SortingSection.{SortingSection}
+use Rattle.sheet.specs.declared.FlightSection.{FlightSection}
+use Rattle.rules.specs.Mosaic.{ready, benchSum, batchAt, batchBefore, batchSize, MosaicLawful}
+use Rattle.rules.specs.Sorting.{stripsOf, scanEnd, deskFinish, jobAt, jobsOf, SortingLawful}
+use Rattle.rules.specs.Flight.{passesAt, passStart, passEnd, passAt, FlightLawful, Keeps, OrderAllowed}
+use Rattle.rules.specs.declared.Batch.{Batch}
+use Rattle.rules.specs.declared.Job.{Job}
+use Rattle.rules.specs.declared.Passes.{Passes}
+
+-- a test that holds of all numbers below n
+unfoldable pub allBelow : ℕ → (ℕ → Bool) → Bool
+allBelow zero t = true
+allBelow (suc n) t = allBelow n t && t n
+
+both : (a b : Bool) → a && b ≡ true → (a ≡ true) × (b ≡ true)
+both true b e = (refl, e)
+both false b e = absurd (true≢false (sym e))
+
+join : (a b : Bool) → a ≡ true → b ≡ true → a && b ≡ true
+join a b p q = rw (p, q)
+
+either : (a b : Bool) → a || b ≡ true → (a ≡ true) ⊎ (b ≡ true)
+either true b e = inl refl
+either false b e = inr e
+
+left : (a b : Bool) → a ≡ true → a || b ≡ true
+left a b p = rw p
+
+right : (a b : Bool) → b ≡ true → a || b ≡ true
+right true b q = refl
+right false b q = q
+
+apply : (a b : Bool) → not a || b ≡ true → a ≡ true → b ≡ true
+apply true b e p = e
+apply false b e p = absurd (true≢false (sym p))
+
+suppose : (a b : Bool) → (a ≡ true → b ≡ true) → not a || b ≡ true
+suppose true b h = h refl
+suppose false b h = refl
+
+all-true : (n : ℕ) (t : ℕ → Bool) → allBelow n t ≡ true → (i : ℕ) → i < n → t i ≡ true
+unfolding allBelow
+all-true zero t e i l = absurd (omega arith)
+all-true (suc n) t e i l = go (both (allBelow n t) (t n) e) (ℕ-discrete i n) (λ p. all-true n t p i)
+  where
+    go : (allBelow n t ≡ true) × (t n ≡ true) → Dec (i ≡ n) → (allBelow n t ≡ true → i < n → t i ≡ true) → t i ≡ true
+    go w (yes q) ih = ap t q ∙ w .1
+    go w (no q) ih = ih (w .0) (omega arith)
+
+true-all : (n : ℕ) (t : ℕ → Bool) → ((i : ℕ) → i < n → t i ≡ true) → allBelow n t ≡ true
+unfolding allBelow
+true-all zero t h = refl
+true-all (suc n) t h = join (allBelow n t) (t n) (true-all n t (λ i l. h i (omega arith))) (h n (omega arith))
+
+decides : (P : Type 0) (r : Bool) → (r ≡ true → P) → (P → r ≡ true) → Decides P r
+decides P r f g = record { holds = f; fails = λ e p. true≢false (sym (g p) ∙ e) }
+
+-- The mosaic.
+unfoldable pub batchTest : MosaicSection → List Batch → ℕ → Bool
+batchTest m bs i =
+    ltb (batchBefore bs i .last) (batchAt bs i .last)
+    && (leb (ready m (batchAt bs i .last)) (batchAt bs i .start)
+    && (leb (batchBefore bs i .finish) (batchAt bs i .start)
+    && (eqb (batchAt bs i .finish) (batchAt bs i .start + m .mount + benchSum m (batchBefore bs i .last) (batchSize bs i))
+    && leb (batchAt bs i .finish) ceiling)))
+
+unfoldable pub isMosaic : MosaicSection → List Batch → Bool
+isMosaic m bs = eqb (batchBefore bs (length bs) .last) (m .strips) && allBelow (length bs) (batchTest m bs)
+
+module _ (m : MosaicSection) (bs : List Batch) where
+  record BatchTested (i : ℕ) : Type 0 where
+    pub runs : batchBefore bs i .last < batchAt bs i .last
+    pub waits-strip : ready m (batchAt bs i .last) ≤ batchAt bs i .start
+    pub waits-batch : batchBefore bs i .finish ≤ batchAt bs i .start
+    pub finishes : batchAt bs i .finish ≡ batchAt bs i .start + m .mount + benchSum m (batchBefore bs i .last) (batchSize bs i)
+    pub within : batchAt bs i .finish ≤ ceiling
+
+  batch-tested : (i : ℕ) → batchTest m bs i ≡ true → BatchTested i
+  unfolding batchTest
+  batch-tested i e =
+      let a = both _ _ e in
+      let b = both _ _ (a .1) in
+      let c = both _ _ (b .1) in
+      let d = both _ _ (c .1) in
+      record {
+        runs = ltb-true _ _ (a .0);
+        waits-strip = leb-true _ _ (b .0);
+        waits-batch = leb-true _ _ (c .0);
+        finishes = eqb-true _ _ (d .0);
+        within = leb-true _ _ (d .1);
+      }
+
+  mosaic-true : isMosaic m bs ≡ true → MosaicLawful m bs
+  unfolding isMosaic
+  mosaic-true e =
+      let w = both (eqb (batchBefore bs (length bs) .last) (m .strips)) (allBelow (length bs) (batchTest m bs)) e in
+      let at : (i : ℕ) → i < length bs → BatchTested i = λ i l. batch-tested i (all-true (length bs) (batchTest m bs) (w .1) i l) in
+      record {
+        runs = λ i l. at i l .runs;
+        covers = eqb-true _ _ (w .0);
+        waits-strip = λ i l. at i l .waits-strip;
+        waits-batch = λ i l. at i l .waits-batch;
+        finishes = λ i l. at i l .finishes;
+        within = λ i l. at i l .within;
+      }
+
+  true-mosaic : MosaicLawful m bs → isMosaic m bs ≡ true
+  unfolding isMosaic batchTest
+  true-mosaic L =
+      join _ _ (eq-eqb _ _ (L .covers))
+      (true-all (length bs) (batchTest m bs) (λ i l.
+      join _ _ (lt-ltb _ _ (L .runs i l))
+      (join _ _ (le-leb _ _ (L .waits-strip i l))
+      (join _ _ (le-leb _ _ (L .waits-batch i l))
+      (join _ _ (eq-eqb _ _ (L .finishes i l)) (le-leb _ _ (L .within i l)))))))
+
+  pub mosaic-decided : Decides (MosaicLawful m bs) (isMosaic m bs)
+  mosaic-decided = decides (MosaicLawful m bs) (isMosaic m bs) mosaic-true true-mosaic
+
+-- The sorting.
+unfoldable pub jobTest : SortingSection → List Job → ℕ → Bool
+jobTest s js i =
+    (leb 1 (jobAt js i .desk) && leb (jobAt js i .desk) (s .desks))
+    && (eqb (jobAt js i .number) (jobsOf js (jobAt js i .desk) i + 1)
+    && (leb (scanEnd s (jobAt js i)) (jobAt js i .start) && leb (deskFinish s (jobAt js i)) ceiling))
+
+-- two jobs of which the first comes earlier in the list
+unfoldable pub jobsTest : SortingSection → Job → Job → Bool
+jobsTest s a b = leb (scanEnd s a) (b .scan) && (not (eqb (a .desk) (b .desk)) || leb (deskFinish s a) (b .start))
+
+unfoldable pub isSorting : SortingSection → List Job → Bool
+isSorting s js =
+    allBelow (length js) (jobTest s js)
+    && (allBelow (s .desks) (λ d. eqb (jobsOf js (d + 1) (length js)) (stripsOf s (d + 1)))
+    && allBelow (length js) (λ k. allBelow k (λ i. jobsTest s (jobAt js i) (jobAt js k))))
+
+module _ (s : SortingSection) (js : List Job) where
+  record JobTested (i : ℕ) : Type 0 where
+    pub at-desk : (1 ≤ jobAt js i .desk) × (jobAt js i .desk ≤ s .desks)
+    pub in-turn : jobAt js i .number ≡ jobsOf js (jobAt js i .desk) i + 1
+    pub after-scan : scanEnd s (jobAt js i) ≤ jobAt js i .start
+    pub within : deskFinish s (jobAt js i) ≤ ceiling
+
+  job-tested : (i : ℕ) → jobTest s js i ≡ true → JobTested i
+  unfolding jobTest
+  job-tested i e =
+      let a = both _ _ e in
+      let d = both _ _ (a .0) in
+      let b = both _ _ (a .1) in
+      let c = both _ _ (b .1) in
+      record { at-desk = (leb-true _ _ (d .0), leb-true _ _ (d .1)); in-turn = eqb-true _ _ (b .0); after-scan = leb-true _ _ (c .0); within = leb-true _ _ (c .1) }
+
+  record JobsTested (a b : Job) : Type 0 where
+    pub one-scan : scanEnd s a ≤ b .scan
+    pub one-job : a .desk ≡ b .desk → deskFinish s a ≤ b .start
+
+  jobs-tested : (a b : Job) → jobsTest s a b ≡ true → JobsTested a b
+  unfolding jobsTest
+  jobs-tested a b e =
+      let w = both _ _ e in
+      record { one-scan = leb-true _ _ (w .0); one-job = λ q. leb-true _ _ (apply (eqb (a .desk) (b .desk)) (leb (deskFinish s a) (b .start)) (w .1) (eq-eqb _ _ q)) }
+
+  strips-at : (desk : ℕ) → 1 ≤ desk → jobsOf js (desk - 1 + 1) (length js) ≡ stripsOf s (desk - 1 + 1) → jobsOf js desk (length js) ≡ stripsOf s desk
+  strips-at desk p e = subst (λ (d : ℕ). jobsOf js d (length js) ≡ stripsOf s d) (omega arith) e
+
+  sorting-true : isSorting s js ≡ true → SortingLawful s js
+  unfolding isSorting
+  sorting-true e =
+      let w = both _ _ e in
+      let v = both _ _ (w .1) in
+      let at : (i : ℕ) → i < length js → JobTested i = λ i l. job-tested i (all-true (length js) (jobTest s js) (w .0) i l) in
+      let pair : (i k : ℕ) → i < k → k < length js → JobsTested (jobAt js i) (jobAt js k)
+      = λ i k h l. jobs-tested (jobAt js i) (jobAt js k) (all-true k (λ i. jobsTest s (jobAt js i) (jobAt js k)) (all-true (length js) (λ k. allBelow k (λ i. jobsTest s (jobAt js i) (jobAt js k))) (v .1) k l) i h) in
+      record {
+        at-desk = λ i l. at i l .at-desk;
+        in-turn = λ i l. at i l .in-turn;
+        all-strips = λ desk p q. strips-at desk p (eqb-true _ _ (all-true (s .desks) (λ d. eqb (jobsOf js (d + 1) (length js)) (stripsOf s (d + 1))) (v .0) (desk - 1) (omega arith)));
+        one-scan = λ i k h l. pair i k h l .one-scan;
+        after-scan = λ i l. at i l .after-scan;
+        one-job = λ i k h l q. pair i k h l .one-job q;
+        within = λ i l. at i l .within;
+      }
+
+  true-sorting : SortingLawful s js → isSorting s js ≡ true
+  unfolding isSorting jobTest jobsTest
+  true-sorting L =
+      join _ _
+      (true-all (length js) (jobTest s js) (λ i l.
+      join _ _ (join _ _ (le-leb _ _ (L .at-desk i l .0)) (le-leb _ _ (L .at-desk i l .1)))
+      (join _ _ (eq-eqb _ _ (L .in-turn i l))
+      (join _ _ (le-leb _ _ (L .after-scan i l)) (le-leb _ _ (L .within i l))))))
+      (join _ _
+      (true-all (s .desks) (λ d. eqb (jobsOf js (d + 1) (length js)) (stripsOf s (d + 1))) (λ d l. eq-eqb _ _ (L .all-strips (d + 1) (omega arith) (omega arith))))
+      (true-all (length js) (λ k. allBelow k (λ i. jobsTest s (jobAt js i) (jobAt js k))) (λ k l.
+      true-all k (λ i. jobsTest s (jobAt js i) (jobAt js k)) (λ i h.
+      join _ _ (le-leb _ _ (L .one-scan i k h l))
+      (suppose (eqb (jobAt js i .desk) (jobAt js k .desk)) (leb (deskFinish s (jobAt js i)) (jobAt js k .start)) (λ q. le-leb _ _ (L .one-job i k h l (eqb-true _ _ q))))))))
+
+  pub sorting-decided : Decides (SortingLawful s js) (isSorting s js)
+  sorting-decided = decides (SortingLawful s js) (isSorting s js) sorting-true true-sorting
+
+-- The flight, with its order.
+unfoldable pub blockTest : FlightSection → List Passes → ℕ → Bool
+blockTest f ps i = eqb (passesAt ps i .second) (passesAt ps i .first + getD (f .first) i 0 + getD (f .delay) i 0)
+
+unfoldable pub apartTest : FlightSection → List Passes → ℕ → ℕ → Bool
+apartTest f ps p q = eqb p q || (leb (passEnd f ps p) (passStart f ps q) || leb (passEnd f ps q) (passStart f ps p))
+
+unfoldable pub isFlight : FlightSection → List Passes → Bool
+isFlight f ps =
+    eqb (length ps) (f .blocks)
+    && (allBelow (f .blocks) (blockTest f ps)
+    && (allBelow (2 * f .blocks) (λ p. allBelow (2 * f .blocks) (apartTest f ps p))
+    && allBelow (2 * f .blocks) (λ p. leb (passEnd f ps p) ceiling)))
+
+unfoldable pub keepsOrder : FlightSection → ℕ → List Passes → Bool
+keepsOrder f order ps = allBelow (2 * f .blocks) (λ k. allBelow k (λ j. ltb (passStart f ps (passAt f order j)) (passStart f ps (passAt f order k))))
+
+unfoldable pub mayHaveOrder : FlightSection → ℕ → Bool
+mayHaveOrder f order = isProper (f .blocks) order && (not (f .ordered) || eqb order (f .order))
+
+module _ (f : FlightSection) (ps : List Passes) where
+  abbrev Apart : ℕ → ℕ → Type 0
+  Apart p q = (passEnd f ps p ≤ passStart f ps q) ⊎ (passEnd f ps q ≤ passStart f ps p)
+
+  apart-true : (p q : ℕ) → apartTest f ps p q ≡ true → (p ≡ q → ⊥) → Apart p q
+  unfolding apartTest
+  apart-true p q e ne =
+      ⊎-elim (λ h. absurd (ne (eqb-true p q h)))
+      (λ h. ⊎-elim (λ a. inl (leb-true _ _ a)) (λ b. inr (leb-true _ _ b)) (either (leb (passEnd f ps p) (passStart f ps q)) (leb (passEnd f ps q) (passStart f ps p)) h))
+      (either (eqb p q) (leb (passEnd f ps p) (passStart f ps q) || leb (passEnd f ps q) (passStart f ps p)) e)
+
+  true-apart : (p q : ℕ) → ((p ≡ q → ⊥) → Apart p q) → apartTest f ps p q ≡ true
+  unfolding apartTest
+  true-apart p q h = go (ℕ-discrete p q)
+    where
+      go : Dec (p ≡ q) → eqb p q || (leb (passEnd f ps p) (passStart f ps q) || leb (passEnd f ps q) (passStart f ps p)) ≡ true
+      go (yes e) = left (eqb p q) _ (eq-eqb p q e)
+      go (no n) =
+          right (eqb p q) _
+          (⊎-elim (λ a. left (leb (passEnd f ps p) (passStart f ps q)) _ (le-leb _ _ a)) (λ b. right (leb (passEnd f ps p) (passStart f ps q)) _ (le-leb _ _ b)) (h n))
+
+  flight-true : isFlight f ps ≡ true → FlightLawful f ps
+  unfolding isFlight blockTest
+  flight-true e =
+      let a = both _ _ e in
+      let b = both _ _ (a .1) in
+      let c = both _ _ (b .1) in
+      record {
+        every-block = eqb-true _ _ (a .0);
+        exact-delay = λ i l. eqb-true _ _ (all-true (f .blocks) (blockTest f ps) (b .0) i l);
+        apart = λ p q lp lq ne. apart-true p q (all-true (2 * f .blocks) (apartTest f ps p) (all-true (2 * f .blocks) (λ p. allBelow (2 * f .blocks) (apartTest f ps p)) (c .0) p lp) q lq) ne;
+        within = λ p l. leb-true _ _ (all-true (2 * f .blocks) (λ p. leb (passEnd f ps p) ceiling) (c .1) p l);
+      }
+
+  true-flight : FlightLawful f ps → isFlight f ps ≡ true
+  unfolding isFlight blockTest
+  true-flight L =
+      join _ _ (eq-eqb _ _ (L .every-block))
+      (join _ _ (true-all (f .blocks) (blockTest f ps) (λ i l. eq-eqb _ _ (L .exact-delay i l)))
+      (join _ _
+      (true-all (2 * f .blocks) (λ p. allBelow (2 * f .blocks) (apartTest f ps p)) (λ p lp.
+      true-all (2 * f .blocks) (apartTest f ps p) (λ q lq. true-apart p q (λ ne. L .apart p q lp lq ne))))
+      (true-all (2 * f .blocks) (λ p. leb (passEnd f ps p) ceiling) (λ p l. le-leb _ _ (L .within p l)))))
+
+  pub flight-decided : Decides (FlightLawful f ps) (isFlight f ps)
+  flight-decided = decides (FlightLawful f ps) (isFlight f ps) flight-true true-flight
+
+  module _ (order : ℕ) where
+    keeps-true : keepsOrder f order ps ≡ true → Keeps f order ps
+    unfolding keepsOrder
+    keeps-true e =
+        record {
+          by-start = λ j k h l. ltb-true _ _ (all-true k (λ j. ltb (passStart f ps (passAt f order j)) (passStart f ps (passAt f order k))) (all-true (2 * f .blocks) (λ k. allBelow k (λ j. ltb (passStart f ps (passAt f order j)) (passStart f ps (passAt f order k)))) e k l) j h);
+        }
+
+    true-keeps : Keeps f order ps → keepsOrder f order ps ≡ true
+    unfolding keepsOrder
+    true-keeps K =
+        true-all (2 * f .blocks) (λ k. allBelow k (λ j. ltb (passStart f ps (passAt f order j)) (passStart f ps (passAt f order k)))) (λ k l.
+        true-all k (λ j. ltb (passStart f ps (passAt f order j)) (passStart f ps (passAt f order k))) (λ j h. lt-ltb _ _ (K .by-start j k h l)))
+
+    pub keeps-decided : Decides (Keeps f order ps) (keepsOrder f order ps)
+    keeps-decided = decides (Keeps f order ps) (keepsOrder f order ps) keeps-true true-keeps
+
+module _ (f : FlightSection) (order : ℕ) where
+  order-true : mayHaveOrder f order ≡ true → OrderAllowed f order
+  unfolding mayHaveOrder
+  order-true e =
+      let w = both (isProper (f .blocks) order) (not (f .ordered) || eqb order (f .order)) e in
+      record { proper = proper-true (f .blocks) order (w .0); as-given = λ g. eqb-true _ _ (apply (f .ordered) (eqb order (f .order)) (w .1) g) }
+
+  true-order : OrderAllowed f order → mayHaveOrder f order ≡ true
+  unfolding mayHaveOrder
+  true-order A = join _ _ (true-proper (f .blocks) order (A .proper)) (suppose (f .ordered) (eqb order (f .order)) (λ g. eq-eqb _ _ (A .as-given g)))
+
+  pub order-decided : Decides (OrderAllowed f order) (mayHaveOrder f order)
+  order-decided = decides (OrderAllowed f order) (mayHaveOrder f order) order-true true-order

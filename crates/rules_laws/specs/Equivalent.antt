@@ -1,0 +1,46 @@
+-- The rules by index and the rules as they run over the members in order say the same, both ways; and so do the figures.
+use mathlib.Core.Path.{_≡_}
+use mathlib.Core.List.{List}
+use Prim.Native.Nat.{ℕ}
+use Rattle.sheet.specs.Sound.{SortingSound, FlightSound}
+use Rattle.sheet.specs.declared.MosaicSection.{MosaicSection}
+use Rattle.sheet.specs.declared.SortingSection.{SortingSection}
+use Rattle.sheet.specs.declared.FlightSection.{FlightSection}
+use Rattle.rules.specs.Mosaic.{noBatch, MosaicLawful, mosaicFigure}
+use Rattle.rules.specs.Sorting.{SortingLawful, sortingFigure}
+use Rattle.rules.specs.Flight.{FlightLawful, Keeps, OrderAllowed}
+use Rattle.rules.specs.Running.{MosaicRuns, freeDesks, SortingRuns, FlightRuns}
+use Rattle.rules.specs.declared.Batch.{Batch}
+use Rattle.rules.specs.declared.Job.{Job}
+use Rattle.rules.specs.declared.Passes.{Passes}
+use Rattle.rules_laws.specs.MosaicRunning as mosaic
+use Rattle.rules_laws.specs.SortingRunning as sorting
+use Rattle.rules_laws.specs.FlightRunning as flight
+
+module _ (m : MosaicSection) (bs : List Batch) where
+  pub mosaic-runs : MosaicLawful m bs → MosaicRuns m noBatch bs
+  mosaic-runs L = mosaic.lawful-runs m bs L
+
+  pub runs-mosaic : MosaicRuns m noBatch bs → MosaicLawful m bs
+  runs-mosaic R = mosaic.runs-lawful m bs R
+
+  -- the sum of completions is the sum, over the batches, of the count of a batch's strips times its finish
+  pub mosaic-figure : MosaicRuns m noBatch bs → mosaicFigure m bs ≡ mosaic.runningFigure noBatch bs
+  mosaic-figure R = mosaic.figure-running m bs R
+
+module _ (s : SortingSection) (js : List Job) where
+  pub sorting-runs : SortingSound s → SortingLawful s js → SortingRuns s freeDesks js
+  sorting-runs sound L = sorting.lawful-runs s js sound L
+
+  pub runs-sorting : SortingSound s → SortingRuns s freeDesks js → SortingLawful s js
+  runs-sorting sound R = sorting.runs-lawful s js sound R
+
+  pub sorting-figure : sortingFigure s js ≡ sorting.runningFinishes s js
+  sorting-figure = sorting.finishes-running s js
+
+module _ (f : FlightSection) (order : ℕ) (ps : List Passes) where
+  pub flight-runs : FlightLawful f ps → Keeps f order ps → OrderAllowed f order → FlightRuns f order ps
+  flight-runs L kept allowed = flight.lawful-runs f ps order L kept allowed
+
+  pub runs-flight : FlightSound f → FlightRuns f order ps → FlightLawful f ps × Keeps f order ps × OrderAllowed f order
+  runs-flight sound R = (flight.runs-lawful f ps order R, flight.runs-keeps f ps order R sound, flight.runs-allowed f ps order R)

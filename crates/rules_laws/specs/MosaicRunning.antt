@@ -1,0 +1,146 @@
+-- The rules of the mosaic, by index and as they run over the batches, say the same: batch i follows the batch before it.
+-- The figure is summed batch by batch: a batch adds the count of its strips times its finish.
+use mathlib.Core.Path.{_≡_, refl, sym, ap, _∙_}
+use mathlib.Core.List.{List, [], _∷_}
+use Prim.Native.Nat.{ℕ, zero, suc, _+_, _-_, _*_, _≤_, _<_}
+use native.Mathlib.Omega.{arith}
+use lib.ListN.{length, getD}
+use borrow.Author.Tests.{le-leb, lt-leb}
+use Rattle.sheet.specs.Limits.{ceiling}
+use Rattle.sheet.specs.declared.MosaicSection.{MosaicSection}
+use Rattle.rules.specs.Sums.{sumOver}
+use Rattle.rules.specs.Mosaic.{ready, benchSum, noBatch, batchAt, batchBefore, batchSize, MosaicLawful, completion, mosaicFigure}
+use Rattle.rules.specs.Running.{BatchFollows, MosaicRuns, none, more}
+use Rattle.rules.specs.declared.Batch.{Batch}
+use Rattle.rules_laws.specs.Sums.{sum-split, sum-same, sum-const}
+
+-- the last strip of every batch is one of the section's
+pub last-within : (m : MosaicSection) (b : Batch) (bs : List Batch) → MosaicRuns m b bs → b .last ≤ m .strips
+last-within m b [] (none e) = omega arith
+last-within m b (c ∷ bs) (more f r) = omega (arith, f .rises, f .known)
+
+-- no more batches than strips
+pub count-within : (m : MosaicSection) (b : Batch) (bs : List Batch) → MosaicRuns m b bs → b .last + length bs ≤ m .strips
+count-within m b [] (none e) = omega arith
+count-within m b (c ∷ bs) (more f r) = omega (arith, count-within m c bs r, f .rises)
+
+-- batch i of a list after a batch, and the batch before it: what holds of both but for the last strip's bound
+record BatchAfter (m : MosaicSection) (before b : Batch) : Type 0 where
+  pub rises : before .last < b .last
+  pub waits-strip : ready m (b .last) ≤ b .start
+  pub waits-batch : before .finish ≤ b .start
+  pub finishes : b .finish ≡ b .start + m .mount + benchSum m (before .last) (b .last - before .last)
+  pub within : b .finish ≤ ceiling
+
+module _ (m : MosaicSection) where
+  follows : (before b : Batch) (bs : List Batch) → BatchAfter m before b → MosaicRuns m b bs → BatchFollows m before b
+  follows before b bs a r = record {
+    rises = a .rises;
+    known = last-within m b bs r;
+    waits-strip = a .waits-strip;
+    waits-batch = a .waits-batch;
+    finishes = a .finishes;
+    within = a .within;
+  }
+
+  collect : (bs : List Batch) (b : Batch) → ((i : ℕ) → i < length bs → BatchAfter m (getD (b ∷ bs) i noBatch) (getD bs i noBatch))
+      → getD (b ∷ bs) (length bs) noBatch .last ≡ m .strips → MosaicRuns m b bs
+  collect [] b h e = none e
+  collect (c ∷ bs) b h e =
+      let r : MosaicRuns m c bs = collect bs c (λ i k. h (suc i) (omega arith)) e in
+      more (follows b c bs (h 0 (omega arith)) r) r
+
+  each : (bs : List Batch) (b : Batch) → MosaicRuns m b bs → (i : ℕ) → i < length bs → BatchFollows m (getD (b ∷ bs) i noBatch) (getD bs i noBatch)
+  each [] b (none e) i h = absurd (omega arith)
+  each (c ∷ bs) b (more f r) zero h = f
+  each (c ∷ bs) b (more f r) (suc i) h = each bs c r i (omega arith)
+
+  end : (bs : List Batch) (b : Batch) → MosaicRuns m b bs → getD (b ∷ bs) (length bs) noBatch .last ≡ m .strips
+  end [] b (none e) = e
+  end (c ∷ bs) b (more f r) = end bs c r
+
+  before-is : (bs : List Batch) (i : ℕ) → batchBefore bs i ≡ getD (noBatch ∷ bs) i noBatch
+  unfolding batchBefore batchAt
+  before-is bs zero = refl
+  before-is bs (suc i) = refl
+
+  pub lawful-runs : (bs : List Batch) → MosaicLawful m bs → MosaicRuns m noBatch bs
+  unfolding batchAt batchSize
+  lawful-runs bs L =
+      collect bs noBatch
+      (λ i h. rw (← before-is bs i) (record {
+        rises = L .runs i h;
+        waits-strip = L .waits-strip i h;
+        waits-batch = L .waits-batch i h;
+        finishes = L .finishes i h;
+        within = L .within i h;
+      }))
+      (rw (← before-is bs (length bs)) (L .covers))
+
+  pub follows-at : (bs : List Batch) → MosaicRuns m noBatch bs → (i : ℕ) → i < length bs → BatchFollows m (batchBefore bs i) (batchAt bs i)
+  unfolding batchAt
+  follows-at bs R i h = rw (before-is bs i) (each bs noBatch R i h)
+
+  pub runs-lawful : (bs : List Batch) → MosaicRuns m noBatch bs → MosaicLawful m bs
+  unfolding batchSize
+  runs-lawful bs R = record {
+    runs = λ i h. follows-at bs R i h .rises;
+    covers = rw (before-is bs (length bs)) (end bs noBatch R);
+    waits-strip = λ i h. follows-at bs R i h .waits-strip;
+    waits-batch = λ i h. follows-at bs R i h .waits-batch;
+    finishes = λ i h. follows-at bs R i h .finishes;
+    within = λ i h. follows-at bs R i h .within;
+  }
+
+-- the figure, batch by batch: each batch's strips times its finish
+unfoldable pub runningFigure : Batch → List Batch → ℕ
+runningFigure before [] = 0
+runningFigure before (b ∷ bs) = (b .last - before .last) * b .finish + runningFigure b bs
+
+-- the completions of the strips after strip i
+unfoldable restFigure : MosaicSection → ℕ → List Batch → ℕ
+restFigure m i bs = sumOver (m .strips - i) (λ k. completion bs (i + k + 1))
+
+rest-whole : (m : MosaicSection) (bs : List Batch) → mosaicFigure m bs ≡ restFigure m 0 bs
+unfolding mosaicFigure restFigure
+rest-whole m bs =
+    let e : m .strips - 0 ≡ m .strips = omega arith in
+    rw e (sum-same (m .strips) (λ j. completion bs (j + 1)) (λ k. completion bs (0 + k + 1)) (λ k h. ap (λ (n : ℕ). completion bs n) (omega arith)))
+
+rest-end : (m : MosaicSection) (i : ℕ) (bs : List Batch) → m .strips ≤ i → restFigure m i bs ≡ 0
+unfolding restFigure sumOver
+rest-end m i bs h =
+    let e : m .strips - i ≡ 0 = omega arith in
+    rw e
+
+own : (b : Batch) (bs : List Batch) (j : ℕ) → j ≤ b .last → completion (b ∷ bs) j ≡ b .finish
+unfolding completion
+own b bs j h = rw (le-leb j (b .last) h)
+
+later : (b : Batch) (bs : List Batch) (j : ℕ) → b .last < j → completion (b ∷ bs) j ≡ completion bs j
+unfolding completion
+later b bs j h = rw (lt-leb j (b .last) h)
+
+rest-cons : (m : MosaicSection) (i : ℕ) (b : Batch) (bs : List Batch) → i ≤ b .last → b .last ≤ m .strips
+    → restFigure m i (b ∷ bs) ≡ (b .last - i) * b .finish + restFigure m (b .last) bs
+unfolding restFigure
+rest-cons m i b bs h k =
+    let f : ℕ → ℕ = λ n. completion (b ∷ bs) (i + n + 1) in
+    let e : m .strips - i ≡ b .last - i + (m .strips - b .last) = omega arith in
+    let first : sumOver (b .last - i) f ≡ (b .last - i) * b .finish = sum-const (b .last - i) (b .finish) f (λ n l. own b bs (i + n + 1) (omega arith)) in
+    let rest : sumOver (m .strips - b .last) (λ n. f (b .last - i + n)) ≡ sumOver (m .strips - b .last) (λ n. completion bs (b .last + n + 1))
+    = sum-same (m .strips - b .last) (λ n. f (b .last - i + n)) (λ n. completion bs (b .last + n + 1))
+    (λ n l.
+    let z : i + (b .last - i + n) + 1 ≡ b .last + n + 1 = omega arith in
+    rw z (later b bs (b .last + n + 1) (omega arith))) in
+    rw e (omega (arith, sum-split (b .last - i) (m .strips - b .last) f, first, rest))
+
+rest-running : (m : MosaicSection) (before : Batch) (bs : List Batch) → MosaicRuns m before bs → restFigure m (before .last) bs ≡ runningFigure before bs
+unfolding runningFigure
+rest-running m before [] (none e) = rest-end m (before .last) [] (omega arith)
+rest-running m before (b ∷ bs) (more f r) =
+    rest-cons m (before .last) b bs (omega (arith, f .rises)) (f .known) ∙ ap (λ (n : ℕ). (b .last - before .last) * b .finish + n) (rest-running m b bs r)
+
+pub figure-running : (m : MosaicSection) (bs : List Batch) → MosaicRuns m noBatch bs → mosaicFigure m bs ≡ runningFigure noBatch bs
+unfolding noBatch
+figure-running m bs R = rest-whole m bs ∙ rest-running m noBatch bs R

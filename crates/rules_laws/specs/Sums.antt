@@ -1,0 +1,55 @@
+-- Sums and greatest values over the numbers below n: split in two, of equal terms, of terms that are bounded.
+use mathlib.Core.Path.{_≡_, refl, ap, _∙_}
+use Prim.Native.Nat.{ℕ, zero, suc, _+_, _*_, _-_, _≤_, _<_, max}
+use native.Mathlib.Decide.{ℕ-discrete}
+use native.Mathlib.Omega.{arith}
+use Rattle.rules.specs.Sums.{sumOver, greatestOver}
+
+pub sum-split : (a c : ℕ) (f : ℕ → ℕ) → sumOver (a + c) f ≡ sumOver a f + sumOver c (λ k. f (a + k))
+unfolding sumOver
+sum-split a zero f =
+    let e : a + 0 ≡ a = omega arith in
+    rw e (omega arith)
+sum-split a (suc c) f =
+    let e : a + suc c ≡ suc (a + c) = omega arith in
+    rw e (omega (arith, sum-split a c f))
+
+pub sum-same : (n : ℕ) (f g : ℕ → ℕ) → ((k : ℕ) → k < n → f k ≡ g k) → sumOver n f ≡ sumOver n g
+unfolding sumOver
+sum-same zero f g h = refl
+sum-same (suc n) f g h = omega (arith, sum-same n f g (λ k l. h k (omega arith)), h n (omega arith))
+
+pub sum-const : (n c : ℕ) (f : ℕ → ℕ) → ((k : ℕ) → k < n → f k ≡ c) → sumOver n f ≡ n * c
+unfolding sumOver
+sum-const zero c f h = omega arith
+sum-const (suc n) c f h = omega (arith, sum-const n c f (λ k l. h k (omega arith)), h n (omega arith))
+
+-- the first term apart
+pub sum-first : (n : ℕ) (f : ℕ → ℕ) → sumOver (suc n) f ≡ f 0 + sumOver n (λ k. f (suc k))
+unfolding sumOver
+sum-first zero f = omega arith
+sum-first (suc n) f = omega (arith, sum-first n f)
+
+pub sum-most : (n c : ℕ) (f : ℕ → ℕ) → ((k : ℕ) → k < n → f k ≤ c) → sumOver n f ≤ n * c
+unfolding sumOver
+sum-most zero c f h = omega arith
+sum-most (suc n) c f h = omega (arith, sum-most n c f (λ k l. h k (omega arith)), h n (omega arith))
+
+pub sum-least : (n : ℕ) (f : ℕ → ℕ) → ((k : ℕ) → k < n → 1 ≤ f k) → n ≤ sumOver n f
+unfolding sumOver
+sum-least zero f h = omega arith
+sum-least (suc n) f h = omega (arith, sum-least n f (λ k l. h k (omega arith)), h n (omega arith))
+
+pub greatest-most : (n c : ℕ) (f : ℕ → ℕ) → ((k : ℕ) → k < n → f k ≤ c) → greatestOver n f ≤ c
+unfolding greatestOver
+greatest-most zero c f h = omega arith
+greatest-most (suc n) c f h = omega (arith, h n (omega arith), greatest-most n c f (λ k l. h k (omega arith)))
+
+pub greatest-part : (n : ℕ) (f : ℕ → ℕ) (k : ℕ) → k < n → f k ≤ greatestOver n f
+unfolding greatestOver
+greatest-part zero f k l = absurd (omega arith)
+greatest-part (suc n) f k l = go (ℕ-discrete k n) (greatest-part n f k)
+  where
+    go : Dec (k ≡ n) → (k < n → f k ≤ greatestOver n f) → f k ≤ max (greatestOver n f) (f n)
+    go (yes e) ih = rw e (omega arith)
+    go (no ne) ih = omega (arith, ih (omega arith))

@@ -1,0 +1,1 @@
+// Laws of the rules: the theorems stand in specs/. There is no code.
