@@ -1,0 +1,2 @@
+-- What a user of the judge needs: the theorems (Theorems), and the laws that lead to them.
+pub mod Tests
