@@ -1,2 +1,3 @@
 -- What a user of the judge needs: the theorems (Theorems), and the laws that lead to them.
 pub mod Tests
+pub mod Sections
