@@ -1,3 +1,4 @@
 -- What a user of the judge needs: the theorems (Theorems), and the laws that lead to them.
 pub mod Tests
 pub mod Sections
+pub mod Laid
