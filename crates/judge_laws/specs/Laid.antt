@@ -4,7 +4,7 @@ use Prim.Native.Nat.{ℕ, zero, suc, _+_, _-_, _*_, _^_, _≤_, _<_}
 use mathlib.Core.Path.{_≡_, refl, sym, ap, ap₂, subst, _∙_}
 use mathlib.Core.Bool.{Bool, true, false, cond}
 use mathlib.Core.List.{List, [], _∷_, _++_, append-assoc, append-nil}
-use native.Mathlib.Nat.{add-zero, mul-suc, mul-comm}
+use native.Mathlib.Nat.{add-zero, mul-suc, mul-comm, mul-le-mul-left}
 use native.Mathlib.Omega.{arith}
 use lib.ListN.{length, getD, take, drop, length-append, take-append-drop}
 use lib.Seq.{drop-drop, getD-append-add}
@@ -112,3 +112,86 @@ module _ {A : Type 0} (kind : Kind A) (plan : List ℕ) (bytes : AreBytes plan) 
           ++ drop (cond b (partFrom plan at headLen (kind .tag) (kind .size)) (record { right = false; head = at; members = 0; end = at }) .end) plan
       go false h e = let z : _≡_ {A = ℕ} 0 1 = cc in absurd (omega arith)
       go true h e = found h
+
+-- What is written is found right.
+module _ {A : Type 0} (kind : Kind A) (plan pre : List ℕ) (headTag headLen : ℕ) (content : List ℕ) (xs : List A) (post : List ℕ) (size : length content ≡ headLen) (small : headLen < 2 ^ 16) (other : getD post 0 0 ≡ kind .tag → ⊥) where
+  module _ (e : plan ≡ pre ++ ((fieldBytes headTag content ++ membersBytes (kind .bytes) xs) ++ post)) where
+    head-first : plan ≡ pre ++ (fieldBytes headTag content ++ (membersBytes (kind .bytes) xs ++ post))
+    head-first = e ∙ ap (λ (l : List ℕ). pre ++ l) (append-assoc (fieldBytes headTag content) (membersBytes (kind .bytes) xs) post)
+
+    behind-head : plan ≡ pre ++ fieldBytes headTag content ++ (membersBytes (kind .bytes) xs ++ post)
+    behind-head = head-first ∙ sym (append-assoc pre (fieldBytes headTag content) (membersBytes (kind .bytes) xs ++ post))
+
+    behind-members : plan ≡ pre ++ fieldBytes headTag content ++ membersBytes (kind .bytes) xs ++ post
+    behind-members = behind-head ∙ sym (append-assoc (pre ++ fieldBytes headTag content) (membersBytes (kind .bytes) xs) post)
+
+    front-length : length (pre ++ fieldBytes headTag content) ≡ length pre + (3 + headLen)
+    front-length = omega (arith, length-append pre (fieldBytes headTag content), length-field headTag content, size)
+
+    all-length : length (pre ++ fieldBytes headTag content ++ membersBytes (kind .bytes) xs) ≡ length pre + (3 + headLen) + (3 + kind .size) * length xs
+    all-length = omega (arith, length-append (pre ++ fieldBytes headTag content) (membersBytes (kind .bytes) xs), front-length, length-members kind xs)
+
+    head-found : fieldAt plan (length pre) ≡ Whole headTag headLen
+    head-found =
+        ap (λ (l : List ℕ). fieldAt l (length pre)) head-first
+        ∙ field-written pre headTag content (membersBytes (kind .bytes) xs ++ post) (omega (arith, size))
+        ∙ ap (Whole headTag) size
+
+    member-there : (i : ℕ) → i < length xs → fieldAt plan (length pre + (3 + headLen) + (3 + kind .size) * i) ≡ Whole (kind .tag) (kind .size)
+    member-there i l =
+        ap₂ fieldAt behind-members (ap (λ n. n + (3 + kind .size) * i) (sym front-length)) ∙ members-found kind xs (pre ++ fieldBytes headTag content) post i l
+
+    behind : getD plan (length pre + (3 + headLen) + (3 + kind .size) * length xs) 0 ≡ getD post 0 0
+    behind =
+        ap₂ (λ (l : List ℕ) (k : ℕ). getD l k 0) behind-members (sym all-length ∙ sym (add-zero _))
+        ∙ getD-append-add (pre ++ fieldBytes headTag content ++ membersBytes (kind .bytes) xs) post 0 0
+
+    some : 1 ≤ 3 + kind .size
+    some = omega arith
+
+    turns : length xs ≤ length plan
+    turns =
+        omega (arith, ap length behind-members, length-append (pre ++ fieldBytes headTag content ++ membersBytes (kind .bytes) xs) post, all-length, mul-le-mul-left (length xs) some, mul-comm (3 + kind .size) (length xs))
+
+    counted : run (length plan) plan (length pre + (3 + headLen)) (kind .tag) (kind .size) ≡ length xs
+    counted =
+        run-is (length xs) (length plan) plan (length pre + (3 + headLen)) (kind .tag) (kind .size) turns member-there
+        (other-field plan (length pre + (3 + headLen) + (3 + kind .size) * length xs) (kind .tag) (kind .size) (λ q. other (sym behind ∙ q)))
+
+    ends : length pre + (3 + headLen) + length xs * (3 + kind .size) ≡ length (pre ++ (fieldBytes headTag content ++ membersBytes (kind .bytes) xs))
+    ends =
+        omega (arith, all-length, mul-comm (3 + kind .size) (length xs), ap length (append-assoc pre (fieldBytes headTag content) (membersBytes (kind .bytes) xs)))
+
+    found-right : partOf true plan (length pre) headTag headLen (kind .tag) (kind .size)
+        ≡ record { right = true; head = length pre; members = length xs; end = length (pre ++ (fieldBytes headTag content ++ membersBytes (kind .bytes) xs)) }
+    unfolding partOf partFrom
+    found-right = rw (is-field (fieldAt plan (length pre)) headTag headLen head-found, counted, ends)
+
+    found-members : (none : A) → ((i : ℕ) → i < length xs → kind .Fits (getD xs i none)) → membersFrom (kind .read) (3 + kind .size) plan (length pre + (3 + headLen)) (length xs) ≡ xs
+    found-members none h =
+        ap₂ (λ (l : List ℕ) (k : ℕ). membersFrom (kind .read) (3 + kind .size) l k (length xs)) behind-members (sym front-length)
+        ∙ members-back kind xs (pre ++ fieldBytes headTag content) post none h
+
+  found-absent : partOf false plan (length pre) headTag headLen (kind .tag) (kind .size) ≡ record { right = true; head = length pre; members = 0; end = length (pre ++ []) }
+  unfolding partOf
+  found-absent = rw (append-nil pre)
+
+  module _ (x : Bool) (e : plan ≡ pre ++ (cond x (fieldBytes headTag content ++ membersBytes (kind .bytes) xs) [] ++ post)) where
+    pub part-written : partOf x plan (length pre) headTag headLen (kind .tag) (kind .size)
+        ≡ record { right = true; head = length pre; members = cond x (length xs) 0; end = length (pre ++ cond x (fieldBytes headTag content ++ membersBytes (kind .bytes) xs) []) }
+    part-written = go x e
+      where
+        go : (x : Bool) → plan ≡ pre ++ (cond x (fieldBytes headTag content ++ membersBytes (kind .bytes) xs) [] ++ post) → partOf x plan (length pre) headTag headLen (kind .tag) (kind .size)
+            ≡ record { right = true; head = length pre; members = cond x (length xs) 0; end = length (pre ++ cond x (fieldBytes headTag content ++ membersBytes (kind .bytes) xs) []) }
+        go true q = found-right q
+        go false q = found-absent
+
+    module _ (present : x ≡ true) where
+      there : plan ≡ pre ++ ((fieldBytes headTag content ++ membersBytes (kind .bytes) xs) ++ post)
+      there = subst (λ (y : Bool). plan ≡ pre ++ (cond y (fieldBytes headTag content ++ membersBytes (kind .bytes) xs) [] ++ post)) present e
+
+      pub head-written : plan ≡ pre ++ fieldBytes headTag content ++ (membersBytes (kind .bytes) xs ++ post)
+      head-written = behind-head there
+
+      pub members-written : (none : A) → ((i : ℕ) → i < length xs → kind .Fits (getD xs i none)) → membersFrom (kind .read) (3 + kind .size) plan (length pre + (3 + headLen)) (length xs) ≡ xs
+      members-written = found-members there
