@@ -2,3 +2,4 @@
 pub mod Tests
 pub mod Sections
 pub mod Laid
+pub mod Outcomes
