@@ -3,3 +3,4 @@ pub mod Tests
 pub mod Sections
 pub mod Laid
 pub mod Outcomes
+pub mod Allows
