@@ -1,0 +1,6 @@
+-- What a user of the judge needs: the theorems (Theorems), and the laws that lead to them.
+pub mod Tests
+pub mod Sections
+pub mod Laid
+pub mod Outcomes
+pub mod Allows
