@@ -1,6 +1,5 @@
 // Time of the mosaic planner against the same tables in plain C, at 10, 20 and 40 strips.
-// Link with a static library that exports bench_mosaic, a thin function over mosaic::plan_mosaic that returns the figure:
-//   gcc -O2 mosaic_bench.c libNAME.a
+// Build, at the repository's root: rt staticlib mosaic_bench && gcc -O2 -o target/mosaic bench/mosaic.c target/staticlib/libmosaic_bench.a
 #define _POSIX_C_SOURCE 199309L
 #include <inttypes.h>
 #include <stdint.h>
@@ -10,7 +9,7 @@
 
 typedef uint64_t u64;
 
-extern u64 bench_mosaic(size_t stations, u64 mount, size_t strips, const u64 station[160], const u64 bench[40]);
+extern u64 mosaic_best(size_t stations, u64 mount, size_t strips, const u64 station[160], const u64 bench[40]);
 
 // The planner in C: ready times, bench sums, one row of least figures and the figures of the batches that wait.
 struct plan {
@@ -130,7 +129,7 @@ static double measure(size_t n, u64 most, const char *kind) {
         ours[k] = plain[k] = 1e9;
         for (int r = 0; r < rounds; r++) {
             double t0 = now();
-            u64 a = bench_mosaic(stations, mount, n, station, bench);
+            u64 a = mosaic_best(stations, mount, n, station, bench);
             double t1 = now();
             u64 b = plan_in_c(stations, mount, n, station, bench).figure;
             double t2 = now();

@@ -1,0 +1,2 @@
+-- The section that the exported planner is given.
+pub mod Section
