@@ -4,3 +4,5 @@ pub mod Sections
 pub mod Laid
 pub mod Outcomes
 pub mod Allows
+pub mod Written
+pub mod Theorems

@@ -1,0 +1,56 @@
+-- The theorems of the judge. It finds no fault exactly in the plans that are allowed for the sheet, and its three figures are then the rules' figures of that plan.
+-- (01: "A plan is allowed for an otherwise sound sheet exactly when ..", and "The judge .. gives the figures".)
+use Prim.Native.Nat.{ℕ}
+use mathlib.Core.Path.{_≡_, refl, sym, ap, _∙_}
+use mathlib.Core.List.{List}
+use Rattle.sheet.specs.Read.{readSheet}
+use Rattle.sheet.specs.Sound.{SheetSound}
+use Rattle.sheet.specs.Theorems.{read-sound}
+use Rattle.sheet.specs.declared.Sheet.{Sheet}
+use Rattle.rules.specs.Mosaic.{mosaicFigure}
+use Rattle.rules.specs.Sorting.{sortingFigure}
+use Rattle.rules.specs.Flight.{flightFigure}
+use Rattle.rules.specs.Plan.{Plan, Allowed, AllowedFor}
+use Rattle.rules_laws.specs.ByteLaws.{AreBytes}
+use Rattle.judge.specs.Judged.{found, judged}
+use Rattle.judge.specs.declared.Judged.{Judged}
+use Rattle.judge_laws.specs.Outcomes.{PlanRight, judged-right, right-judged}
+use Rattle.judge_laws.specs.Allows.{right-allowed}
+use Rattle.judge_laws.specs.Written.{written-right, mosaic-figure-stated, sorting-figure-stated, flight-figure-stated}
+
+-- A plan in which the judge finds no fault is allowed ..
+pub judge-allows : (sheet plan : List ℕ) → AreBytes plan → judged sheet plan .number ≡ 0 → AllowedFor sheet plan
+judge-allows sheet plan bytes e =
+    let r = judged-right sheet plan e in
+    record { sound = r .0; allowed = right-allowed (readSheet sheet) plan bytes (read-sound sheet (r .0)) (r .1) }
+
+module _ (sheet plan : List ℕ) (a : AllowedFor sheet plan) where
+  judged-found : judged sheet plan ≡ found (readSheet sheet) plan
+  judged-found =
+      right-judged sheet plan (a .sound)
+      (written-right (readSheet sheet) (a .allowed .plan) plan (read-sound sheet (a .sound)) (a .allowed .lawful) (a .allowed .layout))
+
+-- .. and in a plan that is allowed it finds none.
+pub allowed-judged : (sheet plan : List ℕ) → AllowedFor sheet plan → judged sheet plan .number ≡ 0
+unfolding found
+allowed-judged sheet plan a = ap (λ (j : Judged). j .number) (judged-found sheet plan a)
+
+-- The judge's figures of a plan, where it is allowed: those that the rules give.
+pub record FiguresTrue (s : Sheet) (p : Plan) (j : Judged) : Type 0 where
+  pub place : j .place ≡ 0
+  pub mosaic : j .mosaic ≡ mosaicFigure (s .mosaic) (p .batches)
+  pub sorting : j .sorting ≡ sortingFigure (s .sorting) (p .jobs)
+  pub flight : j .flight ≡ flightFigure (s .flight) (p .passes)
+
+pub judged-figures : (sheet plan : List ℕ) (a : AllowedFor sheet plan) → FiguresTrue (readSheet sheet) (a .allowed .plan) (judged sheet plan)
+unfolding found
+judged-figures sheet plan a =
+    let sound = read-sound sheet (a .sound) in
+    let w = a .allowed in
+    let e = judged-found sheet plan a in
+    record
+      { place = ap (λ (j : Judged). j .place) e
+      ; mosaic = ap (λ (j : Judged). j .mosaic) e ∙ mosaic-figure-stated (readSheet sheet) (w .plan) plan sound (w .lawful) (w .layout)
+      ; sorting = ap (λ (j : Judged). j .sorting) e ∙ sorting-figure-stated (readSheet sheet) (w .plan) plan sound (w .lawful) (w .layout)
+      ; flight = ap (λ (j : Judged). j .flight) e ∙ flight-figure-stated (readSheet sheet) (w .plan) plan sound (w .lawful) (w .layout)
+      }
