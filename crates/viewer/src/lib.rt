@@ -2,7 +2,6 @@
 use judge::Judged;
 use planner::Answer;
 use sheet::limits::TABLE_LENGTH;
-
 ghost use mathlib.Core.Path.{_≡_};
 ghost use Rattle.judge.specs.Judged.{judged};
 ghost use Rattle.viewer.specs.Viewed.{Viewed};
