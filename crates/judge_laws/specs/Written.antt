@@ -26,7 +26,7 @@ use Rattle.rules.specs.declared.Job.{Job}
 use Rattle.rules.specs.declared.Passes.{Passes}
 use Rattle.rules_laws.specs.Equivalent.{mosaic-runs, mosaic-figure, sorting-runs, sorting-figure, flight-runs}
 use Rattle.rules_laws.specs.Fits.{mosaic-figure-most, batch-fits, sorting-figure-most, jobs-all, job-fits, flight-figure-most, passes-fits, order-fits}
-use Rattle.rules_laws.specs.RoundTrip.{batchKind, jobKind, passesKind, figure-back, flight-figure-back, order-back}
+use Rattle.rules_laws.specs.RoundTrip.{batchKind, jobKind, passesKind, figure-back, flight-head-figure-back, order-back}
 use Rattle.judge_flight.specs.Starts.{passesOf}
 use Rattle.judge_layout.specs.Layout.{partOf, mosaicPart, sortingPart, flightPart}
 use Rattle.judge_layout.specs.declared.Part.{Part}
@@ -234,7 +234,7 @@ module _ (s : Sheet) (p : Plan) (plan : List ℕ) (sound : SheetSound s) (L : Pl
     flight-stated =
         ap (λ (q : Part). figureFrom plan (q .head)) flight-part
         ∙ ap (λ (l : List ℕ). figureFrom l (length (mosaicPiece s p ++ sortingPiece s p))) flight-plan
-        ∙ flight-figure-back (mosaicPiece s p ++ sortingPiece s p) planFlightTag (membersBytes passesBytes (p .passes) ++ []) (flightFigure (s .flight) (p .passes)) (p .order)
+        ∙ flight-head-figure-back (mosaicPiece s p ++ sortingPiece s p) planFlightTag (membersBytes passesBytes (p .passes) ++ []) (flightFigure (s .flight) (p .passes)) (p .order)
         (omega (arith, flight-figure-most (s .flight) (p .passes) (sound .flight) (L .flight)))
 
     order-stated : orderFrom plan (flightPart s plan .head) ≡ p .order

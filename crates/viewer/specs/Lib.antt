@@ -1,2 +1,3 @@
 -- What the functions for C promise.
 pub mod Viewed
+pub mod Theorems
