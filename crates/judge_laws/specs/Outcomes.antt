@@ -61,7 +61,7 @@ module _ (s : Sheet) (plan : List ℕ) where
   unfolding sectionsFrom
   section-right left section e = first-right _ _ _ _ refl refl e
 
-  right-section : (left section : ℕ) → sectionVerdict s plan section .number ≡ 0 → sectionsFrom (suc left) s plan section ≡ sectionsFrom left s plan (section + 1)
+  pub right-section : (left section : ℕ) → sectionVerdict s plan section .number ≡ 0 → sectionsFrom (suc left) s plan section ≡ sectionsFrom left s plan (section + 1)
   unfolding sectionsFrom
   right-section left section e = rw (eq-eqb _ _ e, sectionsFrom)
 
