@@ -191,3 +191,55 @@ module _ (s : Sheet) (plan : List ℕ) where
     first-fault-is (suc (suc (suc zero))) l u before e n =
         right-section s plan 2 1 (before 1 (omega arith) (omega arith)) ∙ right-section s plan 1 2 (before 2 (omega arith) (omega arith)) ∙ section-wrong 0 3 (wrong-number 3 e n) ∙ e
     first-fault-is (suc (suc (suc (suc section)))) l u before e n = absurd (omega arith)
+
+-- the answer
+module _ (sheet plan : List ℕ) where
+  sheet-wrong : (readSheet sheet .number ≡ 0 → ⊥) → judged sheet plan ≡ turnedBack (readSheet sheet .number) (readSheet sheet .place)
+  unfolding judged
+  sheet-wrong n = rw (ne-eqb _ _ n)
+
+  layout-wrong : readSheet sheet .number ≡ 0 → (layoutVerdict (readSheet sheet) plan .number ≡ 0 → ⊥) → judged sheet plan ≡ turnedBack (layoutVerdict (readSheet sheet) plan .number) (layoutVerdict (readSheet sheet) plan .place)
+  unfolding judged judgedPlan
+  layout-wrong z n = rw (eq-eqb _ _ z, ne-eqb _ _ n)
+
+  sections-wrong : readSheet sheet .number ≡ 0 → layoutVerdict (readSheet sheet) plan .number ≡ 0 → (sectionsFrom 3 (readSheet sheet) plan 1 .number ≡ 0 → ⊥) → judged sheet plan ≡ turnedBack (sectionsFrom 3 (readSheet sheet) plan 1 .number) (sectionsFrom 3 (readSheet sheet) plan 1 .place)
+  unfolding judged judgedPlan concluded
+  sections-wrong z y n = rw (eq-eqb _ _ z, eq-eqb _ _ y, ne-eqb _ _ n)
+
+  none-wrong : readSheet sheet .number ≡ 0 → layoutVerdict (readSheet sheet) plan .number ≡ 0 → sectionsFrom 3 (readSheet sheet) plan 1 .number ≡ 0 → judged sheet plan .number ≡ 0
+  unfolding judged judgedPlan concluded found
+  none-wrong z y x = rw (eq-eqb _ _ z, eq-eqb _ _ y, eq-eqb _ _ x)
+
+  named : (number place : ℕ) → judged sheet plan ≡ turnedBack number place → Fault sheet plan number place → Fault sheet plan (judged sheet plan .number) (judged sheet plan .place)
+  unfolding turnedBack
+  named number place e f = subst (λ (j : Judged). Fault sheet plan (j .number) (j .place)) (sym e) f
+
+  pub turned-back-fault : (judged sheet plan .number ≡ 0 → ⊥) → Fault sheet plan (judged sheet plan .number) (judged sheet plan .place)
+  turned-back-fault h = go (ℕ-discrete _ 0) (ℕ-discrete _ 0) (ℕ-discrete _ 0)
+    where
+      go : Dec (readSheet sheet .number ≡ 0) → Dec (layoutVerdict (readSheet sheet) plan .number ≡ 0) → Dec (sectionsFrom 3 (readSheet sheet) plan 1 .number ≡ 0) → Fault sheet plan (judged sheet plan .number) (judged sheet plan .place)
+      go (no n) b c = named _ _ (sheet-wrong n) (Fault.in-sheet n refl refl)
+      go (yes z) (no n) c = let f = layout-fault (readSheet sheet) plan n in named _ _ (layout-wrong z n) (Fault.in-layout z (f .1) (f .0))
+      go (yes z) (yes y) (no n) =
+          let f = first-fault (readSheet sheet) plan n in
+          named _ _ (sections-wrong z y n) (Fault.in-section (f .section) z (layout-right (readSheet sheet) plan y) (f .low) (f .high) (f .before) (f .there) (f .fault))
+      go (yes z) (yes y) (yes x) = absurd (h (none-wrong z y x))
+
+  section-turned-back : (number place : ℕ) → readSheet sheet .number ≡ 0 → LayoutRight (readSheet sheet) plan → sectionsFrom 3 (readSheet sheet) plan 1 ≡ verdict number place → (number ≡ 0 → ⊥) → judged sheet plan ≡ turnedBack number place
+  unfolding verdict
+  section-turned-back number place z l e n =
+      sections-wrong z (right-layout (readSheet sheet) plan l) (λ q. n (sym (ap (λ (v : Verdict). v .number) e) ∙ q)) ∙ ap (λ (v : Verdict). turnedBack (v .number) (v .place)) e
+
+  layout-turned-back : (place : ℕ) → readSheet sheet .number ≡ 0 → layoutVerdict (readSheet sheet) plan ≡ verdict layoutWrong place → judged sheet plan ≡ turnedBack layoutWrong place
+  unfolding verdict
+  layout-turned-back place z e =
+      layout-wrong z (λ q. let y : _≡_ {A = ℕ} layoutWrong 0 = sym (ap (λ (v : Verdict). v .number) e) ∙ q in omega arith) ∙ ap (λ (v : Verdict). turnedBack (v .number) (v .place)) e
+
+  pub fault-turned-back : (number place : ℕ) → Fault sheet plan number place → judged sheet plan ≡ turnedBack number place
+  fault-turned-back number place (Fault.in-sheet n en ep) = sheet-wrong n ∙ sym (ap₂ turnedBack en ep)
+  fault-turned-back number place (Fault.in-layout z f en) =
+      layout-turned-back place z (layout-fault-is (readSheet sheet) plan place f) ∙ sym (ap (λ (k : ℕ). turnedBack k place) en)
+  fault-turned-back number place (Fault.in-section section z l low high before there f) =
+      let n = fault-number (readSheet sheet) plan section number place f in
+      section-turned-back number place z l
+      (first-fault-is (readSheet sheet) plan number place section low high before (section-fault-is (readSheet sheet) plan section number place there f) n) n
