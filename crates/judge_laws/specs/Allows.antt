@@ -153,10 +153,10 @@ module _ (s : Sheet) (plan : List ℕ) (sound : SheetSound s) where
   no-blocks h =
       let z : s .flight .blocks ≡ 0 = omega (arith, ltb-false 0 (s .flight .blocks) h) in
       let o = no-order (s .flight) (sound .flight) z (s .flight .ordered) refl in
-      record
-        { members = λ i l. absurd (omega arith)
-        ; head = record { every-block = sym z; proper = o .0; as-given = o .1; in-order = λ k l. absurd (omega arith) }
-        }
+      record {
+        members = λ i l. absurd (omega arith);
+        head = record { every-block = sym z; proper = o .0; as-given = o .1; in-order = λ k l. absurd (omega arith) };
+      }
 
   pub flight-read : sectionVerdict s plan 3 .number ≡ 0 → FlightRuns (s .flight) (orderIn s plan) (passesIn s plan)
   unfolding orderIn passesIn
@@ -260,15 +260,15 @@ module _ (s : Sheet) (plan : List ℕ) (bytes : AreBytes plan) (sound : SheetSou
   unfolding planIn
   right-allowed =
       let f = runs-flight (s .flight) (orderIn s plan) (passesIn s plan) (sound .flight) (flight-read s plan sound (r .sections .flight)) in
-      record
-        { plan = planIn s plan
-        ; lawful =
-            record
-              { mosaic = runs-mosaic (s .mosaic) (batchesIn s plan) (mosaic-read s plan (r .sections .mosaic))
-              ; sorting = runs-sorting (s .sorting) (jobsIn s plan) (sound .sorting) (sorting-read s plan sound (r .sections .sorting))
-              ; flight = f .0
-              ; kept = f .1
-              ; order = f .2
-              }
-        ; layout = plan-stands
-        }
+      record {
+        plan = planIn s plan;
+        lawful =
+            record {
+              mosaic = runs-mosaic (s .mosaic) (batchesIn s plan) (mosaic-read s plan (r .sections .mosaic));
+              sorting = runs-sorting (s .sorting) (jobsIn s plan) (sound .sorting) (sorting-read s plan sound (r .sections .sorting));
+              flight = f .0;
+              kept = f .1;
+              order = f .2;
+            };
+        layout = plan-stands;
+      }

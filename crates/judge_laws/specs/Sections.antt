@@ -209,20 +209,20 @@ module _ (s : Sheet) (plan : List ℕ) (part : Part) where
   pub flight-judged : (st : Progress) → sectionFrom (part .members) s plan 3 part 0 st .number ≡ 0 → FlightTrue
   flight-judged st e =
       let t = blocks-judged (part .members) 0 st e in
-      record
-        { runs =
-            record
-              { members = λ i l. let h : i < part .members = omega (arith, passes-length) in subst (BlockFollows (s .flight) i) (sym (pass-is i h)) (t .blocks i (omega arith) (omega arith))
-              ; head = true-head (s .flight) (orderFrom plan (part .head)) (passesOf plan (part .head + 15) (part .members)) (part .members) (sym passes-length) (t .head)
-              }
-        ; figure = t .figure
-        }
+      record {
+        runs =
+            record {
+              members = λ i l. let h : i < part .members = omega (arith, passes-length) in subst (BlockFollows (s .flight) i) (sym (pass-is i h)) (t .blocks i (omega arith) (omega arith));
+              head = true-head (s .flight) (orderFrom plan (part .head)) (passesOf plan (part .head + 15) (part .members)) (part .members) (sym passes-length) (t .head);
+            };
+        figure = t .figure;
+      }
 
   pub judged-flight : (st : Progress) → FlightTrue → sectionFrom (part .members) s plan 3 part 0 st .number ≡ 0
   judged-flight st t =
       judged-blocks (part .members) 0 st
-      (record
-        { blocks = λ i l u. subst (BlockFollows (s .flight) i) (pass-is i (omega arith)) (t .runs .members i (omega (arith, passes-length)))
-        ; head = head-true (s .flight) (orderFrom plan (part .head)) (passesOf plan (part .head + 15) (part .members)) (part .members) (sym passes-length) (t .runs .head)
-        ; figure = t .figure
-        })
+      (record {
+        blocks = λ i l u. subst (BlockFollows (s .flight) i) (pass-is i (omega arith)) (t .runs .members i (omega (arith, passes-length)));
+        head = head-true (s .flight) (orderFrom plan (part .head)) (passesOf plan (part .head + 15) (part .members)) (part .members) (sym passes-length) (t .runs .head);
+        figure = t .figure;
+      })

@@ -36,14 +36,14 @@ module _ (m : MosaicSection) (before b : Batch) where
       let r = both _ _ (p .1) in
       let t = both _ _ (r .1) in
       let u = both _ _ (t .1) in
-      record
-        { rises = ltb-true _ _ (q .0)
-        ; known = leb-true _ _ (q .1)
-        ; waits-strip = leb-true _ _ (r .0)
-        ; waits-batch = leb-true _ _ (t .0)
-        ; finishes = eqb-true _ _ (u .0)
-        ; within = leb-true _ _ (u .1)
-        }
+      record {
+        rises = ltb-true _ _ (q .0);
+        known = leb-true _ _ (q .1);
+        waits-strip = leb-true _ _ (r .0);
+        waits-batch = leb-true _ _ (t .0);
+        finishes = eqb-true _ _ (u .0);
+        within = leb-true _ _ (u .1);
+      }
 
   pub batch-true : BatchFollows m before b → batchFollows m before b ≡ true
   unfolding batchFollows batchInRun batchInTime
@@ -64,16 +64,16 @@ module _ (s : SortingSection) (d : Desks) (j : Job) where
       let u = both _ _ (p .1) in
       let v = both _ _ (u .1) in
       let w = both _ _ (v .1) in
-      record
-        { least-desk = leb-true _ _ (q .0)
-        ; most-desk = leb-true _ _ (r .0)
-        ; in-turn = eqb-true _ _ (t .0)
-        ; known = leb-true _ _ (t .1)
-        ; one-scan = leb-true _ _ (u .0)
-        ; after-scan = leb-true _ _ (v .0)
-        ; one-job = leb-true _ _ (w .0)
-        ; within = leb-true _ _ (w .1)
-        }
+      record {
+        least-desk = leb-true _ _ (q .0);
+        most-desk = leb-true _ _ (r .0);
+        in-turn = eqb-true _ _ (t .0);
+        known = leb-true _ _ (t .1);
+        one-scan = leb-true _ _ (u .0);
+        after-scan = leb-true _ _ (v .0);
+        one-job = leb-true _ _ (w .0);
+        within = leb-true _ _ (w .1);
+      }
 
   pub job-true : JobFollows s d j → jobFollows s d j ≡ true
   unfolding jobFollows jobInTurn jobInTime
@@ -158,12 +158,12 @@ module _ (f : FlightSection) (order : ℕ) (ps : List Passes) where
         let p = both _ _ e in
         let q = both _ _ (p .1) in
         let r = both _ _ (q .1) in
-        record
-          { every-block = sym em ∙ eqb-true _ _ (p .0)
-          ; proper = proper-true (f .blocks) order (q .0)
-          ; as-given = given-is (f .ordered) (f .order) (r .0)
-          ; in-order = λ k l. order-each (2 * f .blocks - 1) (r .1) k (omega arith)
-          }
+        record {
+          every-block = sym em ∙ eqb-true _ _ (p .0);
+          proper = proper-true (f .blocks) order (q .0);
+          as-given = given-is (f .ordered) (f .order) (r .0);
+          in-order = λ k l. order-each (2 * f .blocks - 1) (r .1) k (omega arith);
+        }
 
     pub head-true : FlightHead f order ps → flightHead f members order ps ≡ true
     unfolding flightHead

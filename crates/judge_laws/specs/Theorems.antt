@@ -49,12 +49,12 @@ judged-figures sheet plan a =
     let sound = read-sound sheet (a .sound) in
     let w = a .allowed in
     let e = judged-found sheet plan a in
-    record
-      { place = ap (λ (j : Judged). j .place) e
-      ; mosaic = ap (λ (j : Judged). j .mosaic) e ∙ mosaic-figure-stated (readSheet sheet) (w .plan) plan sound (w .lawful) (w .layout)
-      ; sorting = ap (λ (j : Judged). j .sorting) e ∙ sorting-figure-stated (readSheet sheet) (w .plan) plan sound (w .lawful) (w .layout)
-      ; flight = ap (λ (j : Judged). j .flight) e ∙ flight-figure-stated (readSheet sheet) (w .plan) plan sound (w .lawful) (w .layout)
-      }
+    record {
+      place = ap (λ (j : Judged). j .place) e;
+      mosaic = ap (λ (j : Judged). j .mosaic) e ∙ mosaic-figure-stated (readSheet sheet) (w .plan) plan sound (w .lawful) (w .layout);
+      sorting = ap (λ (j : Judged). j .sorting) e ∙ sorting-figure-stated (readSheet sheet) (w .plan) plan sound (w .lawful) (w .layout);
+      flight = ap (λ (j : Judged). j .flight) e ∙ flight-figure-stated (readSheet sheet) (w .plan) plan sound (w .lawful) (w .layout);
+    }
 
 -- Each number is given with its place where the fault lies, and not otherwise: 3 to 10 in the sheet, 12 only for the layout, 13 at a member or at a head, 14 at a head
 -- whose figure is untrue (Fault.antt).

@@ -138,12 +138,12 @@ module _ (s : Sheet) (p : Plan) (plan : List ℕ) (sound : SheetSound s) (L : Pl
   written-layout : LayoutRight s plan
   unfolding planBytes ifPresent mosaicBytes sortingBytes flightBytes
   written-layout =
-      record
-        { mosaic = ap (λ (q : Part). q .right) mosaic-part
-        ; sorting = ap (λ (q : Part). q .right) sorting-part
-        ; flight = ap (λ (q : Part). q .right) flight-part
-        ; end = ap (λ (q : Part). q .end) flight-part ∙ sym (ap length e)
-        }
+      record {
+        mosaic = ap (λ (q : Part). q .right) mosaic-part;
+        sorting = ap (λ (q : Part). q .right) sorting-part;
+        flight = ap (λ (q : Part). q .right) flight-part;
+        end = ap (λ (q : Part). q .end) flight-part ∙ sym (ap length e);
+      }
 
   -- the mosaic: its members and its figure are read back
   module _ (h : ltb 0 (s .mosaic .strips) ≡ true) where
@@ -245,12 +245,12 @@ module _ (s : Sheet) (p : Plan) (plan : List ℕ) (sound : SheetSound s) (L : Pl
 
     flight-written : FlightTrue s plan (flightPart s plan)
     flight-written =
-        record
-          { runs =
+        record {
+          runs =
               subst (λ (ps : List Passes). FlightRuns (s .flight) (orderFrom plan (flightPart s plan .head)) ps) (sym passes-read)
-              (subst (λ (order : ℕ). FlightRuns (s .flight) order (p .passes)) (sym order-stated) (flight-runs (s .flight) (p .order) (p .passes) (L .flight) (L .kept) (L .order)))
-          ; figure = flight-stated ∙ ap (flightFigure (s .flight)) (sym passes-read)
-          }
+              (subst (λ (order : ℕ). FlightRuns (s .flight) order (p .passes)) (sym order-stated) (flight-runs (s .flight) (p .order) (p .passes) (L .flight) (L .kept) (L .order)));
+          figure = flight-stated ∙ ap (flightFigure (s .flight)) (sym passes-read);
+        }
 
   flight-right : sectionVerdict s plan 3 .number ≡ 0
   unfolding present partAt pickPart
