@@ -1,11 +1,11 @@
 -- A plan in which the judge finds no fault is allowed: what is read from it is lawful, and its bytes are those of what is read.
 -- A section that is absent has no member, and keeps its rules so.
-use Prim.Native.Nat.{ℕ, zero, suc, _+_, _-_, _*_, _≤_, _<_}
-use mathlib.Core.Path.{_≡_, refl, sym, ap, ap₂, subst, _∙_}
+use Prim.Native.Nat.{ℕ, zero, suc, _+_, _-_, _≤_, _<_}
+use mathlib.Core.Path.{_≡_, refl, sym, ap, subst, _∙_}
 use mathlib.Core.Bool.{Bool, true, false, cond}
 use mathlib.Core.List.{List, [], _∷_, _++_, append-assoc, append-nil}
 use native.Mathlib.Omega.{arith}
-use lib.ListN.{length, getD, drop}
+use lib.ListN.{getD, drop}
 use lib.Seq.{drop-length}
 use lib.Dec.{ltb}
 use borrow.Author.Tests.{ltb-false}
@@ -14,7 +14,6 @@ use Rattle.field.specs.Field.{fieldAt, fieldBytes}
 use Rattle.order.specs.Order.{Proper, isProper, seconds, neverMoreSeconds}
 use Rattle.order.specs.Decided.{proper-true}
 use Rattle.sheet.specs.Tags.{planMosaicTag, planBatchTag, planSortingTag, planStripTag, planFlightTag, planBlockTag}
-use Rattle.sheet.specs.Limits.{mostDesks}
 use Rattle.sheet.specs.Sound.{SheetSound, SortingSound, FlightSound, stripsInAll}
 use Rattle.sheet.specs.declared.Sheet.{Sheet}
 use Rattle.sheet.specs.declared.MosaicSection.{MosaicSection}
@@ -23,9 +22,9 @@ use Rattle.sheet.specs.declared.FlightSection.{FlightSection}
 use Rattle.rules.specs.Mosaic.{noBatch, mosaicFigure}
 use Rattle.rules.specs.Sorting.{stripsOf, sortingFigure}
 use Rattle.rules.specs.Flight.{flightFigure}
-use Rattle.rules.specs.Plan.{membersBytes, batchBytes, mosaicBytes, jobBytes, sortingBytes, passesBytes, flightBytes, ifPresent, Plan, planBytes, PlanLawful, Allowed}
+use Rattle.rules.specs.Plan.{membersBytes, batchBytes, mosaicBytes, jobBytes, sortingBytes, passesBytes, flightBytes, ifPresent, Plan, planBytes, Allowed}
 use Rattle.rules.specs.PlanRead.{figureFrom, orderFrom, batchFrom, jobFrom, passesFrom, membersFrom}
-use Rattle.rules.specs.Running.{MosaicRuns, freeDesks, AllDone, SortingRuns, FlightHead, FlightRuns}
+use Rattle.rules.specs.Running.{MosaicRuns, freeDesks, AllDone, SortingRuns, FlightRuns}
 use Rattle.rules.specs.declared.Batch.{Batch}
 use Rattle.rules.specs.declared.Job.{Job}
 use Rattle.rules.specs.declared.Passes.{Passes}
@@ -34,12 +33,11 @@ use Rattle.rules_laws.specs.Equivalent.{runs-mosaic, mosaic-figure, runs-sortin
 use Rattle.rules_laws.specs.RoundTrip.{batchKind, jobKind, passesKind, figure-stands, flight-head-stands}
 use Rattle.judge_flight.specs.Starts.{passesOf}
 use Rattle.judge_layout.specs.Layout.{isField, partFrom, partOf, mosaicPart, sortingPart, flightPart}
-use Rattle.judge_layout.specs.declared.Part.{Part}
 use Rattle.judge_members.specs.Members.{present, headBytes, memberBytes, memberPlace, begun}
 use Rattle.judge.specs.Judged.{pickPart, partAt, sectionVerdict}
 use Rattle.judge_laws.specs.Sections.{MosaicTrue, mosaic-judged, SortingTrue, sorting-judged, FlightTrue, flight-judged}
 use Rattle.judge_laws.specs.Laid.{part-stands}
-use Rattle.judge_laws.specs.Outcomes.{LayoutRight, SectionsRight, PlanRight, present-right}
+use Rattle.judge_laws.specs.Outcomes.{PlanRight, present-right}
 
 -- what a plan says, read from its bytes; the order of a flight that is absent is the one given, or that of no pass
 unfoldable pub batchesIn : Sheet → List ℕ → List Batch

@@ -1,9 +1,9 @@
 -- The layout: a section that is found right stands in the plan as its head and its members, and a section that is written so is found right.
 -- One law each way over the kind of member; the counting of the members stops where another tag, or no byte, follows.
-use Prim.Native.Nat.{ℕ, zero, suc, _+_, _-_, _*_, _^_, _≤_, _<_}
+use Prim.Native.Nat.{ℕ, zero, suc, _+_, _*_, _^_, _≤_, _<_}
 use mathlib.Core.Path.{_≡_, refl, sym, ap, ap₂, subst, _∙_}
 use mathlib.Core.Bool.{Bool, true, false, cond}
-use mathlib.Core.List.{List, [], _∷_, _++_, append-assoc, append-nil}
+use mathlib.Core.List.{List, [], _++_, append-assoc, append-nil}
 use native.Mathlib.Nat.{add-zero, mul-suc, mul-comm, mul-le-mul-left}
 use native.Mathlib.Omega.{arith}
 use lib.ListN.{length, getD, take, drop, length-append, take-append-drop}
@@ -11,7 +11,7 @@ use lib.Seq.{drop-drop, getD-append-add}
 use lib.Dec.{eqb}
 use borrow.Author.Tests.{eq-eqb, eqb-true}
 use Rattle.field.specs.Field.{fieldAt, fieldBytes}
-use Rattle.field.specs.Fields.{WholeAt, whole-at}
+use Rattle.field.specs.Fields.{whole-at}
 use Rattle.field.specs.declared.Field.{Field}
 use Rattle.field.specs.declared.Field.the-variants.{End, Cut, Whole}
 use Rattle.rules.specs.Plan.{membersBytes}
@@ -19,7 +19,6 @@ use Rattle.rules.specs.PlanRead.{membersFrom}
 use Rattle.rules_laws.specs.ByteLaws.{AreBytes, length-field, field-written}
 use Rattle.rules_laws.specs.Members.{Kind, length-members, members-back, members-found, members-stand}
 use Rattle.judge_layout.specs.Layout.{isField, run, partFrom, partOf}
-use Rattle.judge_layout.specs.declared.Part.{Part}
 
 -- the test of a field
 field-is : (f : Field) (tag len : ℕ) → isField f tag len ≡ true → f ≡ Whole tag len

@@ -5,4 +5,6 @@ pub mod Laid
 pub mod Outcomes
 pub mod Allows
 pub mod Written
+pub mod Fault
+pub mod Faults
 pub mod Theorems

@@ -1,6 +1,6 @@
 -- The judge finds no fault exactly where the sheet's number, the layout's and that of each section are 0; then its answer is the figures found.
 -- The layout's number is 0 exactly where the three parts are right and the last ends with the plan.
-use Prim.Native.Nat.{ℕ, zero, suc, _+_}
+use Prim.Native.Nat.{ℕ, suc, _+_}
 use mathlib.Core.Path.{_≡_, refl, sym, ap, _∙_}
 use mathlib.Core.Bool.{Bool, true, false, cond}
 use mathlib.Core.List.{List}
@@ -12,7 +12,6 @@ use Rattle.sheet.specs.Refusals.{layoutWrong}
 use Rattle.sheet.specs.Read.{readSheet}
 use Rattle.sheet.specs.declared.Sheet.{Sheet}
 use Rattle.judge_layout.specs.Layout.{mosaicPart, sortingPart, flightPart, verdict, layoutVerdict}
-use Rattle.judge_layout.specs.declared.Part.{Part}
 use Rattle.judge_layout.specs.declared.Verdict.{Verdict}
 use Rattle.judge_members.specs.Members.{present, begun}
 use Rattle.judge.specs.Judged.{partAt, sectionFrom, sectionVerdict, sectionsFrom, turnedBack, found, concluded, judgedPlan, judged}
@@ -62,7 +61,7 @@ module _ (s : Sheet) (plan : List ℕ) where
   unfolding sectionsFrom
   section-right left section e = first-right _ _ _ _ refl refl e
 
-  right-section : (left section : ℕ) → sectionVerdict s plan section .number ≡ 0 → sectionsFrom (suc left) s plan section ≡ sectionsFrom left s plan (section + 1)
+  pub right-section : (left section : ℕ) → sectionVerdict s plan section .number ≡ 0 → sectionsFrom (suc left) s plan section ≡ sectionsFrom left s plan (section + 1)
   unfolding sectionsFrom
   right-section left section e = rw (eq-eqb _ _ e, sectionsFrom)
 

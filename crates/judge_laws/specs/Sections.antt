@@ -1,30 +1,27 @@
 -- A section that is judged without fault keeps its rules, as they run over its members, and states their figure; and the other way round.
 -- By induction over the members left, from any progress of the judging.
-use Prim.Native.Nat.{ℕ, zero, suc, _+_, _-_, _*_, _≤_, _<_}
-use mathlib.Core.Path.{_≡_, refl, sym, ap, ap₂, subst, _∙_}
-use mathlib.Core.Bool.{Bool, true, false, cond}
+use Prim.Native.Nat.{ℕ, zero, suc, _+_, _*_, _≤_, _<_}
+use mathlib.Core.Path.{_≡_, refl, sym, ap, subst, _∙_}
+use mathlib.Core.Bool.{Bool, true, false}
 use mathlib.Core.List.{List, [], _∷_}
 use native.Mathlib.Decide.{ℕ-discrete}
 use native.Mathlib.Omega.{arith}
-use lib.ListN.{length, getD}
-use lib.Dec.{eqb}
+use lib.ListN.{length}
 use borrow.Author.Tests.{eq-eqb, eqb-true}
 use Rattle.field.specs.Branch.{check, passed}
-use Rattle.sheet.specs.Refusals.{ruleBroken, figureUntrue}
+use Rattle.sheet.specs.Refusals.{ruleBroken}
 use Rattle.sheet.specs.declared.Sheet.{Sheet}
 use Rattle.sheet.specs.declared.MosaicSection.{MosaicSection}
 use Rattle.sheet.specs.declared.SortingSection.{SortingSection}
-use Rattle.rules.specs.Sorting.{deskFinish}
 use Rattle.rules.specs.Flight.{noPasses, passesAt, flightFigure}
 use Rattle.rules.specs.PlanRead.{figureFrom, orderFrom, batchFrom, jobFrom, passesFrom, membersFrom}
-use Rattle.rules.specs.Running.{BatchFollows, MosaicRuns, JobFollows, AllDone, SortingRuns, afterJob, BlockFollows, FlightHead, FlightRuns}
+use Rattle.rules.specs.Running.{BatchFollows, MosaicRuns, JobFollows, AllDone, SortingRuns, afterJob, BlockFollows, FlightRuns}
 use Rattle.rules.specs.declared.Batch.{Batch}
 use Rattle.rules.specs.declared.Job.{Job}
-use Rattle.rules.specs.declared.Passes.{Passes}
 use Rattle.rules.specs.declared.Desks.{Desks}
 use Rattle.rules_laws.specs.MosaicRunning.{runningFigure}
 use Rattle.rules_laws.specs.SortingRunning.{runningFinishes}
-use Rattle.judge_rules.specs.Follows.{batchFollows, jobFollows, blockFollows, allDone, flightHead}
+use Rattle.judge_rules.specs.Follows.{flightHead}
 use Rattle.judge_flight.specs.Starts.{passesOf}
 use Rattle.judge_flight.specs.Laws.{member-at}
 use Rattle.judge_layout.specs.Layout.{verdict}

@@ -1,20 +1,21 @@
 -- The theorems of the judge. It finds no fault exactly in the plans that are allowed for the sheet, and its three figures are then the rules' figures of that plan.
--- (01: "A plan is allowed for an otherwise sound sheet exactly when ..", and "The judge .. gives the figures".)
+-- 01: "The judge takes a sheet and a plan and gives the figure of each section, 0 for an absent section".
 use Prim.Native.Nat.{ℕ}
-use mathlib.Core.Path.{_≡_, refl, sym, ap, _∙_}
+use mathlib.Core.Path.{_≡_, ap, _∙_}
 use mathlib.Core.List.{List}
 use Rattle.sheet.specs.Read.{readSheet}
-use Rattle.sheet.specs.Sound.{SheetSound}
 use Rattle.sheet.specs.Theorems.{read-sound}
 use Rattle.sheet.specs.declared.Sheet.{Sheet}
 use Rattle.rules.specs.Mosaic.{mosaicFigure}
 use Rattle.rules.specs.Sorting.{sortingFigure}
 use Rattle.rules.specs.Flight.{flightFigure}
-use Rattle.rules.specs.Plan.{Plan, Allowed, AllowedFor}
+use Rattle.rules.specs.Plan.{Plan, AllowedFor}
 use Rattle.rules_laws.specs.ByteLaws.{AreBytes}
-use Rattle.judge.specs.Judged.{found, judged}
+use Rattle.judge.specs.Judged.{turnedBack, found, judged}
 use Rattle.judge.specs.declared.Judged.{Judged}
-use Rattle.judge_laws.specs.Outcomes.{PlanRight, judged-right, right-judged}
+use Rattle.judge_laws.specs.Outcomes.{judged-right, right-judged}
+use Rattle.judge_laws.specs.Fault.{Fault}
+use Rattle.judge_laws.specs.Faults.{fault-turned-back, turned-back-fault}
 use Rattle.judge_laws.specs.Allows.{right-allowed}
 use Rattle.judge_laws.specs.Written.{written-right, mosaic-figure-stated, sorting-figure-stated, flight-figure-stated}
 
@@ -54,3 +55,11 @@ judged-figures sheet plan a =
       sorting = ap (λ (j : Judged). j .sorting) e ∙ sorting-figure-stated (readSheet sheet) (w .plan) plan sound (w .lawful) (w .layout);
       flight = ap (λ (j : Judged). j .flight) e ∙ flight-figure-stated (readSheet sheet) (w .plan) plan sound (w .lawful) (w .layout);
     }
+
+-- Each number is given with its place where the fault lies, and not otherwise: 3 to 10 in the sheet, 12 only for the layout, 13 at a member or at a head, 14 at a head
+-- whose figure is untrue (Fault.antt).
+pub fault-judged : (sheet plan : List ℕ) (number place : ℕ) → Fault sheet plan number place → judged sheet plan ≡ turnedBack number place
+fault-judged sheet plan number place f = fault-turned-back sheet plan number place f
+
+pub judged-fault : (sheet plan : List ℕ) → (judged sheet plan .number ≡ 0 → ⊥) → Fault sheet plan (judged sheet plan .number) (judged sheet plan .place)
+judged-fault sheet plan h = turned-back-fault sheet plan h

@@ -1,9 +1,9 @@
 -- In an allowed plan the judge finds no fault: the parts are found where they are written, and the members and figures read are those of the plan.
 -- The figures stated are the rules' figures; an absent section has figure 0.
-use Prim.Native.Nat.{ℕ, zero, suc, _+_, _-_, _*_, _^_, _≤_, _<_}
+use Prim.Native.Nat.{ℕ, zero, suc, _+_, _*_, _<_}
 use mathlib.Core.Path.{_≡_, refl, sym, ap, ap₂, subst, _∙_}
 use mathlib.Core.Bool.{Bool, true, false, cond}
-use mathlib.Core.List.{List, [], _∷_, _++_, append-assoc, append-nil}
+use mathlib.Core.List.{List, [], _++_, append-assoc, append-nil}
 use native.Mathlib.Omega.{arith}
 use lib.ListN.{length, getD}
 use lib.Dec.{ltb}
@@ -11,13 +11,12 @@ use borrow.Author.Tests.{ltb-false}
 use Rattle.field.specs.Bytes.{bytesOf}
 use Rattle.field.specs.Field.{fieldBytes}
 use Rattle.sheet.specs.Tags.{planMosaicTag, planBatchTag, planSortingTag, planStripTag, planFlightTag, planBlockTag}
-use Rattle.sheet.specs.Limits.{ceiling}
 use Rattle.sheet.specs.Sound.{SheetSound, stripsInAll}
 use Rattle.sheet.specs.declared.Sheet.{Sheet}
 use Rattle.rules.specs.Sums.{sumOver, greatestOver}
-use Rattle.rules.specs.Mosaic.{noBatch, batchAt, completion, mosaicFigure}
-use Rattle.rules.specs.Sorting.{noJob, jobAt, deskFinish, sortingFigure}
-use Rattle.rules.specs.Flight.{noPasses, passesAt, passEnd, flightFigure}
+use Rattle.rules.specs.Mosaic.{noBatch, batchAt, mosaicFigure}
+use Rattle.rules.specs.Sorting.{noJob, jobAt, sortingFigure}
+use Rattle.rules.specs.Flight.{noPasses, passesAt, flightFigure}
 use Rattle.rules.specs.Plan.{membersBytes, batchBytes, mosaicBytes, jobBytes, sortingBytes, passesBytes, flightBytes, ifPresent, Plan, planBytes, PlanLawful}
 use Rattle.rules.specs.PlanRead.{figureFrom, orderFrom, batchFrom, jobFrom, passesFrom, membersFrom}
 use Rattle.rules.specs.Running.{FlightRuns}
@@ -34,7 +33,7 @@ use Rattle.judge_members.specs.Members.{present, headBytes, memberBytes, member
 use Rattle.judge.specs.Judged.{pickPart, partAt, sectionVerdict, statedFigure}
 use Rattle.judge_laws.specs.Sections.{MosaicTrue, judged-mosaic, SortingTrue, judged-sorting, FlightTrue, judged-flight}
 use Rattle.judge_laws.specs.Laid.{part-written, head-written, members-written}
-use Rattle.judge_laws.specs.Outcomes.{LayoutRight, SectionsRight, PlanRight, right-present}
+use Rattle.judge_laws.specs.Outcomes.{LayoutRight, PlanRight, right-present}
 
 -- the bytes of each section
 abbrev mosaicHead : Sheet → Plan → List ℕ

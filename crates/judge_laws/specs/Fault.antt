@@ -1,0 +1,51 @@
+-- The faults that the judge names, each with its number and its place (01, "Turned back"). "It checks the sheet (3 to 10), then all of 12, then section by section
+-- 13 on its members in order, 13 at its head, then 14." Tests.antt ties the tests at a member and at a head to the rules.
+use Prim.Native.Nat.{ℕ, _+_, _≤_, _<_}
+use mathlib.Core.Path.{_≡_}
+use mathlib.Core.Bool.{true, false}
+use mathlib.Core.List.{List}
+use lib.ListN.{length}
+use Rattle.sheet.specs.Refusals.{layoutWrong, ruleBroken, figureUntrue}
+use Rattle.sheet.specs.Read.{readSheet}
+use Rattle.sheet.specs.declared.Sheet.{Sheet}
+use Rattle.rules.specs.PlanRead.{figureFrom}
+use Rattle.judge_layout.specs.Layout.{mosaicPart, sortingPart, flightPart}
+use Rattle.judge_members.specs.Members.{present, memberPlace, begun, memberFollows, afterMember, headFollows, figureOf}
+use Rattle.judge_members.specs.declared.Progress.{Progress}
+use Rattle.judge.specs.Judged.{partAt, sectionVerdict}
+use Rattle.judge_laws.specs.Outcomes.{LayoutRight}
+
+-- the judging of a section has come to its member k, and every member before it follows
+pub data Reached (s : Sheet) (plan : List ℕ) (section : ℕ) : ℕ → Progress → Type 0 where
+  first : Reached s plan section 0 begun
+  next : {k : ℕ} {st : Progress} → Reached s plan section k st → k < partAt s plan section .members
+      → memberFollows s plan section k (memberPlace section (partAt s plan section .head) k) st ≡ true
+      → Reached s plan section (k + 1) (afterMember s plan section (memberPlace section (partAt s plan section .head) k) st)
+
+-- 13 at the first member that does not follow; where all follow, 13 at the head that does not hold; where it holds, 14 at the head whose figure is untrue
+pub data SectionFault (s : Sheet) (plan : List ℕ) (section : ℕ) : ℕ → ℕ → Type 0 where
+  at-member : {number place : ℕ} (k : ℕ) (st : Progress) → Reached s plan section k st → k < partAt s plan section .members
+      → memberFollows s plan section k (memberPlace section (partAt s plan section .head) k) st ≡ false
+      → number ≡ ruleBroken → place ≡ memberPlace section (partAt s plan section .head) k → SectionFault s plan section number place
+  at-head : {number place : ℕ} (st : Progress) → Reached s plan section (partAt s plan section .members) st
+      → headFollows s plan section (partAt s plan section) st ≡ false
+      → number ≡ ruleBroken → place ≡ partAt s plan section .head → SectionFault s plan section number place
+  figure-untrue : {number place : ℕ} (st : Progress) → Reached s plan section (partAt s plan section .members) st
+      → headFollows s plan section (partAt s plan section) st ≡ true
+      → (figureFrom plan (partAt s plan section .head) ≡ figureOf s plan section (partAt s plan section) st → ⊥)
+      → number ≡ figureUntrue → place ≡ partAt s plan section .head → SectionFault s plan section number place
+
+-- the first wrong field of the layout: a head that is not the one due, or what stands behind the last section
+pub data LayoutFault (s : Sheet) (plan : List ℕ) : ℕ → Type 0 where
+  mosaic-head : {place : ℕ} → mosaicPart s plan .right ≡ false → place ≡ mosaicPart s plan .head → LayoutFault s plan place
+  sorting-head : {place : ℕ} → mosaicPart s plan .right ≡ true → sortingPart s plan .right ≡ false → place ≡ sortingPart s plan .head → LayoutFault s plan place
+  flight-head : {place : ℕ} → mosaicPart s plan .right ≡ true → sortingPart s plan .right ≡ true → flightPart s plan .right ≡ false → place ≡ flightPart s plan .head → LayoutFault s plan place
+  behind : {place : ℕ} → mosaicPart s plan .right ≡ true → sortingPart s plan .right ≡ true → flightPart s plan .right ≡ true → (flightPart s plan .end ≡ length plan → ⊥) → place ≡ flightPart s plan .end → LayoutFault s plan place
+
+-- the first fault of a sheet and a plan
+pub data Fault (sheet plan : List ℕ) : ℕ → ℕ → Type 0 where
+  in-sheet : {number place : ℕ} → (readSheet sheet .number ≡ 0 → ⊥) → number ≡ readSheet sheet .number → place ≡ readSheet sheet .place → Fault sheet plan number place
+  in-layout : {number place : ℕ} → readSheet sheet .number ≡ 0 → LayoutFault (readSheet sheet) plan place → number ≡ layoutWrong → Fault sheet plan number place
+  in-section : {number place : ℕ} (section : ℕ) → readSheet sheet .number ≡ 0 → LayoutRight (readSheet sheet) plan → 1 ≤ section → section ≤ 3
+      → ((i : ℕ) → 1 ≤ i → i < section → sectionVerdict (readSheet sheet) plan i .number ≡ 0)
+      → present (readSheet sheet) section ≡ true → SectionFault (readSheet sheet) plan section number place → Fault sheet plan number place
