@@ -2,3 +2,4 @@
 pub mod Call
 pub mod Theorems
 pub mod Laws
+pub mod Refused

@@ -5,6 +5,7 @@ use Prim.Native.Nat.{ℕ, _≤_, _<_}
 use mathlib.Core.Path.{_≡_, refl, sym, subst, _∙_}
 use mathlib.Core.Bool.{Bool, true, false, true≢false}
 use mathlib.Core.List.{List}
+use native.Mathlib.Decide.{ℕ-discrete}
 use native.Mathlib.Omega.{arith}
 use lib.ListN.{length}
 use lib.Dec.{ltb, eqb}
@@ -26,6 +27,7 @@ use Rattle.flight.specs.Choice.{isPossible, chosenOrder, chosenPasses}
 use Rattle.flight.specs.Chosen.{chosen-given}
 use Rattle.flight.specs.Theorems.{flight-lawful, flight-figure, flight-least, flight-earliest, flight-impossible}
 use Rattle.planner.specs.Call.{chosenPlan, answer, sheetAnswer, answerOf}
+use Rattle.planner.specs.Refused.{read-most}
 
 -- The figures of a plan.
 unfoldable pub figureOfMosaic : Sheet → Plan → ℕ
@@ -187,3 +189,20 @@ module _ (sheet : List ℕ) (sound : readSheet sheet .number ≡ 0) where
         go : (b : Bool) → isPossible (readSheet sheet .flight) ≡ b → (Possible (readSheet sheet) → ⊥) → answerOf sheet planRoom tableRoom .number ≡ orderImpossible
         go true e none = absurd (none (of-possible e))
         go false e none = answer-is false e
+
+-- With buffers large enough, 11 is given exactly when the sheet is otherwise sound and no timetable keeps an allowed order.
+pub eleven-exactly : (sheet : List ℕ) (planRoom tableRoom : ℕ) → planLength ≤ planRoom → tableLength ≤ tableRoom
+    → (answerOf sheet planRoom tableRoom .number ≡ orderImpossible → (readSheet sheet .number ≡ 0) × (Possible (readSheet sheet) → ⊥))
+    × ((readSheet sheet .number ≡ 0) × (Possible (readSheet sheet) → ⊥) → answerOf sheet planRoom tableRoom .number ≡ orderImpossible)
+unfolding answerOf sheetAnswer
+eleven-exactly sheet planRoom tableRoom plan-large table-large = (
+  λ e. only (ℕ-discrete (readSheet sheet .number) 0) e,
+  λ h. impossible-exactly sheet (h .0) planRoom tableRoom plan-large table-large .1 (h .1),
+)
+  where
+    refused-is : (readSheet sheet .number ≡ 0 → ⊥) → answerOf sheet planRoom tableRoom .number ≡ readSheet sheet .number
+    refused-is n = rw (le-ltb tableRoom tableLength table-large, le-ltb planRoom planLength plan-large, ne-eqb (readSheet sheet .number) 0 n)
+
+    only : Dec (readSheet sheet .number ≡ 0) → answerOf sheet planRoom tableRoom .number ≡ orderImpossible → (readSheet sheet .number ≡ 0) × (Possible (readSheet sheet) → ⊥)
+    only (yes z) e = (z, impossible-exactly sheet z planRoom tableRoom plan-large table-large .0 e)
+    only (no n) e = absurd (omega (arith, refused-is n, read-most sheet))
