@@ -154,6 +154,56 @@ ONE = flight() + block(1, 0, 1)
 allowed("a pass that ends at the ceiling", ONE, passes(CEILING, 2, (CEILING - 2, CEILING - 1)), 0, 0, CEILING)
 refused("a pass that ends past the ceiling", ONE, passes(CEILING + 1, 2, (CEILING - 1, CEILING)), 13, 15)
 
+# Every kind of fault of a member, at each member of a section: first, middle and last.
+def faulty(kind, sheet, plan_of, members, index, member, place):
+    changed = list(members)
+    changed[index] = member
+    refused("%s, member %d" % (kind, index + 1), sheet, plan_of(*changed), 13, place)
+
+
+for index, (last, start, finish) in enumerate(BATCHES := [(1, 2, 4), (2, 4, 8), (3, 8, 11), (4, 11, 13)]):
+    for kind, member in [
+        ("a mount one second early", (last, start - 1, finish - 1)),
+        ("a finish one second early", (last, start, finish - 1)),
+        ("a finish one second late", (last, start, finish + 1)),
+        ("a last strip that does not rise", (last - 1, start, finish)),
+        ("a last strip past the sheet's", (5, start, finish)),
+        ("a finish one second past the ceiling", (last, CEILING + 1 - (finish - start), CEILING + 1)),
+    ]:
+        faulty(kind, M, lambda *ms: batches(36, *ms), BATCHES, index, member, 7 + 12 * index)
+
+THREE = sorting(2) + job(1, 1, 5) + job(2, 1, 1) + job(1, 1, 2)
+JOBS = [(1, 1, 0, 1), (2, 1, 1, 2), (1, 2, 2, 6)]
+DESK_TIMES = [5, 1, 2]
+allowed("three strips, two desks", THREE, jobs(17, *JOBS), 0, 17)
+for index, (desk, number, scan, start) in enumerate(JOBS):
+    for kind, member in [
+        ("a desk past the sheet's", (3, number, scan, start)),
+        ("a desk of 0", (0, number, scan, start)),
+        ("a strip before its turn", (desk, number + 1, scan, start)),
+        ("a strip after its turn", (desk, number - 1, scan, start)),
+        ("a desk job one second before its scan ends", (desk, number, scan, scan)),
+        ("a scan one second before the scanner is free", (desk, number, scan - 1, start)),
+        ("a desk job one second past the ceiling", (desk, number, scan, CEILING + 1 - DESK_TIMES[index])),
+    ]:
+        if scan > 0 or member[2] == scan:
+            faulty(kind, THREE, lambda *ms: jobs(17, *ms), JOBS, index, member, 7 + 13 * index)
+faulty("a desk job one second before its desk is free", THREE, lambda *ms: jobs(17, *ms), JOBS, 2, (1, 2, 2, 5), 33)
+
+BLOCKS = flight() + block(1, 4, 1) * 3
+STARTED = [(0, 5), (1, 6), (2, 7)]
+allowed("three blocks, interleaved", BLOCKS, passes(8, 0x38, *STARTED), 0, 0, 8)
+for index, (first, second) in enumerate(STARTED):
+    for kind, member in [
+        ("a repeat one second early", (first, second - 1)),
+        ("a repeat one second late", (first, second + 1)),
+        ("a repeat before its first pass", (second, first)),
+        ("a pass one second past the ceiling", (CEILING - 5, CEILING)),
+    ]:
+        faulty(kind, BLOCKS, lambda *ms: passes(8, 0x38, *ms), STARTED, index, member, 15 + 11 * index)
+    for other in STARTED[:index] + STARTED[index + 1:]:
+        faulty("a block flown with another", BLOCKS, lambda *ms: passes(8, 0x38, *ms), STARTED, index, other, 0)
+
 # Faults in two sections.
 BAD_JOBS = jobs(10, (2, 1, 0, 0), (1, 1, 1, 3))
 refused("the first section's fault goes first", M + S, batches(36, (1, 2, 4), (2, 4, 8), (3, 8, 11), (4, 11, 14)) + BAD_JOBS, 13, 43)
