@@ -3,12 +3,10 @@
 -- the contract of `plan` says that a call answers `answerOf` and writes `planBytes .. (chosenPlan ..)` where it accepts.
 use Prim.Native.Nat.{ℕ, _≤_, _<_}
 use mathlib.Core.Path.{_≡_, refl, sym, subst, _∙_}
-use mathlib.Core.Bool.{Bool, true, false, true≢false}
+use mathlib.Core.Bool.{Bool, true, false}
 use mathlib.Core.List.{List}
 use native.Mathlib.Decide.{ℕ-discrete}
 use native.Mathlib.Omega.{arith}
-use lib.ListN.{length}
-use lib.Dec.{ltb, eqb}
 use borrow.Author.Tests.{le-ltb, eq-eqb, ne-eqb}
 use Rattle.sheet.specs.Limits.{tableLength, planLength}
 use Rattle.sheet.specs.Refusals.{orderImpossible}
@@ -19,14 +17,14 @@ use Rattle.sheet.specs.declared.Sheet.{Sheet}
 use Rattle.rules.specs.Mosaic.{mosaicFigure}
 use Rattle.rules.specs.Sorting.{sortingFigure}
 use Rattle.rules.specs.Flight.{passesAt, FlightLawful, Keeps, OrderAllowed, flightFigure}
-use Rattle.rules.specs.Plan.{Plan, planBytes, PlanLawful, Allowed, AllowedFor}
+use Rattle.rules.specs.Plan.{Plan, planBytes, PlanLawful, AllowedFor}
 use Rattle.rules.specs.declared.Passes.{Passes}
 use Rattle.mosaic.specs.Theorems.{mosaic-lawful, mosaic-figure, mosaic-least}
 use Rattle.sorting.specs.Theorems.{sorting-lawful, sorting-figure, sorting-least}
 use Rattle.flight.specs.Choice.{isPossible, chosenOrder, chosenPasses}
 use Rattle.flight.specs.Chosen.{chosen-given}
 use Rattle.flight.specs.Theorems.{flight-lawful, flight-figure, flight-least, flight-earliest, flight-impossible}
-use Rattle.planner.specs.Call.{chosenPlan, answer, sheetAnswer, answerOf}
+use Rattle.planner.specs.Call.{chosenPlan, sheetAnswer, answerOf}
 use Rattle.planner.specs.Refused.{read-most}
 
 -- The figures of a plan.
@@ -51,25 +49,7 @@ pub record Possible (s : Sheet) : Type 0 where
   pub kept : Keeps (s .flight) order passes
   pub allowed : OrderAllowed (s .flight) order
 
--- Equal to the least is least, and least is equal to it.
-least-exactly : (figure : Sheet → Plan → ℕ) (s : Sheet) (p : Plan) → PlanLawful s p → Least figure s p → (q : Plan) → PlanLawful s q
-    → (figure s q ≡ figure s p → Least figure s q) × (Least figure s q → figure s q ≡ figure s p)
-unfolding Least
-least-exactly figure s p p-lawful p-least q q-lawful = (
-  λ e other l. below (figure s q) (figure s p) (figure s other) e (p-least other l),
-  λ q-least. same (figure s q) (figure s p) (q-least p p-lawful) (p-least q q-lawful),
-)
-  where
-    below : (a b k : ℕ) → a ≡ b → b ≤ k → a ≤ k
-    below a b k e h = omega arith
-
-    same : (a b : ℕ) → a ≤ b → b ≤ a → a ≡ b
-    same a b h k = omega arith
-
 module _ (sheet : List ℕ) (sound : readSheet sheet .number ≡ 0) where
-  s : Sheet
-  s = readSheet sheet
-
   whole : SheetSound (readSheet sheet)
   whole = read-sound sheet sound
 
@@ -130,29 +110,13 @@ module _ (sheet : List ℕ) (sound : readSheet sheet .number ≡ 0) where
         flight-least (readSheet sheet .flight) (whole .flight) (q .order) (q .passes) (l .flight) (l .kept) (l .order),
       )
 
-  -- For every lawful plan Q and each section: Q's figure there equals ours exactly when every other lawful plan has at least as large a figure there.
   module _ (q : Plan) (q-lawful : PlanLawful (readSheet sheet) q) where
-    ours : PlanLawful (readSheet sheet) (chosenPlan (readSheet sheet))
-    ours = plan-lawful (lawful-possible q q-lawful)
-
-    pub best-exactly-mosaic : (figureOfMosaic (readSheet sheet) q ≡ figureOfMosaic (readSheet sheet) (chosenPlan (readSheet sheet)) → Least figureOfMosaic (readSheet sheet) q)
-        × (Least figureOfMosaic (readSheet sheet) q → figureOfMosaic (readSheet sheet) q ≡ figureOfMosaic (readSheet sheet) (chosenPlan (readSheet sheet)))
-    best-exactly-mosaic = least-exactly figureOfMosaic (readSheet sheet) (chosenPlan (readSheet sheet)) ours plan-least-mosaic q q-lawful
-
-    pub best-exactly-sorting : (figureOfSorting (readSheet sheet) q ≡ figureOfSorting (readSheet sheet) (chosenPlan (readSheet sheet)) → Least figureOfSorting (readSheet sheet) q)
-        × (Least figureOfSorting (readSheet sheet) q → figureOfSorting (readSheet sheet) q ≡ figureOfSorting (readSheet sheet) (chosenPlan (readSheet sheet)))
-    best-exactly-sorting = least-exactly figureOfSorting (readSheet sheet) (chosenPlan (readSheet sheet)) ours plan-least-sorting q q-lawful
-
-    pub best-exactly-flight : (figureOfFlight (readSheet sheet) q ≡ figureOfFlight (readSheet sheet) (chosenPlan (readSheet sheet)) → Least figureOfFlight (readSheet sheet) q)
-        × (Least figureOfFlight (readSheet sheet) q → figureOfFlight (readSheet sheet) q ≡ figureOfFlight (readSheet sheet) (chosenPlan (readSheet sheet)))
-    best-exactly-flight = least-exactly figureOfFlight (readSheet sheet) (chosenPlan (readSheet sheet)) ours plan-least-flight q q-lawful
-
     -- With a given order each pass of ours starts no later than the same pass in every lawful plan.
-    pub plan-earliest : readSheet sheet .flight .ordered ≡ true → (i : ℕ) → i < readSheet sheet .flight .blocks
+    lawful-earliest : readSheet sheet .flight .ordered ≡ true → (i : ℕ) → i < readSheet sheet .flight .blocks
         → (passesAt (chosenPlan (readSheet sheet) .passes) i .first ≤ passesAt (q .passes) i .first)
         × (passesAt (chosenPlan (readSheet sheet) .passes) i .second ≤ passesAt (q .passes) i .second)
     unfolding chosenPlan
-    plan-earliest given i l = flight-earliest (readSheet sheet .flight) (whole .flight) (q .passes) (q-lawful .flight) keeps i l
+    lawful-earliest given i l = flight-earliest (readSheet sheet .flight) (whole .flight) (q .passes) (q-lawful .flight) keeps i l
       where
         same : q .order ≡ chosenOrder (readSheet sheet .flight)
         same = q-lawful .order .as-given given ∙ sym (chosen-given (readSheet sheet .flight) given)
@@ -189,6 +153,50 @@ module _ (sheet : List ℕ) (sound : readSheet sheet .number ≡ 0) where
         go : (b : Bool) → isPossible (readSheet sheet .flight) ≡ b → (Possible (readSheet sheet) → ⊥) → answerOf sheet planRoom tableRoom .number ≡ orderImpossible
         go true e none = absurd (none (of-possible e))
         go false e none = answer-is false e
+
+-- What holds of every allowed plan Q of a sheet, a row of bytes. Its figures and starts are those of the timetable that the bytes give.
+unfoldable pub LeastAllowed : (Sheet → Plan → ℕ) → (sheet q : List ℕ) → AllowedFor sheet q → Type 0
+LeastAllowed figure sheet q a = (other : List ℕ) (b : AllowedFor sheet other) → figure (readSheet sheet) (a .allowed .plan) ≤ figure (readSheet sheet) (b .allowed .plan)
+
+-- Q's figure equals ours exactly when every other allowed plan of the sheet has at least as large a figure.
+pub record BestExactly (figure : Sheet → Plan → ℕ) (sheet q : List ℕ) (a : AllowedFor sheet q) : Type 0 where
+  pub equal-best : figure (readSheet sheet) (a .allowed .plan) ≡ figure (readSheet sheet) (chosenPlan (readSheet sheet)) → LeastAllowed figure sheet q a
+  pub best-equal : LeastAllowed figure sheet q a → figure (readSheet sheet) (a .allowed .plan) ≡ figure (readSheet sheet) (chosenPlan (readSheet sheet))
+
+module _ (sheet q : List ℕ) (a : AllowedFor sheet q) where
+  possible : Possible (readSheet sheet)
+  possible = lawful-possible sheet (a .sound) (a .allowed .plan) (a .allowed .lawful)
+
+  best-exactly : (figure : Sheet → Plan → ℕ) → Least figure (readSheet sheet) (chosenPlan (readSheet sheet)) → BestExactly figure sheet q a
+  unfolding Least LeastAllowed plan-allowed
+  best-exactly figure least = record {
+    equal-best = λ e other b. below (figure (readSheet sheet) (a .allowed .plan)) (figure (readSheet sheet) (chosenPlan (readSheet sheet)))
+        (figure (readSheet sheet) (b .allowed .plan)) e (least (b .allowed .plan) (b .allowed .lawful));
+    best-equal = λ h. same (figure (readSheet sheet) (a .allowed .plan)) (figure (readSheet sheet) (chosenPlan (readSheet sheet)))
+        (h (planBytes (readSheet sheet) (chosenPlan (readSheet sheet))) (plan-allowed sheet (a .sound) possible))
+        (least (a .allowed .plan) (a .allowed .lawful));
+  }
+    where
+      below : (i j k : ℕ) → i ≡ j → j ≤ k → i ≤ k
+      below i j k e h = omega arith
+
+      same : (i j : ℕ) → i ≤ j → j ≤ i → i ≡ j
+      same i j h k = omega arith
+
+  pub best-exactly-mosaic : BestExactly figureOfMosaic sheet q a
+  best-exactly-mosaic = best-exactly figureOfMosaic (plan-least-mosaic sheet (a .sound))
+
+  pub best-exactly-sorting : BestExactly figureOfSorting sheet q a
+  best-exactly-sorting = best-exactly figureOfSorting (plan-least-sorting sheet (a .sound))
+
+  pub best-exactly-flight : BestExactly figureOfFlight sheet q a
+  best-exactly-flight = best-exactly figureOfFlight (plan-least-flight sheet (a .sound))
+
+  -- With a given order each pass of ours starts no later than the same pass of Q.
+  pub plan-earliest : readSheet sheet .flight .ordered ≡ true → (i : ℕ) → i < readSheet sheet .flight .blocks
+      → (passesAt (chosenPlan (readSheet sheet) .passes) i .first ≤ passesAt (a .allowed .plan .passes) i .first)
+      × (passesAt (chosenPlan (readSheet sheet) .passes) i .second ≤ passesAt (a .allowed .plan .passes) i .second)
+  plan-earliest given i l = lawful-earliest sheet (a .sound) (a .allowed .plan) (a .allowed .lawful) given i l
 
 -- With buffers large enough, 11 is given exactly when the sheet is otherwise sound and no timetable keeps an allowed order.
 pub eleven-exactly : (sheet : List ℕ) (planRoom tableRoom : ℕ) → planLength ≤ planRoom → tableLength ≤ tableRoom
