@@ -7,6 +7,8 @@ ghost use Rattle.field.specs.Bytes.{NumberRead, bytesOf};
 ghost use Rattle.field.specs.Field.{fieldAt};
 ghost use Rattle.field.specs.Put.{put};
 
+pub mod reader;
+
 // What stands at an offset of a row of fields.
 pub enum Field {
     End,

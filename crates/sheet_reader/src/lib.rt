@@ -1,6 +1,6 @@
 // The reader of a sheet: for every row of bytes the number and place of its refusal, or 0, 0 and its sections.
 use field::Field;
-use field::field_at;
+use field::reader::field_from;
 use sheet::Reading;
 use sheet::Sheet;
 use sheet::numbers::FIELD_CUT;
@@ -32,7 +32,7 @@ pub fn read(s: &[u8]) -> Sheet
     let mut st = start();
     loop {
         let at = st.at;
-        match field_at(s, at) {
+        match field_from(s, at) {
             Field::End => return finish(st),
             Field::Cut => return refuse(FIELD_CUT, at),
             Field::Whole(tag, length) => {

@@ -18,8 +18,8 @@ start-requires c κs = search needs
 loop-holds : tie.Need-loop-holds Inv-loop μ-loop
 loop-holds c = search progress-start
 
-field-at-requires : tie.Need-field-at-requires Inv-loop μ-loop
-field-at-requires c κs = search needs
+field-from-requires : tie.Need-field-from-requires Inv-loop μ-loop
+field-from-requires c κs = search needs
 
 enum-told : tie.Need-enum-told Inv-loop μ-loop
 enum-told c = search needs
@@ -71,7 +71,7 @@ read-spec =
     μ-loop
     start-requires
     loop-holds
-    field-at-requires
+    field-from-requires
     enum-told
     finish-requires
     returns
