@@ -1,0 +1,115 @@
+-- Every row of the table of worked sheets holds. Each is computed from the definitions, and the planner's theorems say what the result means by the rules.
+use Prim.{tt}
+use Prim.Native.Nat.{ℕ}
+use mathlib.Core.Path.{_≡_, refl, subst, ap, _∙_}
+use mathlib.Core.Bool.{Bool, true, _&&_}
+use mathlib.Core.List.{List, [], _∷_}
+use native.Mathlib.Omega.{arith}
+use Rattle.field.specs.Branch.{both, check}
+use Rattle.sheet.specs.Limits.{tableLength, planLength}
+use Rattle.sheet.specs.Refusals.{orderImpossible}
+use Rattle.sheet.specs.Read.{readSheet, contentNumber, fieldNumber, endNumber, placeOf, refused, accepted, atEnd, readFrom}
+use Rattle.sheet.specs.declared.Sheet.{Sheet}
+use Rattle.rules.specs.Plan.{Plan, planBytes, PlanLawful, AllowedFor, membersBytes, batchBytes, mosaicBytes, jobBytes, sortingBytes, passesBytes, flightBytes, ifPresent}
+use Rattle.rules.specs.Tests.{isMosaic, mosaic-decided, isSorting, sorting-decided, isFlight, flight-decided, keepsOrder, keeps-decided, mayHaveOrder, order-decided, allBelow, batchTest, jobTest, jobsTest, blockTest, apartTest, startTest}
+use Rattle.planner.specs.Call.{chosenPlan, answer, answerOf, plannedBytes, sheetAnswer, sheetPlan}
+use Rattle.planner.specs.Theorems.{figureOfMosaic, figureOfSorting, figureOfFlight, Least, plan-allowed, plan-least-mosaic, plan-least-sorting, plan-least-flight, accepted-exactly, eleven-exactly}
+use Rattle.order.specs.Order.{seconds, firsts, neverMoreSeconds, isProper}
+use Rattle.field.specs.Bytes.{numberAt, bytesOf}
+use Rattle.field.specs.Field.{fieldAt, fieldBytes}
+use Rattle.sheet.specs.Checks.{endsSection, sectionFilled, fewBlocks, orderGiven, orderPermitted, permitted, lengthDue, between, mosaicHeadInRange, stationTimesInRange, mosaicStripInRange, sortingStripInRange, flightBlockInRange, inRange, hasRoom, stripsOfDesk, orderProper}
+use Rattle.sheet.specs.Decode.{zeros, noMosaic, noSorting, noFlight, withMosaicHead, withStationTimes, withMosaicStrip, withSortingHead, withStripAt, withSortingStrip, withBlock, withOrder, nextMosaic, nextSorting, nextFlight, nextSection, nextMembers, nextHead, nextReading, startReading}
+use Rattle.sheet.specs.Sound.{stripsInAll}
+use Rattle.rules.specs.Sums.{sumOver, greatestOver}
+use Rattle.rules.specs.Mosaic.{stationSum, ready, benchSum, noBatch, batchAt, batchBefore, batchSize, completion, mosaicFigure as ruleMosaicFigure}
+use Rattle.rules.specs.Sorting.{stripsOf, slot, scanTime, deskTime, scanEnd, deskFinish, noJob, jobAt, jobsOf, sortingFigure as ruleSortingFigure}
+use Rattle.rules.specs.Flight.{noPasses, passesAt, passStart, passTime, passEnd, passAt, flightFigure as ruleFlightFigure}
+use Rattle.mosaic.specs.Least.{mountStart, benchStart, finishOf, leastOpen, leastFrom, weightOf, weightSum, instanceOf}
+use Rattle.mosaic.specs.Chosen.{batchOf, chosenOpen, chosenFrom, chosenBatches}
+use Rattle.sorting.specs.Plan.{instanceOf as sortingInstance, listedDesk, reached, jobOf, listed, jobsOfList, chosenJobs}
+use Rattle.interleaving.specs.Search.{maxOf, stepOf, keep, overDesks, branch, searchFrom, startState, firstBest}
+use Rattle.difference.specs.System.{relax, relaxed, rounds, holds, leastValues, solvable}
+use Rattle.flight_order.specs.Constraints.{passOf, timeOf, constraintOf, leastStarts, possibleIn, orderFigure}
+use Rattle.flight_order.specs.Timetable.{listOf, passesFrom, leastPasses}
+use Rattle.flight_search.specs.Search.{improves, tried, searched}
+use Rattle.flight_search.specs.Orders.{ordersOf}
+use Rattle.flight.specs.Choice.{chosenOrder, isPossible, chosenPasses}
+use Rattle.planner.specs.declared.Answer.{Answer}
+use Rattle.worked_sheets.specs.Sheets.{passes}
+use Rattle.worked_sheets.specs.Table.{Figures, figuresOf, Claim, IsAllowed, NoneBelow, Says, Row, table, All, Ready, FirstCase, planned, best, allowed, impossible}
+
+-- What is computed of a row.
+isPlan : Sheet → Plan → Bool
+isPlan s p = isMosaic (s .mosaic) (p .batches) && (isSorting (s .sorting) (p .jobs) && (isFlight (s .flight) (p .passes) && (keepsOrder (s .flight) (p .order) (p .passes) && mayHaveOrder (s .flight) (p .order))))
+
+abbrev Computed : List ℕ → Claim → Type 0
+Computed sheet (planned p figures) = (answerOf sheet planLength tableLength .number ≡ 0) × (chosenPlan (readSheet sheet) ≡ p) × (figuresOf (readSheet sheet) p ≡ figures) × (plannedBytes sheet planLength tableLength ≡ planBytes (readSheet sheet) p) × (readSheet sheet .number ≡ 0)
+Computed sheet (best p figures) = (isPlan (readSheet sheet) p ≡ true) × (figuresOf (readSheet sheet) p ≡ figures) × (figuresOf (readSheet sheet) (chosenPlan (readSheet sheet)) ≡ figures) × (readSheet sheet .number ≡ 0)
+Computed sheet (allowed p figures) = (isPlan (readSheet sheet) p ≡ true) × (figuresOf (readSheet sheet) p ≡ figures) × (readSheet sheet .number ≡ 0)
+Computed sheet (impossible place) = answerOf sheet planLength tableLength ≡ answer orderImpossible place 0
+
+plan-true : (s : Sheet) (p : Plan) → isPlan s p ≡ true → PlanLawful s p
+unfolding isPlan
+plan-true s p e =
+    let m = both _ _ e in
+    let t = both _ _ (m .1) in
+    let f = both _ _ (t .1) in
+    let k = both _ _ (f .1) in
+    record {
+      mosaic = mosaic-decided (s .mosaic) (p .batches) .holds (m .0);
+      sorting = sorting-decided (s .sorting) (p .jobs) .holds (t .0);
+      flight = flight-decided (s .flight) (p .passes) .holds (f .0);
+      kept = keeps-decided (s .flight) (p .passes) (p .order) .holds (k .0);
+      order = order-decided (s .flight) (p .order) .holds (k .1);
+    }
+
+is-allowed : (sheet : List ℕ) (p : Plan) (figures : Figures) → isPlan (readSheet sheet) p ≡ true → figuresOf (readSheet sheet) p ≡ figures → readSheet sheet .number ≡ 0 → IsAllowed sheet p figures
+is-allowed sheet p figures e f z =
+    record { allows = record { sound = z; allowed = record { plan = p; lawful = plan-true (readSheet sheet) p e; layout = refl } }; has = f }
+
+none-below : (sheet : List ℕ) (figures : Figures) → figuresOf (readSheet sheet) (chosenPlan (readSheet sheet)) ≡ figures → NoneBelow sheet figures
+unfolding figuresOf Least
+none-below sheet figures e = subst (NoneBelow sheet) e (record {
+  mosaic = λ q a. plan-least-mosaic sheet (a .sound) (a .allowed .plan) (a .allowed .lawful);
+  sorting = λ q a. plan-least-sorting sheet (a .sound) (a .allowed .plan) (a .allowed .lawful);
+  flight = λ q a. plan-least-flight sheet (a .sound) (a .allowed .plan) (a .allowed .lawful);
+})
+
+ours-allowed : (sheet : List ℕ) (p : Plan) (figures : Figures) → answerOf sheet planLength tableLength .number ≡ 0 → chosenPlan (readSheet sheet) ≡ p → figuresOf (readSheet sheet) p ≡ figures → readSheet sheet .number ≡ 0 → IsAllowed sheet p figures
+ours-allowed sheet p figures e c f z = record {
+  allows = subst (λ (x : Plan). AllowedFor sheet (planBytes (readSheet sheet) x)) c (plan-allowed sheet z (accepted-exactly sheet z planLength tableLength (omega arith) (omega arith) .1 e));
+  has = f;
+}
+
+none-allowed : (sheet : List ℕ) → answerOf sheet planLength tableLength .number ≡ orderImpossible → (q : List ℕ) → AllowedFor sheet q → ⊥
+none-allowed sheet e q a = eleven-exactly sheet planLength tableLength (omega arith) (omega arith) .0 e .1 (record {
+  order = a .allowed .plan .order;
+  passes = a .allowed .plan .passes;
+  lawful = a .allowed .lawful .flight;
+  kept = a .allowed .lawful .kept;
+  allowed = a .allowed .lawful .order;
+})
+
+says : (sheet : List ℕ) (c : Claim) → Computed sheet c → Says sheet c
+says sheet (planned p figures) c = (ours-allowed sheet p figures (c .0) (c .1) (c .2) (c .4), none-below sheet figures (ap (figuresOf (readSheet sheet)) (c .1) ∙ c .2), c .3)
+says sheet (best p figures) c = (is-allowed sheet p figures (c .0) (c .1) (c .3), none-below sheet figures (c .2))
+says sheet (allowed p figures) c = is-allowed sheet p figures (c .0) (c .1) (c .2)
+says sheet (impossible place) c = (c, none-allowed sheet (ap (λ (x : Answer). x .number) c))
+
+all-say : (rs : List Row) → All Computed rs → All Says rs
+all-say [] c = tt
+all-say (r ∷ rs) c = (says (r .sheet) (r .claim) (c .0), all-say rs (c .1))
+
+computed : All Computed table × Ready × FirstCase
+unfolding isPlan figuresOf seconds firsts neverMoreSeconds isProper numberAt bytesOf fieldAt fieldBytes check endsSection sectionFilled fewBlocks orderGiven orderPermitted permitted lengthDue between mosaicHeadInRange stationTimesInRange mosaicStripInRange sortingStripInRange flightBlockInRange inRange hasRoom stripsOfDesk orderProper zeros noMosaic noSorting noFlight withMosaicHead withStationTimes withMosaicStrip withSortingHead withStripAt withSortingStrip withBlock withOrder nextMosaic nextSorting nextFlight nextSection nextMembers nextHead nextReading startReading contentNumber fieldNumber endNumber placeOf refused accepted atEnd readFrom readSheet stripsInAll sumOver greatestOver stationSum ready benchSum noBatch batchAt batchBefore batchSize completion ruleMosaicFigure stripsOf slot scanTime deskTime scanEnd deskFinish noJob jobAt jobsOf ruleSortingFigure noPasses passesAt passStart passTime passEnd passAt ruleFlightFigure allBelow batchTest isMosaic jobTest jobsTest isSorting blockTest apartTest isFlight startTest keepsOrder mayHaveOrder membersBytes batchBytes mosaicBytes jobBytes sortingBytes passesBytes flightBytes ifPresent planBytes mountStart benchStart finishOf leastOpen leastFrom weightOf weightSum instanceOf batchOf chosenOpen chosenFrom chosenBatches sortingInstance listedDesk reached jobOf listed jobsOfList chosenJobs maxOf stepOf keep overDesks branch searchFrom startState firstBest relax relaxed rounds holds leastValues solvable passOf timeOf constraintOf leastStarts possibleIn orderFigure listOf passesFrom leastPasses improves tried searched ordersOf chosenOrder isPossible chosenPasses chosenPlan sheetAnswer sheetPlan answerOf plannedBytes figureOfMosaic figureOfSorting figureOfFlight
+computed = (((refl, refl, refl, refl, refl), ((refl, refl, refl), ((refl, refl, refl), ((refl, refl, refl, refl, refl), ((refl, refl, refl), ((refl, refl, refl, refl, refl), ((refl, refl, refl, refl), ((refl, refl, refl, refl, refl), ((refl, refl, refl, refl, refl), (refl, ((refl, refl, refl, refl, refl), ((refl, refl, refl, refl, refl), tt)))))))))))), (refl, refl, refl, refl), (refl, refl))
+
+-- What 01 says of the sheets that it works through, of the ready times of the first, and of its bytes.
+pub worked : All Says table
+worked = all-say table (computed .0)
+
+pub worked-ready : Ready
+worked-ready = computed .1
+
+pub first-case : FirstCase
+first-case = computed .2
