@@ -1,4 +1,4 @@
 -- What the checks of a field rest on; their definitions are those of crate sheet.
 pub mod FieldPre
-pub mod CheckLaws
+pub mod DeskLaws
 pub mod NumberLaws

@@ -1,4 +1,4 @@
-use Rattle.sheet_checks.specs.CheckLaws.{desk-within, desk-past}
+use Rattle.sheet_checks.specs.DeskLaws.{desk-within, desk-past}
 use borrow.Author.Needs.{needs}
 use Rattle.sheet_checks.proofs.strips_of_desk.Statement.{statement}
 use Rattle.sheet_checks.proofs.strips_of_desk.Tie as tie

@@ -1,8 +1,8 @@
 use borrow.Author.Tests.{not-true, not-false}
-use Rattle.sheet_checks.specs.CheckLaws.{strip-wrong, strip-bench}
+use Rattle.sheet_ranges.specs.RangeLaws.{strip-wrong, strip-bench}
 use borrow.Author.Needs.{needs}
-use Rattle.sheet_checks.proofs.mosaic_strip_in_range.Statement.{statement}
-use Rattle.sheet_checks.proofs.mosaic_strip_in_range.Tie as tie
+use Rattle.sheet_ranges.proofs.mosaic_strip_in_range.Statement.{statement}
+use Rattle.sheet_ranges.proofs.mosaic_strip_in_range.Tie as tie
 
 station-times-in-range-requires : tie.Need-station-times-in-range-requires
 station-times-in-range-requires c κs = search needs

@@ -1,9 +1,9 @@
-use Rattle.sheet_checks.specs.CheckLaws.{mosaic-head-read, mosaic-strip-read, sorting-head-read, sorting-strip-read, flight-block-read}
+use Rattle.sheet_ranges.specs.RangeLaws.{mosaic-head-read, mosaic-strip-read, sorting-head-read, sorting-strip-read, flight-block-read}
 use Rattle.field.specs.Branch.{branches}
 use Rattle.sheet.specs.Checks.{inRange}
 use borrow.Author.Needs.{needs}
-use Rattle.sheet_checks.proofs.is_in_range.Statement.{statement}
-use Rattle.sheet_checks.proofs.is_in_range.Tie as tie
+use Rattle.sheet_ranges.proofs.is_in_range.Statement.{statement}
+use Rattle.sheet_ranges.proofs.is_in_range.Tie as tie
 
 byte-requires : tie.Need-byte-requires
 byte-requires c κs = search needs

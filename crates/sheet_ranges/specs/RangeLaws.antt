@@ -1,17 +1,16 @@
--- Laws of the checks: how a loop over the station times decides them, and that values read from the sheet are the ones its definitions name.
+-- Laws of the ranges: how a loop over the station times decides them, and that values read from the sheet are the ones that the definitions name.
 use Prim.Native.Nat.{ℕ, zero, suc, _+_, _-_, _*_, _≤_, _<_}
 use mathlib.Core.Path.{_≡_, refl, sym, ap, _∙_}
 use mathlib.Core.Bool.{Bool, true, false, _&&_}
 use mathlib.Core.List.{List}
 use native.Mathlib.Numerals.{add-one}
 use native.Mathlib.Omega.{arith}
-use lib.ListN.{length, getD, List·getD-eq-default}
 use lib.Dec.{leb}
 use borrow.Author.Tests.{le-leb, lt-leb}
 use Rattle.field.specs.Bytes.{numberAt, NumberRead}
 use Rattle.sheet.specs.Limits.{mostTime, mostDesks}
 use Rattle.sheet.specs.Tags.{mosaicHeadTag, mosaicStripTag, sortingHeadTag, sortingStripTag, flightBlockTag}
-use Rattle.sheet.specs.Checks.{stationTimesInRange, mosaicStripInRange, between, stripsOfDesk, mosaicHeadInRange, sortingStripInRange, flightBlockInRange, inRange}
+use Rattle.sheet.specs.Checks.{stationTimesInRange, mosaicStripInRange, between, mosaicHeadInRange, sortingStripInRange, flightBlockInRange, inRange}
 
 -- the first k station times are in range
 pub record TimesPassed (s : List ℕ) (c count k : ℕ) : Type 0 where
@@ -70,15 +69,6 @@ module _ (s : List ℕ) (c stations : ℕ) (x : Bool) (e : x ≡ stationTimesInR
   pub strip-bench : (bench : ℕ) (r : Bool) → x ≡ true → NumberRead s (c + 2 * stations) 2 bench → r ≡ between 1 bench mostTime → r ≡ mosaicStripInRange s c stations
   unfolding mosaicStripInRange
   strip-bench bench r h n p = rw (sym e ∙ h, ← n .is) p
-
--- a desk's strips, by its index
-pub desk-within : (counts : List ℕ) (desk d : ℕ) → d ≡ desk - 1 → getD counts d 0 ≡ stripsOfDesk counts desk
-unfolding stripsOfDesk
-desk-within counts desk d e = rw e
-
-pub desk-past : (counts : List ℕ) (desk d n : ℕ) → length counts ≡ n → d ≡ desk - 1 → n ≤ d → 0 ≡ stripsOfDesk counts desk
-unfolding stripsOfDesk
-desk-past counts desk d n l e h = sym (List·getD-eq-default counts 0 {n = desk - 1} (omega arith))
 
 -- the values that a field is checked for are read from its content
 module _ (s : List ℕ) (c tag stations desks : ℕ) (r : Bool) where

@@ -1,8 +1,8 @@
 use borrow.Author.Tests.{not-true, not-false}
-use Rattle.sheet_checks.specs.CheckLaws.{desk-wrong, scan-wrong, desk-time}
+use Rattle.sheet_ranges.specs.RangeLaws.{desk-wrong, scan-wrong, desk-time}
 use borrow.Author.Needs.{needs}
-use Rattle.sheet_checks.proofs.sorting_strip_in_range.Statement.{statement}
-use Rattle.sheet_checks.proofs.sorting_strip_in_range.Tie as tie
+use Rattle.sheet_ranges.proofs.sorting_strip_in_range.Statement.{statement}
+use Rattle.sheet_ranges.proofs.sorting_strip_in_range.Tie as tie
 
 is-between-requires : tie.Need-is-between-requires
 is-between-requires c κs = search needs

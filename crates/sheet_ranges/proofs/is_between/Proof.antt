@@ -1,7 +1,7 @@
 use Rattle.field.specs.Branch.{branches}
 use Rattle.sheet.specs.Checks.{between}
-use Rattle.sheet_checks.proofs.is_between.Statement.{statement}
-use Rattle.sheet_checks.proofs.is_between.Tie as tie
+use Rattle.sheet_ranges.proofs.is_between.Statement.{statement}
+use Rattle.sheet_ranges.proofs.is_between.Tie as tie
 
 returns : tie.Need-returns
 unfolding between

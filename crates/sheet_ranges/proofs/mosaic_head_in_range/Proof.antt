@@ -1,8 +1,8 @@
 use Rattle.field.specs.Branch.{flags}
 use Rattle.sheet.specs.Checks.{mosaicHeadInRange}
 use borrow.Author.Needs.{needs}
-use Rattle.sheet_checks.proofs.mosaic_head_in_range.Statement.{statement}
-use Rattle.sheet_checks.proofs.mosaic_head_in_range.Tie as tie
+use Rattle.sheet_ranges.proofs.mosaic_head_in_range.Statement.{statement}
+use Rattle.sheet_ranges.proofs.mosaic_head_in_range.Tie as tie
 
 is-between-requires : tie.Need-is-between-requires
 is-between-requires c κs = search needs

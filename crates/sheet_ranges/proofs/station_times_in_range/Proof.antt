@@ -1,9 +1,9 @@
 use Prim.Native.Nat.{_-_}
 use native.Mathlib.Omega.{arith}
 use borrow.Author.Needs.{needs}
-use Rattle.sheet_checks.specs.CheckLaws.{TimesPassed, times-none, times-more, times-wrong, times-all}
-use Rattle.sheet_checks.proofs.station_times_in_range.Statement.{statement}
-use Rattle.sheet_checks.proofs.station_times_in_range.Tie as tie
+use Rattle.sheet_ranges.specs.RangeLaws.{TimesPassed, times-none, times-more, times-wrong, times-all}
+use Rattle.sheet_ranges.proofs.station_times_in_range.Statement.{statement}
+use Rattle.sheet_ranges.proofs.station_times_in_range.Tie as tie
 
 abbrev Inv-loop : tie.InvT-loop
 Inv-loop s c count k₀ k = TimesPassed s c count k

@@ -1,0 +1,2 @@
+-- What the tests of ranges rest on; their definitions are those of crate sheet.
+pub mod RangeLaws
