@@ -5,6 +5,7 @@ use Prim.Native.Nat.{ℕ, _≤_, _<_}
 use mathlib.Core.Path.{_≡_, refl, sym, subst, _∙_}
 use mathlib.Core.Bool.{Bool, true, false}
 use mathlib.Core.List.{List}
+use lib.ListN.{length}
 use native.Mathlib.Decide.{ℕ-discrete}
 use native.Mathlib.Omega.{arith}
 use borrow.Author.Tests.{le-ltb, eq-eqb, ne-eqb}
@@ -14,13 +15,14 @@ use Rattle.sheet.specs.Read.{readSheet}
 use Rattle.sheet.specs.Sound.{SheetSound}
 use Rattle.sheet.specs.Theorems.{read-sound}
 use Rattle.sheet.specs.declared.Sheet.{Sheet}
-use Rattle.rules.specs.Mosaic.{mosaicFigure}
-use Rattle.rules.specs.Sorting.{sortingFigure}
+use Rattle.rules.specs.Mosaic.{batchAt, mosaicFigure}
+use Rattle.rules.specs.Sorting.{jobAt, sortingFigure}
 use Rattle.rules.specs.Flight.{passesAt, FlightLawful, Keeps, OrderAllowed, flightFigure}
 use Rattle.rules.specs.Plan.{Plan, planBytes, PlanLawful, AllowedFor}
 use Rattle.rules.specs.declared.Passes.{Passes}
-use Rattle.mosaic.specs.Theorems.{mosaic-lawful, mosaic-figure, mosaic-least}
-use Rattle.sorting.specs.Theorems.{sorting-lawful, sorting-figure, sorting-least}
+use Rattle.mosaic.specs.Plan.{lasts}
+use Rattle.mosaic.specs.Theorems.{mosaic-lawful, mosaic-figure, mosaic-least, mosaic-earliest}
+use Rattle.sorting.specs.Theorems.{sorting-lawful, sorting-figure, sorting-least, sorting-earliest}
 use Rattle.flight.specs.Choice.{isPossible, chosenOrder, chosenPasses}
 use Rattle.flight.specs.Chosen.{chosen-given}
 use Rattle.flight.specs.Theorems.{flight-lawful, flight-figure, flight-least, flight-earliest, flight-impossible}
@@ -110,20 +112,6 @@ module _ (sheet : List ℕ) (sound : readSheet sheet .number ≡ 0) where
         flight-least (readSheet sheet .flight) (whole .flight) (q .order) (q .passes) (l .flight) (l .kept) (l .order),
       )
 
-  module _ (q : Plan) (q-lawful : PlanLawful (readSheet sheet) q) where
-    -- With a given order each pass of ours starts no later than the same pass in every lawful plan.
-    lawful-earliest : readSheet sheet .flight .ordered ≡ true → (i : ℕ) → i < readSheet sheet .flight .blocks
-        → (passesAt (chosenPlan (readSheet sheet) .passes) i .first ≤ passesAt (q .passes) i .first)
-        × (passesAt (chosenPlan (readSheet sheet) .passes) i .second ≤ passesAt (q .passes) i .second)
-    unfolding chosenPlan
-    lawful-earliest given i l = flight-earliest (readSheet sheet .flight) (whole .flight) (q .passes) (q-lawful .flight) keeps i l
-      where
-        same : q .order ≡ chosenOrder (readSheet sheet .flight)
-        same = q-lawful .order .as-given given ∙ sym (chosen-given (readSheet sheet .flight) given)
-
-        keeps : Keeps (readSheet sheet .flight) (chosenOrder (readSheet sheet .flight)) (q .passes)
-        keeps = subst (λ (w : ℕ). Keeps (readSheet sheet .flight) w (q .passes)) same (q-lawful .kept)
-
   -- The answers, with buffers that are large enough.
   module _ (planRoom tableRoom : ℕ) (plan-large : planLength ≤ planRoom) (table-large : tableLength ≤ tableRoom) where
     answer-is : (b : Bool) → isPossible (readSheet sheet .flight) ≡ b → answerOf sheet planRoom tableRoom .number ≡ elim b [ true ↦ 0 | false ↦ orderImpossible ]
@@ -192,11 +180,39 @@ module _ (sheet q : List ℕ) (a : AllowedFor sheet q) where
   pub best-exactly-flight : BestExactly figureOfFlight sheet q a
   best-exactly-flight = best-exactly figureOfFlight (plan-least-flight sheet (a .sound))
 
-  -- With a given order each pass of ours starts no later than the same pass of Q.
+  -- "The planner starts every mount, scan, desk job and pass as early as its batches or order allow": no later than Q, where Q has our batches ..
+  pub plan-early-mosaic : lasts (a .allowed .plan .batches) ≡ lasts (chosenPlan (readSheet sheet) .batches) → (i : ℕ) → i < length (a .allowed .plan .batches)
+      → batchAt (chosenPlan (readSheet sheet) .batches) i .start ≤ batchAt (a .allowed .plan .batches) i .start
+  unfolding chosenPlan
+  plan-early-mosaic same i l =
+      mosaic-earliest (readSheet sheet .mosaic) (whole sheet (a .sound) .mosaic) (a .allowed .plan .batches) (a .allowed .lawful .mosaic) same i l
+
+  -- .. or our scanner order ..
+  pub plan-early-sorting : ((i : ℕ) → i < length (a .allowed .plan .jobs) → jobAt (a .allowed .plan .jobs) i .desk ≡ jobAt (chosenPlan (readSheet sheet) .jobs) i .desk)
+      → (i : ℕ) → i < length (a .allowed .plan .jobs)
+      → (jobAt (chosenPlan (readSheet sheet) .jobs) i .scan ≤ jobAt (a .allowed .plan .jobs) i .scan)
+      × (jobAt (chosenPlan (readSheet sheet) .jobs) i .start ≤ jobAt (a .allowed .plan .jobs) i .start)
+  unfolding chosenPlan
+  plan-early-sorting same i l =
+      sorting-earliest (readSheet sheet .sorting) (whole sheet (a .sound) .sorting) (a .allowed .plan .jobs) (a .allowed .lawful .sorting) same i l
+
+  -- .. or our pass order.
+  pub plan-early-flight : a .allowed .plan .order ≡ chosenPlan (readSheet sheet) .order → (i : ℕ) → i < readSheet sheet .flight .blocks
+      → (passesAt (chosenPlan (readSheet sheet) .passes) i .first ≤ passesAt (a .allowed .plan .passes) i .first)
+      × (passesAt (chosenPlan (readSheet sheet) .passes) i .second ≤ passesAt (a .allowed .plan .passes) i .second)
+  unfolding chosenPlan
+  plan-early-flight same i l =
+      flight-earliest (readSheet sheet .flight) (whole sheet (a .sound) .flight) (a .allowed .plan .passes) (a .allowed .lawful .flight) keeps i l
+    where
+      keeps : Keeps (readSheet sheet .flight) (chosenOrder (readSheet sheet .flight)) (a .allowed .plan .passes)
+      keeps = subst (λ (w : ℕ). Keeps (readSheet sheet .flight) w (a .allowed .plan .passes)) same (a .allowed .lawful .kept)
+
+  -- With a given order each pass of ours starts no later than the same pass of every Q.
   pub plan-earliest : readSheet sheet .flight .ordered ≡ true → (i : ℕ) → i < readSheet sheet .flight .blocks
       → (passesAt (chosenPlan (readSheet sheet) .passes) i .first ≤ passesAt (a .allowed .plan .passes) i .first)
       × (passesAt (chosenPlan (readSheet sheet) .passes) i .second ≤ passesAt (a .allowed .plan .passes) i .second)
-  plan-earliest given i l = lawful-earliest sheet (a .sound) (a .allowed .plan) (a .allowed .lawful) given i l
+  unfolding chosenPlan
+  plan-earliest given = plan-early-flight (a .allowed .lawful .order .as-given given ∙ sym (chosen-given (readSheet sheet .flight) given))
 
 -- With buffers large enough, 11 is given exactly when the sheet is otherwise sound and no timetable keeps an allowed order.
 pub eleven-exactly : (sheet : List ℕ) (planRoom tableRoom : ℕ) → planLength ≤ planRoom → tableLength ≤ tableRoom
