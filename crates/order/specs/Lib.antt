@@ -1,3 +1,4 @@
+-- Order numbers: which are proper (Order, Decided), their beginnings, and how every proper order goes through its beginnings (Children).
 pub mod Order
 pub mod Beginning
 pub mod Seconds

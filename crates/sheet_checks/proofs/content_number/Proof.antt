@@ -1,3 +1,4 @@
+-- `content_number` meets its contract: the first test that fails gives its number, in the order of the definition.
 use Rattle.sheet_checks.specs.NumberLaws.{length-fails, range-fails, room-fails, order-fails, content-passes}
 use borrow.Author.Needs.{needs}
 use Rattle.sheet_checks.proofs.content_number.Statement.{statement}

@@ -1,3 +1,4 @@
+-- `end_number` meets its contract: each way through its tests is one through the definition.
 use Rattle.field.specs.Branch.{flags}
 use Rattle.sheet.specs.Read.{endNumber}
 use borrow.Author.Needs.{needs}

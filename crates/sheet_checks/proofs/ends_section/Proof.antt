@@ -1,3 +1,4 @@
+-- `ends_section` meets its contract: each way through its tests is one through the definition.
 use Rattle.field.specs.Branch.{branches}
 use Rattle.sheet.specs.Checks.{endsSection}
 use Rattle.sheet_checks.proofs.ends_section.Statement.{statement}

@@ -1,3 +1,4 @@
+-- `few_blocks` meets its contract: each way through its tests is one through the definition.
 use Rattle.field.specs.Branch.{branches}
 use Rattle.sheet.specs.Checks.{fewBlocks}
 use Rattle.sheet_checks.proofs.few_blocks.Statement.{statement}

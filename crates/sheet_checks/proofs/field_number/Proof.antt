@@ -1,3 +1,4 @@
+-- `field_number` meets its contract: the first test that fails gives its number, in the order of the definition.
 use Rattle.sheet_checks.specs.NumberLaws.{filled-fails, given-fails, tag-fails, tag-passes}
 use borrow.Author.Needs.{needs}
 use Rattle.sheet_checks.proofs.field_number.Statement.{statement}

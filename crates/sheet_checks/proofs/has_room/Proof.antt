@@ -1,3 +1,4 @@
+-- `has_room` meets its contract: each way through its tests is one through the definition.
 use Rattle.field.specs.Branch.{branches}
 use Rattle.sheet.specs.Checks.{hasRoom}
 use Rattle.sheet_checks.proofs.has_room.Statement.{statement}

@@ -1,3 +1,4 @@
+-- `is_permitted` meets its contract: each way through its tests is one through the definition.
 use Rattle.field.specs.Branch.{branches}
 use Rattle.sheet.specs.Checks.{permitted}
 use borrow.Author.Needs.{needs}

@@ -1,3 +1,4 @@
+-- `length_due` meets its contract: each way through its tests is one through the definition.
 use Rattle.field.specs.Branch.{branches}
 use Rattle.sheet.specs.Checks.{lengthDue}
 use borrow.Author.Needs.{needs}

@@ -1,3 +1,4 @@
+-- `order_given` meets its contract: each way through its tests is one through the definition.
 use Rattle.field.specs.Branch.{flags}
 use Rattle.sheet.specs.Checks.{orderGiven}
 use borrow.Author.Needs.{needs}

@@ -1,3 +1,4 @@
+-- `order_permitted` meets its contract: each way through its tests is one through the definition.
 use Rattle.field.specs.Branch.{branches}
 use Rattle.sheet.specs.Checks.{orderPermitted}
 use Rattle.sheet_checks.proofs.order_permitted.Statement.{statement}

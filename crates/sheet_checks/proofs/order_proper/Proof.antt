@@ -1,3 +1,4 @@
+-- `order_proper` meets its contract: each way through its tests is one through the definition.
 use Rattle.field.specs.Branch.{flags}
 use Rattle.sheet.specs.Checks.{orderProper}
 use borrow.Author.Needs.{needs}

@@ -1,3 +1,4 @@
+-- `place_of` meets its contract: each way through its tests is one through the definition.
 use Rattle.field.specs.Branch.{branches}
 use Rattle.sheet.specs.Read.{placeOf}
 use Rattle.sheet_checks.proofs.place_of.Statement.{statement}

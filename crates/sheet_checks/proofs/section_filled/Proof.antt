@@ -1,3 +1,4 @@
+-- `section_filled` meets its contract: each way through its tests is one through the definition.
 use Rattle.field.specs.Branch.{flags}
 use Rattle.sheet.specs.Checks.{sectionFilled}
 use borrow.Author.Needs.{needs}

@@ -1,3 +1,4 @@
+-- `strips_of_desk` meets its contract: the count of a desk that there is, and 0 of any other.
 use Rattle.sheet_checks.specs.DeskLaws.{desk-within, desk-past}
 use borrow.Author.Needs.{needs}
 use Rattle.sheet_checks.proofs.strips_of_desk.Statement.{statement}

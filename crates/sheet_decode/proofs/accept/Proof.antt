@@ -1,3 +1,4 @@
+-- `accept` meets its contract: it is the definition, field by field.
 use mathlib.Core.Path.{refl}
 use Rattle.sheet.specs.Read.{accepted}
 use Rattle.sheet_decode.proofs.accept.Statement.{statement}

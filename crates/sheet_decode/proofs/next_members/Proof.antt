@@ -1,3 +1,4 @@
+-- `next_members` meets its contract: each way through its tests is one through the definition.
 use Rattle.field.specs.Branch.{flags}
 use Rattle.sheet.specs.Decode.{nextMembers}
 use borrow.Author.Needs.{needs}

@@ -1,3 +1,4 @@
+-- `next_reading` meets its contract: each section, and the reading's own numbers, after the field.
 use Rattle.sheet_decode.specs.DecodeLaws.{reading-is}
 use borrow.Author.Needs.{needs}
 use Rattle.sheet_decode.proofs.next_reading.Statement.{statement}

@@ -1,3 +1,4 @@
+-- `next_section` meets its contract: each way through its tests is one through the definition.
 use Rattle.field.specs.Branch.{branches}
 use Rattle.sheet.specs.Decode.{nextSection}
 use Rattle.sheet_decode.proofs.next_section.Statement.{statement}

@@ -1,3 +1,4 @@
+-- `next_sorting` meets its contract: one case a tag; there is room for another strip at its desk.
 use Rattle.field.specs.Branch.{branches}
 use Rattle.sheet.specs.Decode.{nextSorting}
 use Rattle.sheet_decode.specs.Room.{desk-room}

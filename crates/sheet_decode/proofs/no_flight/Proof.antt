@@ -1,3 +1,4 @@
+-- `no_flight` meets its contract: it is the definition, field by field.
 use mathlib.Core.Path.{refl}
 use Rattle.sheet.specs.Decode.{zeros, noFlight}
 use Rattle.sheet_decode.proofs.no_flight.Statement.{statement}

@@ -1,3 +1,4 @@
+-- `no_mosaic` meets its contract: it is the definition, field by field.
 use mathlib.Core.Path.{refl}
 use Rattle.sheet.specs.Decode.{zeros, noMosaic}
 use Rattle.sheet_decode.proofs.no_mosaic.Statement.{statement}

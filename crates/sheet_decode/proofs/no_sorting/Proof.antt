@@ -1,3 +1,4 @@
+-- `no_sorting` meets its contract: it is the definition, field by field.
 use mathlib.Core.Path.{refl}
 use Rattle.sheet.specs.Decode.{zeros, noSorting}
 use Rattle.sheet_decode.proofs.no_sorting.Statement.{statement}

@@ -1,3 +1,4 @@
+-- `refuse` meets its contract: it is the definition, field by field.
 use Rattle.sheet_decode.specs.DecodeLaws.{refused-is}
 use borrow.Author.Needs.{needs}
 use Rattle.sheet_decode.proofs.refuse.Statement.{statement}

@@ -1,3 +1,4 @@
+-- `start` meets its contract: it is the definition, field by field.
 use Rattle.sheet_decode.specs.DecodeLaws.{start-is}
 use borrow.Author.Needs.{needs}
 use Rattle.sheet_decode.proofs.start.Statement.{statement}

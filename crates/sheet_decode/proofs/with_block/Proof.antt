@@ -1,3 +1,4 @@
+-- `with_block` meets its contract: the numbers read are stored at the block's place.
 use Rattle.sheet_decode.specs.DecodeLaws.{block-is}
 use borrow.Author.Needs.{needs}
 use Rattle.sheet_decode.proofs.with_block.Statement.{statement}

@@ -1,3 +1,4 @@
+-- `with_mosaic_head` meets its contract: the numbers read are those of the definition.
 use Rattle.sheet_decode.specs.DecodeLaws.{mosaic-head-is}
 use Rattle.sheet.specs.Decode.{zeros}
 use borrow.Author.Needs.{needs}

@@ -1,3 +1,4 @@
+-- `with_mosaic_strip` meets its contract: the station times and the bench time are stored at the strip's place.
 use Rattle.sheet_decode.specs.DecodeLaws.{mosaic-strip-is}
 use borrow.Author.Needs.{needs}
 use Rattle.sheet_decode.proofs.with_mosaic_strip.Statement.{statement}

@@ -1,3 +1,4 @@
+-- `with_order` meets its contract: the number read is the order, and the field's offset its place.
 use Rattle.sheet_decode.specs.DecodeLaws.{order-is}
 use borrow.Author.Needs.{needs}
 use Rattle.sheet_decode.proofs.with_order.Statement.{statement}

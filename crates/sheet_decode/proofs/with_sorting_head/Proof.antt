@@ -1,3 +1,4 @@
+-- `with_sorting_head` meets its contract: the number read is that of the definition.
 use Rattle.sheet_decode.specs.DecodeLaws.{sorting-head-is}
 use Rattle.sheet.specs.Decode.{zeros}
 use borrow.Author.Needs.{needs}

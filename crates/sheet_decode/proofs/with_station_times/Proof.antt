@@ -1,3 +1,4 @@
+-- `with_station_times` meets its contract. Invariant: the first k station times are stored.
 use Prim.Native.Nat.{_-_}
 use native.Mathlib.Omega.{arith}
 use borrow.Author.Needs.{needs}

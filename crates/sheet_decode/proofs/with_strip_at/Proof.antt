@@ -1,3 +1,4 @@
+-- `with_strip_at` meets its contract: the numbers read are stored at the strip's place.
 use Rattle.sheet_decode.specs.DecodeLaws.{strip-at-is}
 use borrow.Author.Needs.{needs}
 use Rattle.sheet_decode.proofs.with_strip_at.Statement.{statement}

@@ -1,3 +1,4 @@
+-- `flight_block_in_range` meets its contract: each way through its tests is one through the definition.
 use Rattle.field.specs.Branch.{flags}
 use Rattle.sheet.specs.Checks.{flightBlockInRange}
 use borrow.Author.Needs.{needs}

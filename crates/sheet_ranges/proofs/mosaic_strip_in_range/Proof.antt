@@ -1,3 +1,4 @@
+-- `mosaic_strip_in_range` meets its contract: the station times are tested first, then the bench time.
 use borrow.Author.Tests.{not-true, not-false}
 use Rattle.sheet_ranges.specs.RangeLaws.{strip-wrong, strip-bench}
 use borrow.Author.Needs.{needs}

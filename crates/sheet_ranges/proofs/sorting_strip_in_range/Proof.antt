@@ -1,3 +1,4 @@
+-- `sorting_strip_in_range` meets its contract: desk, scan time and desk time are tested in the order of the definition.
 use borrow.Author.Tests.{not-true, not-false}
 use Rattle.sheet_ranges.specs.RangeLaws.{desk-wrong, scan-wrong, desk-time}
 use borrow.Author.Needs.{needs}

@@ -1,3 +1,4 @@
+-- `station_times_in_range` meets its contract. Invariant: the first k station times are in range.
 use Prim.Native.Nat.{_-_}
 use native.Mathlib.Omega.{arith}
 use borrow.Author.Needs.{needs}

@@ -1,3 +1,4 @@
+-- `finish` meets its contract: 8 or 10 where the last section asks for it, else the sheet is accepted.
 use Rattle.sheet.specs.Progress.{end-refused, end-accepted}
 use borrow.Author.Needs.{needs}
 use Rattle.sheet_reader.proofs.finish.Statement.{statement}

@@ -1,3 +1,4 @@
+-- `read` meets its contract. Invariant: what the sheet gives is what reading on from here gives. Each turn takes a field of three bytes or more.
 use Rattle.sheet_reader.specs.Loop.{field-pre, progress-pre}
 use Prim.Native.Nat.{_-_}
 use lib.ListN.{length}

@@ -1,3 +1,4 @@
+-- `pass_time` meets its contract: passes below the number of blocks are first passes, the others second ones.
 use Rattle.rules.specs.FunctionLaws.{first-told, second-told}
 use borrow.Author.Needs.{needs}
 use Rattle.rules.proofs.flight.pass_time.Statement.{statement}

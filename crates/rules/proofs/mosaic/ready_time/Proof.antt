@@ -1,3 +1,4 @@
+-- `ready_time` meets its contract. Invariant: `greatest` is the greatest sum of the first k stations.
 use Prim.Native.Nat.{_-_}
 use native.Mathlib.Omega.{arith}
 use borrow.Author.Needs.{needs}

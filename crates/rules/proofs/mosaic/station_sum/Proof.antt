@@ -1,3 +1,4 @@
+-- `station_sum` meets its contract. Invariant: `sum` is the sum of the first i times of the station, each at most the greatest time.
 use Prim.Native.Nat.{ℕ, _+_, _-_, _*_}
 use lib.ListN.{getD}
 use native.Mathlib.Omega.{arith}

@@ -1,3 +1,4 @@
+-- `desk_time` meets its contract: a strip of a sound section has its slot in the array.
 use Rattle.rules.specs.FunctionLaws.{desk-told}
 use borrow.Author.Needs.{needs}
 use Rattle.rules.proofs.sorting.desk_time.Statement.{statement}

@@ -1,3 +1,4 @@
+-- `scan_time` meets its contract: a strip of a sound section has its slot in the array.
 use Rattle.rules.specs.FunctionLaws.{scan-told}
 use borrow.Author.Needs.{needs}
 use Rattle.rules.proofs.sorting.scan_time.Statement.{statement}
