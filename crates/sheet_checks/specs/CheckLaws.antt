@@ -1,5 +1,5 @@
 -- Laws of the checks: how a loop over the station times decides them, and that values read from the sheet are the ones its definitions name.
-use Prim.Native.Nat.{ℕ, zero, suc, _+_, _-_, _*_, _≤_, _<_}
+use Prim.Native.Nat.{ℕ, zero, suc, _+_, _-_, _*_, _^_, _≤_, _<_}
 use mathlib.Core.Path.{_≡_, refl, sym, ap, _∙_}
 use mathlib.Core.Bool.{Bool, true, false, _&&_}
 use mathlib.Core.List.{List}
@@ -11,6 +11,8 @@ use borrow.Author.Tests.{le-leb, lt-leb}
 use Rattle.field.specs.Bytes.{numberAt, NumberRead}
 use Rattle.sheet.specs.Limits.{mostTime, mostDesks}
 use Rattle.sheet.specs.Tags.{mosaicHeadTag, mosaicStripTag, sortingHeadTag, sortingStripTag, flightBlockTag}
+use Rattle.sheet.specs.Sound.{SortingSound}
+use Rattle.sheet.specs.declared.SortingSection.{SortingSection}
 use Rattle.sheet.specs.Checks.{stationTimesInRange, mosaicStripInRange, between, stripsOfDesk, mosaicHeadInRange, sortingStripInRange, flightBlockInRange, inRange}
 
 -- the first k station times are in range
@@ -25,13 +27,6 @@ times-none s c count = record { within = omega arith; passed = refl }
 times-suc : (s : List ℕ) (c k : ℕ) → stationTimesInRange s c (suc k) ≡ (stationTimesInRange s c k && leb (numberAt s (c + 2 * k) 2) mostTime)
 unfolding stationTimesInRange
 times-suc s c k = refl
-
-and-false : (a b : Bool) → b ≡ false → (a && b) ≡ false
-and-false true b e = e
-and-false false b e = refl
-
-false-and : (b : Bool) → (false && b) ≡ false
-false-and b = refl
 
 -- one time out of range, and the whole is
 times-fail : (s : List ℕ) (c k d : ℕ) → stationTimesInRange s c k ≡ false → stationTimesInRange s c (k + d) ≡ false
@@ -114,3 +109,11 @@ module _ (desks desk scan time : ℕ) (x : Bool) (e : x ≡ between 1 desk desks
   pub desk-time : (y r : Bool) → x ≡ true → y ≡ between 1 scan mostTime → y ≡ true → r ≡ between 1 time mostTime → r ≡ sortingStripInRange desks desk scan time
   unfolding sortingStripInRange
   desk-time y r h p k q = rw (sym e ∙ h, sym p ∙ k) q
+
+-- The strips of all desks fit a number.
+module _ (s : SortingSection) (sound : SortingSound s) where
+  pub two-desks-fit : getD (s .counts) 0 0 + getD (s .counts) 1 0 < 2 ^ 64
+  two-desks-fit = omega (arith, sound .most-strips 0, sound .most-strips 1)
+
+  pub all-desks-fit : getD (s .counts) 0 0 + getD (s .counts) 1 0 + getD (s .counts) 2 0 < 2 ^ 64
+  all-desks-fit = omega (arith, sound .most-strips 0, sound .most-strips 1, sound .most-strips 2)
