@@ -1,15 +1,13 @@
 -- The judge's two loops: over the sections, and over the members of one. Wherever they stand, what is left to judge gives the answer.
-use Prim.Native.Nat.{ℕ, zero, suc, _+_, _-_, _*_, _^_, _≤_, _<_}
+use Prim.Native.Nat.{ℕ, suc, _+_, _-_, _*_, _^_, _≤_, _<_}
 use mathlib.Core.Path.{_≡_, refl, sym, ap, ap₂, _∙_}
 use mathlib.Core.Bool.{Bool, true, false, cond, not}
 use mathlib.Core.List.{List}
-use native.Mathlib.Nat.{mul-le-mul-left}
-use native.Mathlib.Numerals.{add-one}
 use native.Mathlib.Omega.{arith}
 use lib.ListN.{length}
 use lib.Dec.{eqb}
 use borrow.Author.Tests.{eq-eqb, ne-eqb, not-true, not-false}
-use Rattle.field.specs.Bytes.{numberAt, NumberRead}
+use Rattle.field.specs.Bytes.{NumberRead}
 use Rattle.sheet.specs.Refusals.{ruleBroken}
 use Rattle.sheet.specs.Read.{readSheet}
 use Rattle.sheet.specs.Sound.{SheetSound, SortingSound}
@@ -60,11 +58,11 @@ place-most section head k = by-section (eqb section 1) (eqb section 2)
 
 -- the sections from one on
 
-section-absent : (s : Sheet) (plan : List ℕ) (section : ℕ) → present s section ≡ false → sectionVerdict s plan section ≡ verdict 0 0
+pub section-absent : (s : Sheet) (plan : List ℕ) (section : ℕ) → present s section ≡ false → sectionVerdict s plan section ≡ verdict 0 0
 unfolding sectionVerdict
 section-absent s plan section e = rw e
 
-zero-number : (place : ℕ) → verdict 0 place .number ≡ 0
+pub zero-number : (place : ℕ) → verdict 0 place .number ≡ 0
 unfolding verdict
 zero-number place = refl
 
@@ -76,13 +74,13 @@ pub record Outer (s : Sheet) (plan : List ℕ) (section : ℕ) : Type 0 where
 pub outer-start : (s : Sheet) (plan : List ℕ) → Outer s plan 1
 outer-start s plan = record { low = omega arith; high = omega arith; same = refl }
 
-sections-next : (left : ℕ) (s : Sheet) (plan : List ℕ) (section : ℕ) → sectionVerdict s plan section .number ≡ 0 → sectionsFrom (suc left) s plan section ≡ sectionsFrom left s plan (section + 1)
+pub sections-next : (left : ℕ) (s : Sheet) (plan : List ℕ) (section : ℕ) → sectionVerdict s plan section .number ≡ 0 → sectionsFrom (suc left) s plan section ≡ sectionsFrom left s plan (section + 1)
 unfolding sectionsFrom
 sections-next left s plan section e = rw (eq-eqb _ _ e, sectionsFrom)
 
-sections-wrong : (left : ℕ) (s : Sheet) (plan : List ℕ) (section : ℕ) → (sectionVerdict s plan section .number ≡ 0 → ⊥) → sectionsFrom (suc left) s plan section ≡ sectionVerdict s plan section
+pub sections-stop : (left : ℕ) (s : Sheet) (plan : List ℕ) (section : ℕ) → (sectionVerdict s plan section .number ≡ 0 → ⊥) → sectionsFrom (suc left) s plan section ≡ sectionVerdict s plan section
 unfolding sectionsFrom
-sections-wrong left s plan section e = rw (ne-eqb _ _ e, sectionsFrom)
+sections-stop left s plan section e = rw (ne-eqb _ _ e, sectionsFrom)
 
 module _ (s : Sheet) (plan : List ℕ) (section : ℕ) (o : Outer s plan section) where
   pub outer-end : 3 < section → _≡_ {A = Verdict} (record { number = 0; place = 0 }) (sectionsFrom 3 s plan 1)
@@ -108,7 +106,7 @@ module _ (s : Sheet) (plan : List ℕ) (section : ℕ) (o : Outer s plan section
         fewer = omega arith
 
     outer-wrong : (sectionVerdict s plan section .number ≡ 0 → ⊥) → sectionVerdict s plan section ≡ sectionsFrom 3 s plan 1
-    outer-wrong e = sym (sections-wrong (3 - section) s plan section e) ∙ opened
+    outer-wrong e = sym (sections-stop (3 - section) s plan section e) ∙ opened
 
     pub outer-absent : (x : Bool) → x ≡ present s section → not x ≡ true → Outer s plan (section + 1)
     outer-absent x ex e = outer-next (ap (λ v. v .number) absent ∙ zero-number 0)
@@ -128,19 +126,19 @@ pub record Inner (s : Sheet) (plan : List ℕ) (section : ℕ) (part : Part) (k 
   pub kept : Kept p
   pub same : sectionFrom (part .members - k) s plan section part k p ≡ sectionVerdict s plan section
 
-section-here : (s : Sheet) (plan : List ℕ) (section : ℕ) (part : Part) → part ≡ partAt s plan section → present s section ≡ true → sectionFrom (part .members) s plan section part 0 begun ≡ sectionVerdict s plan section
+pub section-here : (s : Sheet) (plan : List ℕ) (section : ℕ) (part : Part) → part ≡ partAt s plan section → present s section ≡ true → sectionFrom (part .members) s plan section part 0 begun ≡ sectionVerdict s plan section
 unfolding sectionVerdict
 section-here s plan section part e h = rw (h, e)
 
-member-next : (left : ℕ) (s : Sheet) (plan : List ℕ) (section : ℕ) (part : Part) (k : ℕ) (p : Progress) → memberFollows s plan section k (memberPlace section (part .head) k) p ≡ true → sectionFrom (suc left) s plan section part k p ≡ sectionFrom left s plan section part (k + 1) (afterMember s plan section (memberPlace section (part .head) k) p)
+pub member-next : (left : ℕ) (s : Sheet) (plan : List ℕ) (section : ℕ) (part : Part) (k : ℕ) (p : Progress) → memberFollows s plan section k (memberPlace section (part .head) k) p ≡ true → sectionFrom (suc left) s plan section part k p ≡ sectionFrom left s plan section part (k + 1) (afterMember s plan section (memberPlace section (part .head) k) p)
 unfolding sectionFrom
 member-next left s plan section part k p e = rw (e, sectionFrom)
 
-member-wrong : (left : ℕ) (s : Sheet) (plan : List ℕ) (section : ℕ) (part : Part) (k : ℕ) (p : Progress) → memberFollows s plan section k (memberPlace section (part .head) k) p ≡ false → sectionFrom (suc left) s plan section part k p ≡ verdict ruleBroken (memberPlace section (part .head) k)
+pub member-wrong : (left : ℕ) (s : Sheet) (plan : List ℕ) (section : ℕ) (part : Part) (k : ℕ) (p : Progress) → memberFollows s plan section k (memberPlace section (part .head) k) p ≡ false → sectionFrom (suc left) s plan section part k p ≡ verdict ruleBroken (memberPlace section (part .head) k)
 unfolding sectionFrom
 member-wrong left s plan section part k p e = rw (e, sectionFrom)
 
-members-judged : (s : Sheet) (plan : List ℕ) (section : ℕ) (part : Part) (k : ℕ) (p : Progress) → sectionFrom 0 s plan section part k p ≡ verdict (headNumber s plan section part p) (part .head)
+pub members-judged : (s : Sheet) (plan : List ℕ) (section : ℕ) (part : Part) (k : ℕ) (p : Progress) → sectionFrom 0 s plan section part k p ≡ verdict (headNumber s plan section part p) (part .head)
 unfolding sectionFrom
 members-judged s plan section part k p = refl
 
@@ -246,12 +244,6 @@ module _ (s : Sheet) (plan : List ℕ) (section head : ℕ) (a : StatedAsked s p
   stated-here figure h n = n .is ∙ rw (← ex, not-false x h, a .here)
 
 module _ (s : Sheet) (plan : List ℕ) (mosaic sorting flight : Part) (em : mosaic ≡ mosaicPart s plan) (es : sorting ≡ sortingPart s plan) (ef : flight ≡ flightPart s plan) where
-  pub verdict-asked : VerdictAsked s plan mosaic sorting flight
-  verdict-asked = record { mosaic-is = em; sorting-is = es; flight-is = ef }
-
-  pub parts-asked : SheetSound s → PartsAsked s plan mosaic sorting flight
-  parts-asked sound = record { sound = sound; parts = verdict-asked }
-
   head-small : (p q : Part) → p ≡ q → PartFits plan q → p .head ≤ length plan
   head-small p q e f = rw e (omega (arith, f .within, f .members))
 

@@ -1,29 +1,25 @@
 -- Laws of a flight's passes: what the bytes give is what the rules name, and the loops over the order and over all passes.
 use Prim.Native.Nat.{ℕ, zero, suc, _+_, _-_, _*_, _^_, _≤_, _<_, max}
 use mathlib.Core.Path.{_≡_, refl, sym, ap, _∙_}
-use mathlib.Core.Bool.{Bool, true, false, cond, not, _&&_, _||_}
+use mathlib.Core.Bool.{Bool, true, false, not, _&&_, _||_}
 use mathlib.Core.List.{List}
-use mathlib.Core.Logic.{⊎-elim}
 use native.Mathlib.Nat.{mul-suc}
 use native.Mathlib.Decide.{decLt}
 use native.Mathlib.Numerals.{add-one}
 use native.Mathlib.Omega.{arith}
-use lib.ListN.{length, getD}
-use lib.Dec.{ltb, leb, eqb}
+use lib.ListN.{getD}
+use lib.Dec.{leb, eqb}
 use borrow.Author.Tests.{lt-ltb, le-ltb, le-leb, lt-leb, eq-eqb, ne-eqb, not-true, not-false}
-use Rattle.field.specs.Bytes.{numberAt, NumberRead}
-use Rattle.order.specs.Order.{bit, seconds, firsts, isProper, Proper}
-use Rattle.order.specs.Seconds.{bit-cases, firsts-seconds}
+use Rattle.field.specs.Bytes.{NumberRead}
+use Rattle.order.specs.Order.{isProper}
 use Rattle.order.specs.Decided.{proper-true}
-use Rattle.order.specs.Blocks.{proper-first, proper-second, proper-firsts}
-use Rattle.sheet.specs.Limits.{mostTime}
-use Rattle.sheet.specs.Sound.{FlightSound}
 use Rattle.sheet.specs.declared.FlightSection.{FlightSection}
 use Rattle.rules.specs.Sums.{greatestOver}
 use Rattle.rules.specs.Flight.{noPasses, passesAt, passStart, passTime, passEnd, passAt, flightFigure}
 use Rattle.rules.specs.PlanRead.{passesFrom, membersFrom}
-use Rattle.rules.specs.FunctionLaws.{PassAsked, PositionAsked, TimeTold}
+use Rattle.rules.specs.FunctionLaws.{PositionAsked, TimeTold}
 use Rattle.rules.specs.declared.Passes.{Passes}
+use Rattle.rules_laws.specs.FlightRunning.{pass-known}
 use Rattle.judge_rules.specs.Follows.{passesInOrder, flightHead}
 use Rattle.judge_flight.specs.Starts.{passesOf, startOf, endOf, StartAsked, StartTold, FigureTold, HeadAsked, PassesAsked, OrderAsked}
 
@@ -65,27 +61,9 @@ module _ (plan : List ℕ) (at n p value : ℕ) where
   second-start h r = record { is = rw (le-ltb _ _ h) (r .is); fits = r .fits }
 
 module _ (f : FlightSection) (plan : List ℕ) (at p : ℕ) where
-  pub passes-start : PassesAsked f at p → StartAsked at (f .blocks) p
-  passes-start a = record { room = a .room; few = a .sound .most-blocks; known = a .known }
-
-  pub passes-pass : PassesAsked f at p → PassAsked f p
-  passes-pass a = record { sound = a .sound; known = a .known }
-
-  pub end-fits : (start time : ℕ) → StartTold (startOf plan at (f .blocks) p) start → TimeTold (passTime f p) time → start + time < 2 ^ 64
-  end-fits start time t u = omega (arith, t .fits, u .fits)
-
   pub end-told : (start time : ℕ) → StartTold (startOf plan at (f .blocks) p) start → TimeTold (passTime f p) time → FigureTold (endOf f plan at p) (start + time)
   unfolding endOf
   end-told start time t u = record { is = rw (t .is, u .is); fits = omega (arith, t .fits, u .fits) }
-
--- the pass at a position of a proper order is one of the flight's
-module _ (f : FlightSection) (order k : ℕ) (proper : Proper (f .blocks) order) (h : k < 2 * f .blocks) where
-  pub pass-known : passAt f order k < 2 * f .blocks
-  unfolding passAt
-  pass-known =
-      ⊎-elim (λ z. rw (ne-eqb (bit order k) 1 (λ q. omega arith)) (omega (arith, proper-first proper k h z)))
-      (λ o. rw (eq-eqb (bit order k) 1 o) (omega (arith, proper-second proper k h o, proper-firsts proper k (omega arith))))
-      (bit-cases order k)
 
 -- the first k passes of the order come one after another
 pub record OrderedSoFar (f : FlightSection) (order : ℕ) (ps : List Passes) (k : ℕ) : Type 0 where
@@ -110,10 +88,10 @@ ordered-none f order ps = record { within = omega arith; so-far = refl }
 
 module _ (f : FlightSection) (order : ℕ) (plan : List ℕ) (at k : ℕ) (a : OrderAsked f order at) (t : OrderedSoFar f order (passesOf plan at (f .blocks)) k) (less : k + 1 < 2 * f .blocks) (p q start end : ℕ) (ep : p ≡ passAt f order k) (eq : q ≡ passAt f order (k + 1)) (ts : StartTold (startOf plan at (f .blocks) q) start) (te : FigureTold (endOf f plan at p) end) where
   known-p : p < 2 * f .blocks
-  known-p = rw ep (pass-known f order k (a .proper) (omega arith))
+  known-p = rw ep (pass-known f order (a .proper) k (omega arith))
 
   known-q : q < 2 * f .blocks
-  known-q = rw eq (pass-known f order (k + 1) (a .proper) less)
+  known-q = rw eq (pass-known f order (a .proper) (k + 1) less)
 
   end-there : end ≡ passEnd f (passesOf plan at (f .blocks)) (passAt f order k)
   end-there = te .is ∙ end-is f plan at p known-p ∙ ap (passEnd f (passesOf plan at (f .blocks))) ep
@@ -151,10 +129,10 @@ module _ (f : FlightSection) (order at k p : ℕ) (a : OrderAsked f order at) (l
   next-position = record { sound = a .sound; known = less }
 
   pub next-start : p ≡ passAt f order (k + 1) → StartAsked at (f .blocks) p
-  next-start e = record { room = a .room; few = a .sound .most-blocks; known = rw e (pass-known f order (k + 1) (a .proper) less) }
+  next-start e = record { room = a .room; few = a .sound .most-blocks; known = rw e (pass-known f order (a .proper) (k + 1) less) }
 
   pub this-end : p ≡ passAt f order k → PassesAsked f at p
-  this-end e = record { sound = a .sound; room = a .room; known = rw e (pass-known f order k (a .proper) (omega arith)) }
+  this-end e = record { sound = a .sound; room = a .room; known = rw e (pass-known f order (a .proper) k (omega arith)) }
 
 -- the greatest end of the first p passes
 pub record LatestSoFar (f : FlightSection) (ps : List Passes) (p value : ℕ) : Type 0 where
@@ -162,22 +140,19 @@ pub record LatestSoFar (f : FlightSection) (ps : List Passes) (p value : ℕ) : 
   pub is : value ≡ greatestOver p (λ q. passEnd f ps q)
   pub fits : value < 2 ^ 33
 
-latest-suc : (n : ℕ) (g : ℕ → ℕ) → greatestOver (suc n) g ≡ max (greatestOver n g) (g n)
-unfolding greatestOver
-latest-suc n g = refl
-
 pub latest-none : (f : FlightSection) (ps : List Passes) → LatestSoFar f ps 0 0
 unfolding greatestOver
 latest-none f ps = record { within = omega arith; is = refl; fits = omega arith }
 
 module _ (f : FlightSection) (plan : List ℕ) (at p value : ℕ) (t : LatestSoFar f (passesOf plan at (f .blocks)) p value) where
   pub latest-more : (end next : ℕ) → p < 2 * f .blocks → FigureTold (endOf f plan at p) end → next ≡ max value end → LatestSoFar f (passesOf plan at (f .blocks)) (p + 1) next
+  unfolding greatestOver
   latest-more end next h u e =
       let b = t .fits in
       let c = u .fits in
       record {
         within = omega arith;
-        is = e ∙ rw (t .is, u .is, end-is f plan at p h, add-one p) (sym (latest-suc p (λ q. passEnd f (passesOf plan at (f .blocks)) q)));
+        is = e ∙ rw (t .is, u .is, end-is f plan at p h, add-one p);
         fits = omega arith;
       }
 

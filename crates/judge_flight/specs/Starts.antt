@@ -6,7 +6,6 @@ use mathlib.Core.List.{List}
 use lib.Dec.{ltb}
 use Rattle.field.specs.Bytes.{numberAt}
 use Rattle.order.specs.Order.{Proper}
-use Rattle.sheet.specs.Limits.{mostTime}
 use Rattle.sheet.specs.Sound.{FlightSound}
 use Rattle.sheet.specs.declared.FlightSection.{FlightSection}
 use Rattle.rules.specs.Flight.{passTime}

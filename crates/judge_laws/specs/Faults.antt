@@ -8,7 +8,7 @@ use native.Mathlib.Decide.{ℕ-discrete}
 use native.Mathlib.Omega.{arith}
 use lib.ListN.{length}
 use lib.Dec.{eqb}
-use borrow.Author.Tests.{eq-eqb, ne-eqb, eqb-false}
+use borrow.Author.Tests.{ne-eqb, eqb-false}
 use Rattle.field.specs.Branch.{check}
 use Rattle.sheet.specs.Refusals.{layoutWrong, ruleBroken, figureUntrue}
 use Rattle.sheet.specs.Read.{readSheet}
@@ -18,9 +18,10 @@ use Rattle.judge_layout.specs.Layout.{mosaicPart, sortingPart, flightPart, verd
 use Rattle.judge_layout.specs.declared.Verdict.{Verdict}
 use Rattle.judge_members.specs.Members.{present, memberPlace, begun, memberFollows, afterMember, headFollows, figureOf, headNumber}
 use Rattle.judge_members.specs.declared.Progress.{Progress}
-use Rattle.judge.specs.Judged.{partAt, sectionFrom, sectionVerdict, sectionsFrom, turnedBack, found, concluded, judgedPlan, judged}
+use Rattle.judge.specs.Judged.{partAt, sectionFrom, sectionVerdict, sectionsFrom, turnedBack, found, judged}
+use Rattle.judge.specs.Loops.{section-absent, zero-number, section-here, sections-next, sections-stop, member-next, member-wrong, members-judged, sheet-wrong, sheet-right, layout-wrong, section-wrong}
 use Rattle.judge.specs.declared.Judged.{Judged}
-use Rattle.judge_laws.specs.Outcomes.{LayoutRight, right-layout, layout-right, right-section}
+use Rattle.judge_laws.specs.Outcomes.{LayoutRight, right-layout, layout-right, sections-right, right-judged}
 use Rattle.judge_laws.specs.Fault.{Reached, SectionFault, LayoutFault, Fault}
 
 -- one section
@@ -40,55 +41,52 @@ module _ (s : Sheet) (plan : List ℕ) (section : ℕ) where
       go true p false q n = SectionFault.figure-untrue st r p (eqb-false _ _ q) refl refl
       go true p true q n = absurd (n refl)
 
+  named : (v w : Verdict) → v ≡ w → SectionFault s plan section (v .number) (v .place) → SectionFault s plan section (w .number) (w .place)
+  named v w e f = subst (λ (u : Verdict). SectionFault s plan section (u .number) (u .place)) e f
+
   -- from member k on
   fault-from : (n k : ℕ) (st : Progress) → Reached s plan section k st → k + n ≡ partAt s plan section .members
       → (sectionFrom n s plan section (partAt s plan section) k st .number ≡ 0 → ⊥)
       → SectionFault s plan section (sectionFrom n s plan section (partAt s plan section) k st .number) (sectionFrom n s plan section (partAt s plan section) k st .place)
-  unfolding sectionFrom verdict
-  fault-from zero k st r e h = head-fault st (subst (λ (i : ℕ). Reached s plan section i st) (omega arith) r) h
-  fault-from (suc n) k st r e h = go _ refl h (fault-from n (k + 1) (afterMember s plan section (memberPlace section (partAt s plan section .head) k) st))
+  unfolding verdict
+  fault-from zero k st r e h =
+      let q = members-judged s plan section (partAt s plan section) k st in
+      named _ _ (sym q) (head-fault st (subst (λ (i : ℕ). Reached s plan section i st) (omega arith) r) (λ z. h (ap (λ v. v .number) q ∙ z)))
+  fault-from (suc n) k st r e h = go _ refl (fault-from n (k + 1) (afterMember s plan section (memberPlace section (partAt s plan section .head) k) st))
     where
       rest : Verdict
       rest = sectionFrom n s plan section (partAt s plan section) (k + 1) (afterMember s plan section (memberPlace section (partAt s plan section .head) k) st)
 
-      judgedHere : Bool → Verdict
-      judgedHere b = elim b [ true ↦ rest | false ↦ verdict ruleBroken (memberPlace section (partAt s plan section .head) k) ]
-
       go : (b : Bool) → memberFollows s plan section k (memberPlace section (partAt s plan section .head) k) st ≡ b
-          → (judgedHere b .number ≡ 0 → ⊥)
           → (Reached s plan section (k + 1) (afterMember s plan section (memberPlace section (partAt s plan section .head) k) st) → k + 1 + n ≡ partAt s plan section .members → (rest .number ≡ 0 → ⊥) → SectionFault s plan section (rest .number) (rest .place))
-          → SectionFault s plan section (judgedHere b .number) (judgedHere b .place)
-      go true p h ih = ih (Reached.next r (omega arith) p) (omega arith) h
-      go false p h ih = SectionFault.at-member k st r (omega arith) p refl refl
+          → SectionFault s plan section (sectionFrom (suc n) s plan section (partAt s plan section) k st .number) (sectionFrom (suc n) s plan section (partAt s plan section) k st .place)
+      go true p ih =
+          let q = member-next n s plan section (partAt s plan section) k st p in
+          named _ _ (sym q) (ih (Reached.next r (omega arith) p) (omega arith) (λ z. h (ap (λ v. v .number) q ∙ z)))
+      go false p ih = named _ _ (sym (member-wrong n s plan section (partAt s plan section) k st p)) (SectionFault.at-member k st r (omega arith) p refl refl)
 
   -- the members before are passed
   reached-same : {k : ℕ} {st : Progress} → Reached s plan section k st → (n : ℕ) → k + n ≡ partAt s plan section .members
       → sectionFrom (partAt s plan section .members) s plan section (partAt s plan section) 0 begun ≡ sectionFrom n s plan section (partAt s plan section) k st
-  unfolding sectionFrom
   reached-same Reached.first n e =
       let q : partAt s plan section .members ≡ n = omega arith in
       ap (λ (m : ℕ). sectionFrom m s plan section (partAt s plan section) 0 begun) q
-  reached-same (Reached.next {k} {st} r l h) n e = reached-same r (suc n) (omega arith) ∙ rw (h, sectionFrom)
-
-  member-broken : (n k : ℕ) (st : Progress) → memberFollows s plan section k (memberPlace section (partAt s plan section .head) k) st ≡ false
-      → sectionFrom (suc n) s plan section (partAt s plan section) k st ≡ verdict ruleBroken (memberPlace section (partAt s plan section .head) k)
-  unfolding sectionFrom
-  member-broken n k st h = rw (h, sectionFrom)
+  reached-same (Reached.next {k} {st} r l h) n e = reached-same r (suc n) (omega arith) ∙ member-next n s plan section (partAt s plan section) k st h
 
   head-broken : (k : ℕ) (st : Progress) → headFollows s plan section (partAt s plan section) st ≡ false
       → sectionFrom 0 s plan section (partAt s plan section) k st ≡ verdict ruleBroken (partAt s plan section .head)
-  unfolding sectionFrom headNumber check
-  head-broken k st h = rw h
+  unfolding headNumber check
+  head-broken k st h = members-judged s plan section (partAt s plan section) k st ∙ rw h
 
   head-untrue : (k : ℕ) (st : Progress) → headFollows s plan section (partAt s plan section) st ≡ true
       → (figureFrom plan (partAt s plan section .head) ≡ figureOf s plan section (partAt s plan section) st → ⊥)
       → sectionFrom 0 s plan section (partAt s plan section) k st ≡ verdict figureUntrue (partAt s plan section .head)
-  unfolding sectionFrom headNumber check
-  head-untrue k st h n = rw (h, ne-eqb _ _ n)
+  unfolding headNumber check
+  head-untrue k st h n = members-judged s plan section (partAt s plan section) k st ∙ rw (h, ne-eqb _ _ n)
 
   fault-is : (number place : ℕ) → SectionFault s plan section number place → sectionFrom (partAt s plan section .members) s plan section (partAt s plan section) 0 begun ≡ verdict number place
   fault-is number place (SectionFault.at-member k st r l h en ep) =
-      reached-same r (suc (partAt s plan section .members - suc k)) (omega arith) ∙ member-broken _ k st h ∙ sym (ap₂ verdict en ep)
+      reached-same r (suc (partAt s plan section .members - suc k)) (omega arith) ∙ member-wrong _ s plan section (partAt s plan section) k st h ∙ sym (ap₂ verdict en ep)
   fault-is number place (SectionFault.at-head st r h en ep) = reached-same r 0 (omega arith) ∙ head-broken _ st h ∙ sym (ap₂ verdict en ep)
   fault-is number place (SectionFault.figure-untrue st r h n en ep) = reached-same r 0 (omega arith) ∙ head-untrue _ st h n ∙ sym (ap₂ verdict en ep)
 
@@ -99,19 +97,16 @@ module _ (s : Sheet) (plan : List ℕ) (section : ℕ) where
   fault-number number place (SectionFault.figure-untrue st r h n en ep) z = omega arith
 
   section-fault-is : (number place : ℕ) → present s section ≡ true → SectionFault s plan section number place → sectionVerdict s plan section ≡ verdict number place
-  unfolding sectionVerdict
-  section-fault-is number place p f = rw p (fault-is number place f)
+  section-fault-is number place p f = sym (section-here s plan section (partAt s plan section) refl p) ∙ fault-is number place f
 
   section-fault : (sectionVerdict s plan section .number ≡ 0 → ⊥) → (present s section ≡ true) × SectionFault s plan section (sectionVerdict s plan section .number) (sectionVerdict s plan section .place)
-  unfolding sectionVerdict verdict
-  section-fault h = go (present s section) refl h
+  section-fault h = go (present s section) refl
     where
-      whole : Verdict
-      whole = sectionFrom (partAt s plan section .members) s plan section (partAt s plan section) 0 begun
-
-      go : (b : Bool) → present s section ≡ b → (cond b whole (verdict 0 0) .number ≡ 0 → ⊥) → (present s section ≡ true) × SectionFault s plan section (cond b whole (verdict 0 0) .number) (cond b whole (verdict 0 0) .place)
-      go true p h = (p, fault-from (partAt s plan section .members) 0 begun Reached.first (omega arith) h)
-      go false p h = absurd (h refl)
+      go : (b : Bool) → present s section ≡ b → (present s section ≡ true) × SectionFault s plan section (sectionVerdict s plan section .number) (sectionVerdict s plan section .place)
+      go true p =
+          let q = section-here s plan section (partAt s plan section) refl p in
+          (p, named _ _ q (fault-from (partAt s plan section .members) 0 begun Reached.first (omega arith) (λ z. h (sym (ap (λ v. v .number) q) ∙ z))))
+      go false p = absurd (h (ap (λ v. v .number) (section-absent s plan section p) ∙ zero-number 0))
 
 -- the layout
 module _ (s : Sheet) (plan : List ℕ) where
@@ -148,10 +143,6 @@ module _ (s : Sheet) (plan : List ℕ) where
     pub there : present s section ≡ true
     pub fault : SectionFault s plan section number place
 
-  section-wrong : (left section : ℕ) → (sectionVerdict s plan section .number ≡ 0 → ⊥) → sectionsFrom (suc left) s plan section ≡ sectionVerdict s plan section
-  unfolding sectionsFrom
-  section-wrong left section e = rw (ne-eqb _ _ e, sectionsFrom)
-
   no-section : (section : ℕ) → sectionsFrom 0 s plan section .number ≡ 0
   unfolding sectionsFrom verdict
   no-section section = refl
@@ -172,12 +163,12 @@ module _ (s : Sheet) (plan : List ℕ) where
       two-before z y i l u (no q) = let r : 2 ≡ i = omega arith in subst (λ (k : ℕ). sectionVerdict s plan k .number ≡ 0) r y
 
       go : Dec (sectionVerdict s plan 1 .number ≡ 0) → Dec (sectionVerdict s plan 2 .number ≡ 0) → Dec (sectionVerdict s plan 3 .number ≡ 0) → FirstFault (sectionsFrom 3 s plan 1 .number) (sectionsFrom 3 s plan 1 .place)
-      go (no n) b c = at-section 1 (omega arith) (omega arith) (λ i l u. absurd (omega arith)) (section-wrong 2 1 n) n
-      go (yes z) (no n) c = at-section 2 (omega arith) (omega arith) (one-before z) (right-section s plan 2 1 z ∙ section-wrong 1 2 n) n
+      go (no n) b c = at-section 1 (omega arith) (omega arith) (λ i l u. absurd (omega arith)) (sections-stop 2 s plan 1 n) n
+      go (yes z) (no n) c = at-section 2 (omega arith) (omega arith) (one-before z) (sections-next 2 s plan 1 z ∙ sections-stop 1 s plan 2 n) n
       go (yes z) (yes y) (no n) =
-          at-section 3 (omega arith) (omega arith) (λ i l u. two-before z y i l u (ℕ-discrete 1 i)) (right-section s plan 2 1 z ∙ right-section s plan 1 2 y ∙ section-wrong 0 3 n) n
+          at-section 3 (omega arith) (omega arith) (λ i l u. two-before z y i l u (ℕ-discrete 1 i)) (sections-next 2 s plan 1 z ∙ sections-next 1 s plan 2 y ∙ sections-stop 0 s plan 3 n) n
       go (yes z) (yes y) (yes x) =
-          absurd (h (ap (λ (v : Verdict). v .number) (right-section s plan 2 1 z ∙ right-section s plan 1 2 y ∙ right-section s plan 0 3 x) ∙ no-section 4))
+          absurd (h (ap (λ (v : Verdict). v .number) (sections-next 2 s plan 1 z ∙ sections-next 1 s plan 2 y ∙ sections-next 0 s plan 3 x) ∙ no-section 4))
 
   module _ (number place : ℕ) where
     wrong-number : (section : ℕ) → sectionVerdict s plan section ≡ verdict number place → (number ≡ 0 → ⊥) → sectionVerdict s plan section .number ≡ 0 → ⊥
@@ -186,57 +177,55 @@ module _ (s : Sheet) (plan : List ℕ) where
 
     first-fault-is : (section : ℕ) → 1 ≤ section → section ≤ 3 → ((i : ℕ) → 1 ≤ i → i < section → sectionVerdict s plan i .number ≡ 0) → sectionVerdict s plan section ≡ verdict number place → (number ≡ 0 → ⊥) → sectionsFrom 3 s plan 1 ≡ verdict number place
     first-fault-is zero l u before e n = absurd (omega arith)
-    first-fault-is (suc zero) l u before e n = section-wrong 2 1 (wrong-number 1 e n) ∙ e
-    first-fault-is (suc (suc zero)) l u before e n = right-section s plan 2 1 (before 1 (omega arith) (omega arith)) ∙ section-wrong 1 2 (wrong-number 2 e n) ∙ e
+    first-fault-is (suc zero) l u before e n = sections-stop 2 s plan 1 (wrong-number 1 e n) ∙ e
+    first-fault-is (suc (suc zero)) l u before e n = sections-next 2 s plan 1 (before 1 (omega arith) (omega arith)) ∙ sections-stop 1 s plan 2 (wrong-number 2 e n) ∙ e
     first-fault-is (suc (suc (suc zero))) l u before e n =
-        right-section s plan 2 1 (before 1 (omega arith) (omega arith)) ∙ right-section s plan 1 2 (before 2 (omega arith) (omega arith)) ∙ section-wrong 0 3 (wrong-number 3 e n) ∙ e
+        sections-next 2 s plan 1 (before 1 (omega arith) (omega arith)) ∙ sections-next 1 s plan 2 (before 2 (omega arith) (omega arith)) ∙ sections-stop 0 s plan 3 (wrong-number 3 e n) ∙ e
     first-fault-is (suc (suc (suc (suc section)))) l u before e n = absurd (omega arith)
 
 -- the answer
 module _ (sheet plan : List ℕ) where
-  sheet-wrong : (readSheet sheet .number ≡ 0 → ⊥) → judged sheet plan ≡ turnedBack (readSheet sheet .number) (readSheet sheet .place)
-  unfolding judged
-  sheet-wrong n = rw (ne-eqb _ _ n)
+  sheet-refused : (readSheet sheet .number ≡ 0 → ⊥) → judged sheet plan ≡ turnedBack (readSheet sheet .number) (readSheet sheet .place)
+  sheet-refused n = sym (sheet-wrong sheet plan (readSheet sheet) refl _ n refl)
 
-  layout-wrong : readSheet sheet .number ≡ 0 → (layoutVerdict (readSheet sheet) plan .number ≡ 0 → ⊥) → judged sheet plan ≡ turnedBack (layoutVerdict (readSheet sheet) plan .number) (layoutVerdict (readSheet sheet) plan .place)
-  unfolding judged judgedPlan
-  layout-wrong z n = rw (eq-eqb _ _ z, ne-eqb _ _ n)
+  layout-refused : readSheet sheet .number ≡ 0 → (layoutVerdict (readSheet sheet) plan .number ≡ 0 → ⊥) → judged sheet plan ≡ turnedBack (layoutVerdict (readSheet sheet) plan .number) (layoutVerdict (readSheet sheet) plan .place)
+  layout-refused z n = sym (sheet-right sheet plan (readSheet sheet) refl _ z (layout-wrong (readSheet sheet) plan (layoutVerdict (readSheet sheet) plan) refl _ n refl))
 
-  sections-wrong : readSheet sheet .number ≡ 0 → layoutVerdict (readSheet sheet) plan .number ≡ 0 → (sectionsFrom 3 (readSheet sheet) plan 1 .number ≡ 0 → ⊥) → judged sheet plan ≡ turnedBack (sectionsFrom 3 (readSheet sheet) plan 1 .number) (sectionsFrom 3 (readSheet sheet) plan 1 .place)
-  unfolding judged judgedPlan concluded
-  sections-wrong z y n = rw (eq-eqb _ _ z, eq-eqb _ _ y, ne-eqb _ _ n)
+  sections-refused : readSheet sheet .number ≡ 0 → layoutVerdict (readSheet sheet) plan .number ≡ 0 → (sectionsFrom 3 (readSheet sheet) plan 1 .number ≡ 0 → ⊥) → judged sheet plan ≡ turnedBack (sectionsFrom 3 (readSheet sheet) plan 1 .number) (sectionsFrom 3 (readSheet sheet) plan 1 .place)
+  sections-refused z y n =
+      sym (sheet-right sheet plan (readSheet sheet) refl _ z (section-wrong (readSheet sheet) plan (layoutVerdict (readSheet sheet) plan) refl y (sectionsFrom 3 (readSheet sheet) plan 1) refl _ n refl))
 
-  none-wrong : readSheet sheet .number ≡ 0 → layoutVerdict (readSheet sheet) plan .number ≡ 0 → sectionsFrom 3 (readSheet sheet) plan 1 .number ≡ 0 → judged sheet plan .number ≡ 0
-  unfolding judged judgedPlan concluded found
-  none-wrong z y x = rw (eq-eqb _ _ z, eq-eqb _ _ y, eq-eqb _ _ x)
+  none-refused : readSheet sheet .number ≡ 0 → layoutVerdict (readSheet sheet) plan .number ≡ 0 → sectionsFrom 3 (readSheet sheet) plan 1 .number ≡ 0 → judged sheet plan .number ≡ 0
+  unfolding found
+  none-refused z y x = ap (λ (j : Judged). j .number) (right-judged sheet plan z (record { layout = layout-right (readSheet sheet) plan y; sections = sections-right (readSheet sheet) plan x }))
 
-  named : (number place : ℕ) → judged sheet plan ≡ turnedBack number place → Fault sheet plan number place → Fault sheet plan (judged sheet plan .number) (judged sheet plan .place)
+  turned : (number place : ℕ) → judged sheet plan ≡ turnedBack number place → Fault sheet plan number place → Fault sheet plan (judged sheet plan .number) (judged sheet plan .place)
   unfolding turnedBack
-  named number place e f = subst (λ (j : Judged). Fault sheet plan (j .number) (j .place)) (sym e) f
+  turned number place e f = subst (λ (j : Judged). Fault sheet plan (j .number) (j .place)) (sym e) f
 
   pub turned-back-fault : (judged sheet plan .number ≡ 0 → ⊥) → Fault sheet plan (judged sheet plan .number) (judged sheet plan .place)
   turned-back-fault h = go (ℕ-discrete _ 0) (ℕ-discrete _ 0) (ℕ-discrete _ 0)
     where
       go : Dec (readSheet sheet .number ≡ 0) → Dec (layoutVerdict (readSheet sheet) plan .number ≡ 0) → Dec (sectionsFrom 3 (readSheet sheet) plan 1 .number ≡ 0) → Fault sheet plan (judged sheet plan .number) (judged sheet plan .place)
-      go (no n) b c = named _ _ (sheet-wrong n) (Fault.in-sheet n refl refl)
-      go (yes z) (no n) c = let f = layout-fault (readSheet sheet) plan n in named _ _ (layout-wrong z n) (Fault.in-layout z (f .1) (f .0))
+      go (no n) b c = turned _ _ (sheet-refused n) (Fault.in-sheet n refl refl)
+      go (yes z) (no n) c = let f = layout-fault (readSheet sheet) plan n in turned _ _ (layout-refused z n) (Fault.in-layout z (f .1) (f .0))
       go (yes z) (yes y) (no n) =
           let f = first-fault (readSheet sheet) plan n in
-          named _ _ (sections-wrong z y n) (Fault.in-section (f .section) z (layout-right (readSheet sheet) plan y) (f .low) (f .high) (f .before) (f .there) (f .fault))
-      go (yes z) (yes y) (yes x) = absurd (h (none-wrong z y x))
+          turned _ _ (sections-refused z y n) (Fault.in-section (f .section) z (layout-right (readSheet sheet) plan y) (f .low) (f .high) (f .before) (f .there) (f .fault))
+      go (yes z) (yes y) (yes x) = absurd (h (none-refused z y x))
 
   section-turned-back : (number place : ℕ) → readSheet sheet .number ≡ 0 → LayoutRight (readSheet sheet) plan → sectionsFrom 3 (readSheet sheet) plan 1 ≡ verdict number place → (number ≡ 0 → ⊥) → judged sheet plan ≡ turnedBack number place
   unfolding verdict
   section-turned-back number place z l e n =
-      sections-wrong z (right-layout (readSheet sheet) plan l) (λ q. n (sym (ap (λ (v : Verdict). v .number) e) ∙ q)) ∙ ap (λ (v : Verdict). turnedBack (v .number) (v .place)) e
+      sections-refused z (right-layout (readSheet sheet) plan l) (λ q. n (sym (ap (λ (v : Verdict). v .number) e) ∙ q)) ∙ ap (λ (v : Verdict). turnedBack (v .number) (v .place)) e
 
   layout-turned-back : (place : ℕ) → readSheet sheet .number ≡ 0 → layoutVerdict (readSheet sheet) plan ≡ verdict layoutWrong place → judged sheet plan ≡ turnedBack layoutWrong place
   unfolding verdict
   layout-turned-back place z e =
-      layout-wrong z (λ q. let y : _≡_ {A = ℕ} layoutWrong 0 = sym (ap (λ (v : Verdict). v .number) e) ∙ q in omega arith) ∙ ap (λ (v : Verdict). turnedBack (v .number) (v .place)) e
+      layout-refused z (λ q. let y : _≡_ {A = ℕ} layoutWrong 0 = sym (ap (λ (v : Verdict). v .number) e) ∙ q in omega arith) ∙ ap (λ (v : Verdict). turnedBack (v .number) (v .place)) e
 
   pub fault-turned-back : (number place : ℕ) → Fault sheet plan number place → judged sheet plan ≡ turnedBack number place
-  fault-turned-back number place (Fault.in-sheet n en ep) = sheet-wrong n ∙ sym (ap₂ turnedBack en ep)
+  fault-turned-back number place (Fault.in-sheet n en ep) = sheet-refused n ∙ sym (ap₂ turnedBack en ep)
   fault-turned-back number place (Fault.in-layout z f en) =
       layout-turned-back place z (layout-fault-is (readSheet sheet) plan place f) ∙ sym (ap (λ (k : ℕ). turnedBack k place) en)
   fault-turned-back number place (Fault.in-section section z l low high before there f) =

@@ -8,29 +8,19 @@ use native.Mathlib.Nat.{add-zero, mul-suc, mul-comm, mul-le-mul-left}
 use native.Mathlib.Omega.{arith}
 use lib.ListN.{length, getD, take, drop, length-append, take-append-drop}
 use lib.Seq.{drop-drop, getD-append-add}
-use lib.Dec.{eqb}
-use borrow.Author.Tests.{eq-eqb, eqb-true}
+use borrow.Author.Tests.{eq-eqb}
 use Rattle.field.specs.Field.{fieldAt, fieldBytes}
 use Rattle.field.specs.Fields.{whole-at}
 use Rattle.field.specs.declared.Field.{Field}
-use Rattle.field.specs.declared.Field.the-variants.{End, Cut, Whole}
+use Rattle.field.specs.declared.Field.the-variants.{Whole}
 use Rattle.rules.specs.Plan.{membersBytes}
 use Rattle.rules.specs.PlanRead.{membersFrom}
 use Rattle.rules_laws.specs.ByteLaws.{AreBytes, length-field, field-written}
 use Rattle.rules_laws.specs.Members.{Kind, length-members, members-back, members-found, members-stand}
 use Rattle.judge_layout.specs.Layout.{isField, run, partFrom, partOf}
+use Rattle.judge_layout.specs.Laws.{is-field-true}
 
 -- the test of a field
-field-is : (f : Field) (tag len : ℕ) → isField f tag len ≡ true → f ≡ Whole tag len
-unfolding isField
-field-is End tag len e = let z : _≡_ {A = ℕ} 0 1 = cc in absurd (omega arith)
-field-is Cut tag len e = let z : _≡_ {A = ℕ} 0 1 = cc in absurd (omega arith)
-field-is (Whole t l) tag len e = same (eqb t tag) refl e
-  where
-    same : (b : Bool) → eqb t tag ≡ b → cond b (eqb l len) false ≡ true → Whole t l ≡ Whole tag len
-    same true p q = rw (eqb-true t tag p, eqb-true l len q)
-    same false p q = let z : _≡_ {A = ℕ} 0 1 = cc in absurd (omega arith)
-
 is-field : (f : Field) (tag len : ℕ) → f ≡ Whole tag len → isField f tag len ≡ true
 unfolding isField
 is-field f tag len e = rw (e, eq-eqb tag tag refl, eq-eqb len len refl)
@@ -40,7 +30,7 @@ other-field plan at tag len h = go (isField (fieldAt plan at) tag len) refl
   where
     go : (b : Bool) → isField (fieldAt plan at) tag len ≡ b → b ≡ false
     go false e = refl
-    go true e = absurd (h (sym (whole-at plan at tag len (field-is (fieldAt plan at) tag len e) .tag-is)))
+    go true e = absurd (h (sym (whole-at plan at tag len (is-field-true (fieldAt plan at) tag len e) .tag-is)))
 
 -- the members that are counted stand one after another
 next-member : (at size i : ℕ) → at + size + size * i ≡ at + size * suc i
@@ -56,7 +46,7 @@ run-each (suc turns) plan at tag len i h = go (isField (fieldAt plan at) tag len
     go false e i h ih = absurd (omega arith)
     go true e zero h ih =
         let here : at + (3 + len) * 0 ≡ at = omega arith in
-        ap (fieldAt plan) here ∙ field-is (fieldAt plan at) tag len e
+        ap (fieldAt plan) here ∙ is-field-true (fieldAt plan at) tag len e
     go true e (suc i) h ih = ap (fieldAt plan) (sym (next-member at (3 + len) i)) ∙ ih i (omega arith)
 
 -- .. and members that stand one after another, and no more of them, are counted
@@ -101,7 +91,7 @@ module _ {A : Type 0} (kind : Kind A) (plan : List ℕ) (bytes : AreBytes plan) 
       found : isField (fieldAt plan at) headTag headLen ≡ true → drop at plan ≡ head ++ membersBytes (kind .bytes) (membersFrom (kind .read) (3 + kind .size) plan (at + (3 + headLen)) (partFrom plan at headLen (kind .tag) (kind .size) .members)) ++ drop (partFrom plan at headLen (kind .tag) (kind .size) .end) plan
       found h =
           cut-at plan at (3 + headLen)
-          ∙ ap₂ _++_ (stands (field-is (fieldAt plan at) headTag headLen h)) (members-then (run (length plan) plan (at + (3 + headLen)) (kind .tag) (kind .size)) refl)
+          ∙ ap₂ _++_ (stands (is-field-true (fieldAt plan at) headTag headLen h)) (members-then (run (length plan) plan (at + (3 + headLen)) (kind .tag) (kind .size)) refl)
           ∙ sym (append-assoc head _ _)
 
       go : (b : Bool) → isField (fieldAt plan at) headTag headLen ≡ b

@@ -14,7 +14,8 @@ use Rattle.sheet.specs.declared.Sheet.{Sheet}
 use Rattle.judge_layout.specs.Layout.{mosaicPart, sortingPart, flightPart, verdict, layoutVerdict}
 use Rattle.judge_layout.specs.declared.Verdict.{Verdict}
 use Rattle.judge_members.specs.Members.{present, begun}
-use Rattle.judge.specs.Judged.{partAt, sectionFrom, sectionVerdict, sectionsFrom, turnedBack, found, concluded, judgedPlan, judged}
+use Rattle.judge.specs.Judged.{partAt, sectionFrom, sectionVerdict, sectionsFrom, statedFigure, turnedBack, found, concluded, judgedPlan, judged}
+use Rattle.judge.specs.Loops.{section-absent, zero-number, section-here, sections-next, all-right, sheet-right}
 use Rattle.judge.specs.declared.Judged.{Judged}
 
 -- the layout
@@ -61,10 +62,6 @@ module _ (s : Sheet) (plan : List ℕ) where
   unfolding sectionsFrom
   section-right left section e = first-right _ _ _ _ refl refl e
 
-  pub right-section : (left section : ℕ) → sectionVerdict s plan section .number ≡ 0 → sectionsFrom (suc left) s plan section ≡ sectionsFrom left s plan (section + 1)
-  unfolding sectionsFrom
-  right-section left section e = rw (eq-eqb _ _ e, sectionsFrom)
-
   pub sections-right : sectionsFrom 3 s plan 1 .number ≡ 0 → SectionsRight s plan
   sections-right e =
       let p = section-right 2 1 e in
@@ -74,25 +71,19 @@ module _ (s : Sheet) (plan : List ℕ) where
 
   pub right-sections : SectionsRight s plan → sectionsFrom 3 s plan 1 .number ≡ 0
   unfolding sectionsFrom verdict
-  right-sections r = ap (λ v. v .number) (right-section 2 1 (r .mosaic) ∙ right-section 1 2 (r .sorting) ∙ right-section 0 3 (r .flight))
+  right-sections r = ap (λ v. v .number) (sections-next 2 s plan 1 (r .mosaic) ∙ sections-next 1 s plan 2 (r .sorting) ∙ sections-next 0 s plan 3 (r .flight))
 
 -- a section that is present, and one that may be absent
 module _ (s : Sheet) (plan : List ℕ) (section : ℕ) where
   pub present-right : present s section ≡ true → sectionVerdict s plan section .number ≡ 0 → sectionFrom (partAt s plan section .members) s plan section (partAt s plan section) 0 begun .number ≡ 0
-  unfolding sectionVerdict
-  present-right h e = go (present s section) h e
-    where
-      go : (b : Bool) → b ≡ true → cond b (sectionFrom (partAt s plan section .members) s plan section (partAt s plan section) 0 begun) (verdict 0 0) .number ≡ 0 → sectionFrom (partAt s plan section .members) s plan section (partAt s plan section) 0 begun .number ≡ 0
-      go true h e = e
-      go false h e = let z : _≡_ {A = ℕ} 0 1 = cc in absurd (omega arith)
+  present-right h e = ap (λ v. v .number) (section-here s plan section (partAt s plan section) refl h) ∙ e
 
   pub right-present : (present s section ≡ true → sectionFrom (partAt s plan section .members) s plan section (partAt s plan section) 0 begun .number ≡ 0) → sectionVerdict s plan section .number ≡ 0
-  unfolding sectionVerdict verdict
-  right-present h = go (present s section) h
+  right-present h = go (present s section) refl
     where
-      go : (b : Bool) → (b ≡ true → sectionFrom (partAt s plan section .members) s plan section (partAt s plan section) 0 begun .number ≡ 0) → cond b (sectionFrom (partAt s plan section .members) s plan section (partAt s plan section) 0 begun) (verdict 0 0) .number ≡ 0
-      go true h = h refl
-      go false h = refl
+      go : (b : Bool) → present s section ≡ b → sectionVerdict s plan section .number ≡ 0
+      go true p = ap (λ v. v .number) (sym (section-here s plan section (partAt s plan section) refl p)) ∙ h p
+      go false p = ap (λ v. v .number) (section-absent s plan section p) ∙ zero-number 0
 
 -- the answer
 through : (b : Bool) (number place : ℕ) (j : Judged) → eqb number 0 ≡ b → cond b j (turnedBack number place) .number ≡ 0 → (number ≡ 0) × (j .number ≡ 0)
@@ -113,8 +104,9 @@ module _ (s : Sheet) (plan : List ℕ) where
       record { layout = layout-right s plan (p .0); sections = sections-right s plan (q .0) }
 
   right-plan : PlanRight s plan → judgedPlan s plan ≡ found s plan
-  unfolding judgedPlan concluded
-  right-plan r = rw (eq-eqb _ _ (right-layout s plan (r .layout)), eq-eqb _ _ (right-sections s plan (r .sections)))
+  unfolding found
+  right-plan r =
+      sym (all-right s plan (layoutVerdict s plan) refl (right-layout s plan (r .layout)) (sectionsFrom 3 s plan 1) refl (statedFigure s plan 1) (statedFigure s plan 2) (statedFigure s plan 3) (right-sections s plan (r .sections)) refl refl refl)
 
 module _ (sheet plan : List ℕ) where
   pub judged-right : judged sheet plan .number ≡ 0 → (readSheet sheet .number ≡ 0) × PlanRight (readSheet sheet) plan
@@ -124,5 +116,4 @@ module _ (sheet plan : List ℕ) where
       (p .0, plan-right (readSheet sheet) plan (p .1))
 
   pub right-judged : readSheet sheet .number ≡ 0 → PlanRight (readSheet sheet) plan → judged sheet plan ≡ found (readSheet sheet) plan
-  unfolding judged
-  right-judged e r = rw (eq-eqb _ _ e) (right-plan (readSheet sheet) plan r)
+  right-judged e r = sym (sheet-right sheet plan (readSheet sheet) refl (judgedPlan (readSheet sheet) plan) e refl) ∙ right-plan (readSheet sheet) plan r

@@ -26,10 +26,10 @@ use Rattle.judge_flight.specs.Starts.{passesOf}
 use Rattle.judge_flight.specs.Laws.{member-at}
 use Rattle.judge_layout.specs.Layout.{verdict}
 use Rattle.judge_layout.specs.declared.Part.{Part}
-use Rattle.judge_layout.specs.declared.Verdict.{Verdict}
 use Rattle.judge_members.specs.Members.{headBytes, memberBytes, memberPlace, memberFollows, afterBatch, afterStrip, afterMember, headFollows, figureOf, headNumber}
 use Rattle.judge_members.specs.declared.Progress.{Progress}
 use Rattle.judge.specs.Judged.{sectionFrom}
+use Rattle.judge.specs.Loops.{member-next, member-wrong}
 use Rattle.judge_laws.specs.Tests.{true-batch, batch-true, true-job, job-true, true-done, done-true, true-block, block-true, true-head, head-true}
 
 -- what the first member and the others keep
@@ -45,15 +45,6 @@ first-job (SortingRuns.more f r) = (f, r)
 no-job : {s : SortingSection} {d : Desks} → SortingRuns s d [] → AllDone s d
 no-job (SortingRuns.none a) = a
 
--- one more member: the first is judged, then the others
-first-judged : (b : Bool) (x y w : Verdict) → w ≡ elim b [ true ↦ x | false ↦ y ] → (y .number ≡ 0 → ⊥) → w .number ≡ 0 → (b ≡ true) × (x .number ≡ 0)
-first-judged true x y w q h e = (refl, sym (ap (λ v. v .number) q) ∙ e)
-first-judged false x y w q h e = absurd (h (sym (ap (λ v. v .number) q) ∙ e))
-
-judged-first : (b : Bool) (x y w : Verdict) → w ≡ elim b [ true ↦ x | false ↦ y ] → b ≡ true → x .number ≡ 0 → w .number ≡ 0
-judged-first true x y w q h e = ap (λ v. v .number) q ∙ e
-judged-first false x y w q h e = let z : _≡_ {A = ℕ} 0 1 = cc in absurd (omega arith)
-
 broken : (place : ℕ) → verdict ruleBroken place .number ≡ 0 → ⊥
 unfolding verdict
 broken place e = omega arith
@@ -62,14 +53,18 @@ module _ (s : Sheet) (plan : List ℕ) (section : ℕ) (part : Part) where
   member-judged : (n k : ℕ) (st : Progress) → sectionFrom (suc n) s plan section part k st .number ≡ 0
       → (memberFollows s plan section k (memberPlace section (part .head) k) st ≡ true)
       × (sectionFrom n s plan section part (k + 1) (afterMember s plan section (memberPlace section (part .head) k) st) .number ≡ 0)
-  unfolding sectionFrom
-  member-judged n k st e = first-judged _ _ _ _ refl (broken (memberPlace section (part .head) k)) e
+  member-judged n k st e = go (memberFollows s plan section k (memberPlace section (part .head) k) st) refl
+    where
+      go : (b : Bool) → memberFollows s plan section k (memberPlace section (part .head) k) st ≡ b
+          → (memberFollows s plan section k (memberPlace section (part .head) k) st ≡ true)
+          × (sectionFrom n s plan section part (k + 1) (afterMember s plan section (memberPlace section (part .head) k) st) .number ≡ 0)
+      go true p = (p, sym (ap (λ v. v .number) (member-next n s plan section part k st p)) ∙ e)
+      go false p = absurd (broken (memberPlace section (part .head) k) (sym (ap (λ v. v .number) (member-wrong n s plan section part k st p)) ∙ e))
 
   judged-member : (n k : ℕ) (st : Progress) → memberFollows s plan section k (memberPlace section (part .head) k) st ≡ true
       → sectionFrom n s plan section part (k + 1) (afterMember s plan section (memberPlace section (part .head) k) st) .number ≡ 0
       → sectionFrom (suc n) s plan section part k st .number ≡ 0
-  unfolding sectionFrom
-  judged-member n k st h e = judged-first _ _ _ _ refl h e
+  judged-member n k st h e = ap (λ v. v .number) (member-next n s plan section part k st h) ∙ e
 
   head-judged : (k : ℕ) (st : Progress) → sectionFrom 0 s plan section part k st .number ≡ 0
       → (headFollows s plan section part st ≡ true) × (figureFrom plan (part .head) ≡ figureOf s plan section part st)

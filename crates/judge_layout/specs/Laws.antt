@@ -6,7 +6,7 @@ use mathlib.Core.List.{List}
 use native.Mathlib.Nat.{add-mul, one-mul, mul-comm, mul-le-mul-left}
 use native.Mathlib.Numerals.{add-one}
 use native.Mathlib.Omega.{arith}
-use lib.ListN.{length, getD}
+use lib.ListN.{length}
 use lib.Dec.{ltb, eqb}
 use borrow.Author.Tests.{eq-eqb, ne-eqb, eqb-true, not-true, not-false}
 use Rattle.field.specs.Field.{fieldAt}
@@ -14,8 +14,7 @@ use Rattle.field.specs.Fields.{whole-at}
 use Rattle.field.specs.declared.Field.{Field}
 use Rattle.field.specs.declared.Field.the-variants.{End, Cut, Whole}
 use Rattle.sheet.specs.Tags.{planMosaicTag, planBatchTag, planSortingTag, planStripTag, planFlightTag, planBlockTag}
-use Rattle.sheet.specs.Sound.{SortingSound, stripsInAll}
-use Rattle.sheet.specs.declared.SortingSection.{SortingSection}
+use Rattle.sheet.specs.Sound.{stripsInAll}
 use Rattle.sheet.specs.declared.Sheet.{Sheet}
 use Rattle.judge_layout.specs.Layout.{isField, run, partFrom, partOf, mosaicPart, sortingPart, flightPart, verdict, layoutVerdict}
 use Rattle.judge_layout.specs.declared.Part.{Part}
@@ -35,7 +34,8 @@ module _ (r : Bool) (tag len : ℕ) where
   unfolding isField
   field-cut f e = rw e
 
-is-field-true : (f : Field) (tag len : ℕ) → isField f tag len ≡ true → f ≡ Whole tag len
+-- a field that is the one looked for
+pub is-field-true : (f : Field) (tag len : ℕ) → isField f tag len ≡ true → f ≡ Whole tag len
 unfolding isField
 is-field-true End tag len e = let z : _≡_ {A = ℕ} 0 1 = cc in absurd (omega arith)
 is-field-true Cut tag len e = let z : _≡_ {A = ℕ} 0 1 = cc in absurd (omega arith)
@@ -223,10 +223,6 @@ module _ (s : Sheet) (plan : List ℕ) (mosaic sorting flight : Part) (a : Verdi
         unfolding layoutVerdict verdict
         layout-right h = rw (m true (not-false _ hm), o true (not-false _ ho), g true (not-false _ hg), eq-eqb (flightPart s plan .end) (length plan) (sym (ap (λ x. x .end) (a .flight-is)) ∙ h))
 
-pub in-all : (t : SortingSection) → getD (t .counts) 0 0 + getD (t .counts) 1 0 + getD (t .counts) 2 0 ≡ stripsInAll t
-unfolding stripsInAll
-in-all t = refl
-
 pub mosaic-part-is : (s : Sheet) (plan : List ℕ) (r : Part) → r ≡ partOf (ltb 0 (s .mosaic .strips)) plan 0 planMosaicTag 4 planBatchTag 9 → r ≡ mosaicPart s plan
 unfolding mosaicPart
 mosaic-part-is s plan r e = e
@@ -248,9 +244,3 @@ parts-fit s plan =
 
 pub counted-fits : (plan : List ℕ) (end tag len : ℕ) (x : Bool) → x ≡ isField (fieldAt plan end) tag len → x ≡ true → length plan < 2 ^ 64 → end + (3 + len) < 2 ^ 64
 counted-fits plan end tag len x ex h l = let w = field-within plan end tag len (sym ex ∙ h) in omega arith
-
-pub two-fit : (t : SortingSection) → SortingSound t → getD (t .counts) 0 0 + getD (t .counts) 1 0 < 2 ^ 64
-two-fit t s = omega (arith, s .most-strips 0, s .most-strips 1)
-
-pub three-fit : (t : SortingSection) → SortingSound t → getD (t .counts) 0 0 + getD (t .counts) 1 0 + getD (t .counts) 2 0 < 2 ^ 64
-three-fit t s = omega (arith, s .most-strips 0, s .most-strips 1, s .most-strips 2)

@@ -2,7 +2,6 @@
 use field::Field;
 use field::field_at;
 use sheet::Sheet;
-use sheet::SortingSection;
 use sheet::numbers::LAYOUT_WRONG;
 use sheet::tags::PLAN_BATCH;
 use sheet::tags::PLAN_BLOCK;
@@ -10,13 +9,14 @@ use sheet::tags::PLAN_FLIGHT;
 use sheet::tags::PLAN_MOSAIC;
 use sheet::tags::PLAN_SORTING;
 use sheet::tags::PLAN_STRIP;
+use sheet_checks::strips_in_all;
 ghost use mathlib.Core.Path.{_≡_};
 ghost use Prim.Native.Nat.{ℕ, _+_, _*_, _≤_, _<_};
 ghost use lib.ListN.{length};
 ghost use Rattle.field.specs.Field.{fieldAt};
 ghost use Rattle.judge_layout.specs.Layout.{isField, partFrom, partOf, mosaicPart, sortingPart, flightPart, layoutVerdict};
 ghost use Rattle.judge_layout.specs.Laws.{PartAsked, VerdictAsked};
-ghost use Rattle.sheet.specs.Sound.{SortingSound, stripsInAll};
+ghost use Rattle.sheet.specs.Sound.{SortingSound};
 
 // A section of a plan: the place of its head, its members, and the place behind its last one. Where its head is not the one due, it is not right.
 pub struct Part {
@@ -97,15 +97,6 @@ fn part_of(
         };
     }
     part_from(plan, at, head_length, tag, length)
-}
-
-// The strips of all desks.
-pub fn strips_in_all(t: SortingSection) -> usize
-    requires { ⌜ SortingSound t ⌝ }
-    ensures { λ r. ⌜ r ≡ stripsInAll t ⌝ }
-{
-    let counts = t.counts;
-    counts[0] + counts[1] + counts[2]
 }
 
 pub fn mosaic_part(s: Sheet, plan: &[u8]) -> Part

@@ -4,25 +4,23 @@ use mathlib.Core.Path.{_≡_, refl, sym, ap, _∙_}
 use mathlib.Core.Bool.{Bool, true, false, not, cond, _&&_}
 use mathlib.Core.List.{List, _∷_, []}
 use native.Mathlib.Nat.{mul-le-mul-left}
-use native.Mathlib.Decide.{ℕ-discrete}
 use native.Mathlib.Omega.{arith}
 use lib.ListN.{length, getD, set, length-set}
 use lib.Dec.{ltb, leb, eqb}
 use borrow.Author.Tests.{eq-eqb, ne-eqb, eqb-true, ltb-true, leb-true, not-true, not-false}
 use Rattle.field.specs.Branch.{both, check}
-use Rattle.field.specs.Bytes.{numberAt, NumberRead}
-use Rattle.sheet.specs.Limits.{mostStrips, mostDesks, mostStripsOfDesk, mostTime, ceiling}
+use Rattle.field.specs.Bytes.{NumberRead}
+use Rattle.sheet.specs.Limits.{mostStrips, mostDesks, mostStripsOfDesk, ceiling}
 use Rattle.sheet.specs.Refusals.{ruleBroken, figureUntrue}
-use Rattle.sheet.specs.Sound.{SheetSound, SortingSound, stripsInAll}
+use Rattle.sheet.specs.Sound.{SheetSound, stripsInAll}
 use Rattle.sheet.specs.Stores.{set-here, set-there, set-most}
-use Rattle.sheet.specs.declared.SortingSection.{SortingSection}
 use Rattle.sheet.specs.declared.Sheet.{Sheet}
 use Rattle.rules.specs.Mosaic.{noBatch}
-use Rattle.rules.specs.Sorting.{stripsOf, scanEnd, deskFinish, deskTime}
+use Rattle.rules.specs.Sorting.{stripsOf, deskFinish, deskTime}
 use Rattle.rules.specs.Flight.{flightFigure}
 use Rattle.rules.specs.PlanRead.{figureFrom, orderFrom, batchFrom, jobFrom, passesFrom}
 use Rattle.rules.specs.Running.{freeDesks, afterJob}
-use Rattle.rules.specs.FunctionLaws.{TimeTold, SlotAsked}
+use Rattle.rules.specs.FunctionLaws.{TimeTold}
 use Rattle.rules.specs.declared.Batch.{Batch}
 use Rattle.rules.specs.declared.Job.{Job}
 use Rattle.rules.specs.declared.Passes.{Passes}
@@ -251,17 +249,6 @@ module _ (p : Progress) (b : Batch) (a : AfterBatchAsked p b) where
       record { desks = a .kept .desks; most-last = a .most-last; most-figure = omega (arith, most) }
 
 module _ (s : Sheet) (p : Progress) (j : Job) (a : AfterStripAsked s p j) where
-  pub strip-slot : SlotAsked (s .sorting) j
-  strip-slot =
-      let t = a .taken in
-      record { sound = t .asked .sound; least-desk = t .least-desk; most-desk = t .most-desk; least-number = t .least-number; most-number = t .most-number }
-
-  pub strip-taken : JobTaken (s .sorting) (p .desks) j
-  strip-taken = a .taken
-
-  pub strip-finish-fits : (time : ℕ) → TimeTold (deskTime (s .sorting) j) time → j .start + time < 2 ^ 64
-  strip-finish-fits time t = omega (arith, a .taken .asked .fits .start, t .fits)
-
   pub strip-figure-fits : (time : ℕ) → TimeTold (deskTime (s .sorting) j) time → p .figure + (j .start + time) < 2 ^ 64
   strip-figure-fits time t =
       let l = a .kept .most-last in
@@ -370,10 +357,3 @@ module _ (s : Sheet) (plan : List ℕ) (section : ℕ) (part : Part) (p : Progre
       pub head-right : (figure stated : ℕ) → figure ≡ figureOf s plan section part p → NumberRead plan (part .head + 3) 4 stated → stated ≡ figure → 0 ≡ headNumber s plan section part p
       unfolding headNumber check figureFrom
       head-right figure stated ef n h = rw (← ex, not-false x hx, ← n .is, ← ef, eq-eqb _ _ h)
-
-module _ (s : Sheet) (part : Part) (a : HeadAsked s part) where
-  pub flight-asked : starts.HeadAsked (s .flight) (part .head + 15)
-  flight-asked = record { sound = a .sound .flight; room = omega (arith, a .room) }
-
-  pub desks-few : s .sorting .desks ≤ 3
-  desks-few = a .sound .sorting .most-desks

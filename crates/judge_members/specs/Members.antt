@@ -14,7 +14,6 @@ use Rattle.rules.specs.PlanRead.{figureFrom, orderFrom, batchFrom, jobFrom, pas
 use Rattle.rules.specs.Running.{freeDesks, afterJob}
 use Rattle.rules.specs.declared.Batch.{Batch}
 use Rattle.rules.specs.declared.Job.{Job}
-use Rattle.rules.specs.declared.Passes.{Passes}
 use Rattle.judge_rules.specs.Follows.{batchFollows, jobFollows, blockFollows, allDone, flightHead}
 use Rattle.judge_flight.specs.Starts.{passesOf}
 use Rattle.judge_layout.specs.declared.Part.{Part}

@@ -1,10 +1,8 @@
 -- What the tests require of what they are handed: sound sections, and numbers as a plan's fields and earlier members give them.
-use Prim.Native.Nat.{ℕ, _+_, _*_, _^_, _≤_, _<_}
+use Prim.Native.Nat.{ℕ, _^_, _≤_, _<_}
 use mathlib.Core.Path.{_≡_}
-use mathlib.Core.List.{List}
 use lib.ListN.{length, getD}
-use Rattle.order.specs.Order.{Proper}
-use Rattle.sheet.specs.Limits.{mostStrips, mostDesks, mostStripsOfDesk, ceiling}
+use Rattle.sheet.specs.Limits.{mostDesks, mostStripsOfDesk}
 use Rattle.sheet.specs.Sound.{MosaicSound, SortingSound, FlightSound}
 use Rattle.sheet.specs.declared.MosaicSection.{MosaicSection}
 use Rattle.sheet.specs.declared.SortingSection.{SortingSection}

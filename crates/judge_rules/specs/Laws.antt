@@ -1,16 +1,14 @@
 -- Laws of the tests: what they read is what the rules name, their sums fit, and how the loop over the desks decides.
-use Prim.Native.Nat.{ℕ, zero, suc, _+_, _-_, _*_, _^_, _≤_, _<_}
+use Prim.Native.Nat.{ℕ, zero, suc, _+_, _-_, _^_, _≤_, _<_}
 use mathlib.Core.Path.{_≡_, refl, sym, ap, _∙_}
 use mathlib.Core.Bool.{Bool, true, false, not, _&&_}
 use mathlib.Core.List.{List}
 use native.Mathlib.Numerals.{add-one}
 use native.Mathlib.Omega.{arith}
 use lib.ListN.{length, getD, set, List·getD-eq-default}
-use lib.Dec.{ltb, leb, eqb}
+use lib.Dec.{eqb}
 use borrow.Author.Tests.{lt-ltb, le-ltb, eq-eqb, ne-eqb, not-true, not-false, ltb-true, leb-true, eqb-true}
 use Rattle.field.specs.Branch.{both}
-use Rattle.sheet.specs.Limits.{mostTime, mostStrips, mostDesks, mostStripsOfDesk, ceiling}
-use Rattle.sheet.specs.Sound.{MosaicSound, SortingSound, FlightSound}
 use Rattle.sheet.specs.Checks.{stripsOfDesk}
 use Rattle.sheet.specs.declared.MosaicSection.{MosaicSection}
 use Rattle.sheet.specs.declared.SortingSection.{SortingSection}
@@ -53,13 +51,6 @@ module _ (m : MosaicSection) (before b : Batch) (x : Bool) (ex : x ≡ batchInRu
     pub batch-right : (r : Bool) (readyAt bench : ℕ) → ReadyTold (ready m (b .last)) readyAt → BenchTold (benchSum m (before .last) (b .last - before .last)) bench → r ≡ batchInTime readyAt (before .finish) (b .start) (b .finish) (b .start + m .mount + bench) → r ≡ batchFollows m before b
     unfolding batchFollows
     batch-right r readyAt bench t u e = rw (← ex, not-false x h, ← t .is, ← u .is) e
-
-module _ (m : MosaicSection) (b : Batch) (a : BatchAsked m b) where
-  pub mounted-fits : b .start + m .mount < 2 ^ 64
-  mounted-fits = omega (arith, a .fits .start, a .sound .most-mount)
-
-  pub due-fits : (value bench : ℕ) → BenchTold value bench → b .start + m .mount + bench < 2 ^ 64
-  due-fits value bench t = omega (arith, a .fits .start, a .sound .most-mount, t .fits)
 
 -- jobs
 
@@ -109,20 +100,7 @@ module _ (s : SortingSection) (d : Desks) (j : Job) (strips done : ℕ) (es : st
     unfolding jobFollows scanEnd deskFinish
     job-right r free scan time ef t u e = rw (turned, not-false x h, ← ef, ← t .is, ← u .is) e
 
-module _ (s : SortingSection) (d : Desks) (j : Job) (a : JobAsked s d j) where
-  pub scanned-fits : (value scan : ℕ) → TimeTold value scan → j .scan + scan < 2 ^ 64
-  scanned-fits value scan t = omega (arith, a .fits .scan, t .fits)
-
-  pub finish-fits : (value time : ℕ) → TimeTold value time → j .start + time < 2 ^ 64
-  finish-fits value time t = omega (arith, a .fits .start, t .fits)
-
 module _ (s : SortingSection) (d : Desks) (j : Job) (k : JobTaken s d j) where
-  pub taken-slot : SlotAsked s j
-  taken-slot = record { sound = k .asked .sound; least-desk = k .least-desk; most-desk = k .most-desk; least-number = k .least-number; most-number = k .most-number }
-
-  pub taken-index : (i : ℕ) → i ≡ j .desk - 1 → i < 3
-  taken-index i e = let l = k .least-desk in let m = k .most-desk in omega arith
-
   pub after-is : (i scan time : ℕ) → i ≡ j .desk - 1 → TimeTold (scanTime s j) scan → TimeTold (deskTime s j) time → _≡_ {A = Desks} (record { done = set (d .done) i (j .number); free = set (d .free) i (j .start + time); scanner = j .scan + scan }) (afterJob s d j)
   unfolding afterJob scanEnd deskFinish
   after-is i scan time e t u = rw (e, t .is, u .is)

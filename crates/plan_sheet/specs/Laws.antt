@@ -15,7 +15,7 @@ use Rattle.sheet.specs.Refusals.{orderImpossible}
 use Rattle.sheet.specs.declared.Sheet.{Sheet}
 use Rattle.rules.specs.Plan.{refusalBytes, planBytes}
 use Rattle.flight.specs.Choice.{isPossible}
-use Rattle.plan_writer.specs.Laws.{length-refusal}
+use Rattle.plan_fields.specs.FieldLaws.{length-refusal}
 use Rattle.planner.specs.Call.{Called, answer, chosenPlan, answerOf, plannedBytes, sheetAnswer, sheetPlan}
 use Rattle.planner.specs.declared.Answer.{Answer}
 use Rattle.plan_sheet.specs.Reply.{replyBytes, Asked, Replied}

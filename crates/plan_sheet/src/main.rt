@@ -10,7 +10,7 @@ fn reply(sheet: &[u8], out: &mut [u8], table: &mut [u64]) -> usize
     if answer.number == 0 {
         return answer.length;
     }
-    plan_writer::put_refusal(out, answer.number, answer.place as u64);
+    plan_fields::heads::put_refusal(out, answer.number, answer.place as u64);
     9
 }
 

@@ -1,4 +1,5 @@
--- What the writer of plans stores, and the laws of storing it.
-pub mod Stored
+-- What the writer of plans leaves in its buffer, and the laws of it.
+pub mod Written
 pub mod Members
-pub mod Laws
+pub mod SectionLaws
+pub mod PlanLaws

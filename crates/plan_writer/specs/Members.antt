@@ -1,25 +1,18 @@
--- The bytes of the members by their number are the bytes of the lists of crate rules, and how long they are.
-use Prim.Native.Nat.{ℕ, zero, suc, _+_, _*_, _≤_}
+-- The bytes of the members by their number, as they are stored, are the bytes of the lists of crate rules.
+use Prim.Native.Nat.{ℕ, zero, suc}
 use mathlib.Core.Path.{_≡_, refl, sym, ap, _∙_}
 use mathlib.Core.List.{List, [], _∷_, _++_, append-assoc, append-nil}
-use native.Mathlib.Omega.{arith}
-use native.Mathlib.Nat.{mul-suc, mul-zero}
-use lib.ListN.{length, getD, length-append}
-use Rattle.field.specs.Bytes.{bytesOf}
-use Rattle.field.specs.Field.{fieldBytes}
-use Rattle.field.specs.Numbers.{length-bytes}
 use Rattle.rules.specs.Plan.{membersBytes, batchBytes, jobBytes, passesBytes}
-use Rattle.rules.specs.declared.Batch.{Batch}
 use Rattle.rules.specs.declared.Job.{Job}
 use Rattle.rules.specs.declared.Passes.{Passes}
-use Rattle.mosaic.specs.Plan.{batchesIn, batchesOf}
+use Rattle.mosaic.specs.Plan.{batchesOf, batchesIn}
 use Rattle.mosaic.specs.declared.MosaicPlan.{MosaicPlan}
-use Rattle.sorting.specs.Plan.{listed, jobsOfPlan}
+use Rattle.sorting.specs.Plan.{jobsOfPlan, listed}
 use Rattle.sorting.specs.declared.SortingPlan.{SortingPlan}
-use Rattle.flight_order.specs.Timetable.{listOf}
 use Rattle.flight.specs.Choice.{passesOf}
 use Rattle.flight.specs.declared.FlightPlan.{FlightPlan}
-use Rattle.plan_writer.specs.Stored.{batchIn, jobIn, passesIn, membersTo}
+use Rattle.flight_order.specs.Timetable.{listOf}
+use Rattle.plan_fields.specs.Stored.{batchIn, jobIn, passesIn, membersTo}
 
 -- the members of two lists one behind the other
 pub members-append : {A : Type 0} (bytes : A → List ℕ) (xs ys : List A) → membersBytes bytes (xs ++ ys) ≡ membersBytes bytes xs ++ membersBytes bytes ys
@@ -72,26 +65,3 @@ passes-listed (suc n) member =
 pub passes-bytes : (n : ℕ) (p : FlightPlan) → membersBytes passesBytes (passesOf n p) ≡ membersTo passesBytes (passesIn (p .first) (p .second)) n
 unfolding passesOf passesIn
 passes-bytes n p = passes-listed n (passesIn (p .first) (p .second))
-
--- the length of each field
-pub length-batch : (b : Batch) → length (batchBytes b) ≡ 12
-unfolding batchBytes fieldBytes bytesOf
-length-batch b = refl
-
-pub length-job : (j : Job) → length (jobBytes j) ≡ 13
-unfolding jobBytes fieldBytes bytesOf
-length-job j = refl
-
-pub length-passes : (p : Passes) → length (passesBytes p) ≡ 11
-unfolding passesBytes fieldBytes bytesOf
-length-passes p = refl
-
--- members of one size
-pub length-members : {A : Type 0} (bytes : A → List ℕ) (size : ℕ) → ((x : A) → length (bytes x) ≡ size) → (member : ℕ → A) (n : ℕ) → length (membersTo bytes member n) ≡ size * n
-unfolding membersTo
-length-members bytes size each member zero = sym (mul-zero size)
-length-members bytes size each member (suc n) =
-    length-append (membersTo bytes member n) (bytes (member n)) ∙ omega (arith, length-members bytes size each member n, each (member n), more)
-  where
-    more : size * suc n ≡ size * n + size
-    more = mul-suc size n

@@ -34,9 +34,9 @@ use Rattle.flight.specs.Choice.{passesOf, chosenOrder, chosenPasses, isPossible
 use Rattle.flight.specs.Choice as flight
 use Rattle.flight.specs.Theorems.{flight-figure}
 use Rattle.flight.specs.declared.FlightPlan.{FlightPlan}
-use Rattle.plan_writer.specs.Stored.{Written, planOf}
-use Rattle.plan_writer.specs.Stored as writer
-use Rattle.plan_writer.specs.Laws.{mosaic-long, sorting-long, flight-long}
+use Rattle.plan_writer.specs.Written.{Written, planOf}
+use Rattle.plan_writer.specs.Written as writer
+use Rattle.plan_writer.specs.SectionLaws.{mosaic-long, sorting-long, flight-long}
 use Rattle.planner.specs.Call.{chosenPlan, answer, sheetAnswer, sheetPlan, answerOf, plannedBytes, zeros, clearedTo, tableAfter, Called, WithinAsked, Within, PlanAsked, Planned}
 use Rattle.planner.specs.declared.Answer.{Answer}
 

@@ -2,6 +2,7 @@
 use field::byte;
 use field::number;
 use sheet::Reading;
+use sheet::SortingSection;
 use sheet::limits::MOST_BLOCKS;
 use sheet::limits::MOST_BLOCKS_WITHOUT_ORDER;
 use sheet::limits::MOST_STRIPS;
@@ -29,6 +30,7 @@ ghost use mathlib.Core.Path.{_≡_};
 ghost use Prim.Native.Nat.{ℕ, _-_, _≤_};
 ghost use Rattle.sheet.specs.Checks.{endsSection, sectionFilled, fewBlocks, orderGiven, orderPermitted, permitted, lengthDue, stripsOfDesk, hasRoom, orderProper};
 ghost use Rattle.sheet.specs.Read.{contentNumber, fieldNumber, endNumber, placeOf};
+ghost use Rattle.sheet.specs.Sound.{SortingSound, stripsInAll};
 ghost use Rattle.sheet_checks.specs.FieldPre.{FieldPre};
 
 pub fn ends_section(tag: u8) -> bool
@@ -125,6 +127,15 @@ pub fn strips_of_desk(counts: [usize; 3], desk: u64) -> usize
 {
     let d = desk_index(desk);
     if d < 3 { counts[d] } else { 0 }
+}
+
+// The strips of all desks.
+pub fn strips_in_all(t: SortingSection) -> usize
+    requires { ⌜ SortingSound t ⌝ }
+    ensures { λ r. ⌜ r ≡ stripsInAll t ⌝ }
+{
+    let counts = t.counts;
+    counts[0] + counts[1] + counts[2]
 }
 
 fn order_proper(tag: u8, members: usize, order: u64) -> bool

@@ -25,13 +25,6 @@ times-suc : (s : List ℕ) (c k : ℕ) → stationTimesInRange s c (suc k) ≡ (
 unfolding stationTimesInRange
 times-suc s c k = refl
 
-and-false : (a b : Bool) → b ≡ false → (a && b) ≡ false
-and-false true b e = e
-and-false false b e = refl
-
-false-and : (b : Bool) → (false && b) ≡ false
-false-and b = refl
-
 -- one time out of range, and the whole is
 times-fail : (s : List ℕ) (c k d : ℕ) → stationTimesInRange s c k ≡ false → stationTimesInRange s c (k + d) ≡ false
 times-fail s c k zero e = ap (stationTimesInRange s c) (omega arith) ∙ e

@@ -1,5 +1,4 @@
-use mathlib.Core.Path.{ap}
-use Rattle.judge.specs.Loops.{verdict-asked, parts-asked, stated-mosaic, stated-sorting, stated-flight, layout-wrong, section-wrong, all-right, sorting-at, flight-at}
+use Rattle.judge.specs.Loops.{stated-mosaic, stated-sorting, stated-flight, layout-wrong, section-wrong, all-right, sorting-at, flight-at}
 use borrow.Author.Needs.{needs}
 use Rattle.judge.proofs.judge_plan.Statement.{statement}
 use Rattle.judge.proofs.judge_plan.Tie as tie

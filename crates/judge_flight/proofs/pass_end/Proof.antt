@@ -1,4 +1,4 @@
-use Rattle.judge_flight.specs.Laws.{passes-start, passes-pass, end-fits, end-told}
+use Rattle.judge_flight.specs.Laws.{end-told}
 use borrow.Author.Needs.{needs}
 use Rattle.judge_flight.proofs.pass_end.Statement.{statement}
 use Rattle.judge_flight.proofs.pass_end.Tie as tie

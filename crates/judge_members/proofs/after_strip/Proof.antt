@@ -1,4 +1,4 @@
-use Rattle.judge_members.specs.Laws.{strip-slot, strip-taken, strip-finish-fits, strip-figure-fits, after-strip-is}
+use Rattle.judge_members.specs.Laws.{strip-figure-fits, after-strip-is}
 use borrow.Author.Needs.{needs}
 use Rattle.judge_members.proofs.after_strip.Statement.{statement}
 use Rattle.judge_members.proofs.after_strip.Tie as tie

@@ -1,4 +1,4 @@
-use Rattle.judge_members.specs.Laws.{figure-mosaic, figure-sorting, figure-flight, flight-asked}
+use Rattle.judge_members.specs.Laws.{figure-mosaic, figure-sorting, figure-flight}
 use borrow.Author.Needs.{needs}
 use Rattle.judge_members.proofs.figure_of.Statement.{statement}
 use Rattle.judge_members.proofs.figure_of.Tie as tie

@@ -1,4 +1,4 @@
-use Rattle.judge_members.specs.Laws.{head-mosaic, head-sorting, head-flight, flight-asked, desks-few}
+use Rattle.judge_members.specs.Laws.{head-mosaic, head-sorting, head-flight}
 use borrow.Author.Needs.{needs}
 use Rattle.judge_members.proofs.head_follows.Statement.{statement}
 use Rattle.judge_members.proofs.head_follows.Tie as tie

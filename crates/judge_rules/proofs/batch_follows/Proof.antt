@@ -1,4 +1,4 @@
-use Rattle.judge_rules.specs.Laws.{batch-wrong, batch-ready, batch-rises, batch-bench, batch-right, mounted-fits, due-fits}
+use Rattle.judge_rules.specs.Laws.{batch-wrong, batch-ready, batch-rises, batch-bench, batch-right}
 use borrow.Author.Needs.{needs}
 use Rattle.judge_rules.proofs.batch_follows.Statement.{statement}
 use Rattle.judge_rules.proofs.batch_follows.Tie as tie

@@ -1,4 +1,4 @@
-use Rattle.judge_rules.specs.Laws.{done-few, job-wrong, job-slot, job-right, scanned-fits, finish-fits}
+use Rattle.judge_rules.specs.Laws.{done-few, job-wrong, job-slot, job-right}
 use borrow.Author.Needs.{needs}
 use Rattle.judge_rules.proofs.job_follows.Statement.{statement}
 use Rattle.judge_rules.proofs.job_follows.Tie as tie

@@ -1,6 +1,6 @@
 -- `plan_writer::put_flight_blocks` meets its contract: the lists are long enough, and hold the plan's passes.
 use native.Mathlib.Omega.{arith}
-use Rattle.plan_writer.specs.Laws.{blocks-stored}
+use Rattle.plan_writer.specs.SectionLaws.{blocks-stored}
 use borrow.Author.Needs.{needs}
 use Rattle.plan_writer.proofs.put_flight_blocks.Statement.{statement}
 use Rattle.plan_writer.proofs.put_flight_blocks.Tie as tie

@@ -1,6 +1,6 @@
 -- `plan_writer::put_mosaic_batches` meets its contract: the lists are long enough, and hold the plan's batches.
 use native.Mathlib.Omega.{arith}
-use Rattle.plan_writer.specs.Laws.{batches-stored}
+use Rattle.plan_writer.specs.SectionLaws.{batches-stored}
 use borrow.Author.Needs.{needs}
 use Rattle.plan_writer.proofs.put_mosaic_batches.Statement.{statement}
 use Rattle.plan_writer.proofs.put_mosaic_batches.Tie as tie

@@ -1,6 +1,6 @@
 -- `plan_writer::put_sorting_jobs` meets its contract: the lists are long enough, and hold the plan's jobs.
 use native.Mathlib.Omega.{arith}
-use Rattle.plan_writer.specs.Laws.{jobs-stored}
+use Rattle.plan_writer.specs.SectionLaws.{jobs-stored}
 use borrow.Author.Needs.{needs}
 use Rattle.plan_writer.proofs.put_sorting_jobs.Statement.{statement}
 use Rattle.plan_writer.proofs.put_sorting_jobs.Tie as tie

@@ -1,5 +1,5 @@
 -- `plan_writer::write_flight` meets its contract: an absent section stores nothing, a present one its head and its blocks.
-use Rattle.plan_writer.specs.Laws.{flight-absent, flight-written}
+use Rattle.plan_writer.specs.SectionLaws.{flight-absent, flight-written}
 use borrow.Author.Needs.{needs}
 use Rattle.plan_writer.proofs.write_flight.Statement.{statement}
 use Rattle.plan_writer.proofs.write_flight.Tie as tie

@@ -1,5 +1,5 @@
 -- `plan_writer::write_mosaic` meets its contract: an absent section stores nothing, a present one its head and its batches.
-use Rattle.plan_writer.specs.Laws.{mosaic-absent, mosaic-written}
+use Rattle.plan_writer.specs.SectionLaws.{mosaic-absent, mosaic-written}
 use borrow.Author.Needs.{needs}
 use Rattle.plan_writer.proofs.write_mosaic.Statement.{statement}
 use Rattle.plan_writer.proofs.write_mosaic.Tie as tie

@@ -1,5 +1,5 @@
 -- `plan_writer::write_plan` meets its contract: there is room behind each section, and the joined sections are the plan.
-use Rattle.plan_writer.specs.Laws.{sorting-room, flight-room, plan-written}
+use Rattle.plan_writer.specs.PlanLaws.{sorting-room, flight-room, plan-written}
 use borrow.Author.Needs.{needs}
 use Rattle.plan_writer.proofs.write_plan.Statement.{statement}
 use Rattle.plan_writer.proofs.write_plan.Tie as tie

@@ -1,5 +1,5 @@
 -- `plan_writer::write_sorting` meets its contract: an absent section stores nothing, a present one its head and its jobs.
-use Rattle.plan_writer.specs.Laws.{sorting-absent, sorting-written}
+use Rattle.plan_writer.specs.SectionLaws.{sorting-absent, sorting-written}
 use borrow.Author.Needs.{needs}
 use Rattle.plan_writer.proofs.write_sorting.Statement.{statement}
 use Rattle.plan_writer.proofs.write_sorting.Tie as tie

@@ -1,0 +1,99 @@
+/* What the benchmarks share: seeded random numbers, the clock, two functions timed in turns, and medians. */
+#ifndef BENCH_COMMON_H
+#define BENCH_COMMON_H
+
+#include <stdbool.h>
+#include <stddef.h>
+#include <stdint.h>
+#include <stdio.h>
+#include <stdlib.h>
+#include <time.h>
+
+typedef uint64_t u64;
+
+static u64 seed = 1;
+
+/* A random number from low to high. */
+static inline u64 any(u64 low, u64 high) {
+    seed = seed * 6364136223846793005u + 1442695040888963407u;
+    return low + (seed >> 33) % (high - low + 1);
+}
+
+/* Processor time in seconds. */
+static inline double now(void) {
+    struct timespec t;
+    clock_gettime(CLOCK_PROCESS_CPUTIME_ID, &t);
+    return (double)t.tv_sec + (double)t.tv_nsec * 1e-9;
+}
+
+/* One side of a comparison. It keeps its answer in the instance. */
+typedef void work(void *instance);
+
+/* The time of one call, as the mean of some. */
+static inline double time_of(work *f, void *instance, int calls) {
+    double start = now();
+    for (int i = 0; i < calls; i++)
+        f(instance);
+    return (now() - start) / calls;
+}
+
+enum { TURNS = 5, MOST_INSTANCES = 100 };
+
+/* The times of the instances of one family, in seconds of one call, and their ratios. */
+struct times {
+    int count;
+    double ours[MOST_INSTANCES], plain[MOST_INSTANCES], ratio[MOST_INSTANCES];
+};
+
+/* Times both sides on one instance in turns. The least time of each side counts; a short call is repeated for a millisecond. */
+static inline void add_instance(struct times *t, work *ours, work *plain, void *instance) {
+    int calls = (int)(1e-3 / (time_of(plain, instance, 1) + 1e-9)) + 1;
+    double a = 1e9, b = 1e9;
+    for (int turn = 0; turn < TURNS; turn++) {
+        double x = time_of(ours, instance, calls), y = time_of(plain, instance, calls);
+        a = x < a ? x : a;
+        b = y < b ? y : b;
+    }
+    t->ours[t->count] = a;
+    t->plain[t->count] = b;
+    t->ratio[t->count] = a / b;
+    t->count++;
+}
+
+static inline int by_value(const void *a, const void *b) {
+    double x = *(const double *)a, y = *(const double *)b;
+    return (x > y) - (x < y);
+}
+
+/* Sorts the values. */
+static inline double median(double *values, int count) {
+    qsort(values, (size_t)count, sizeof *values, by_value);
+    return values[count / 2];
+}
+
+static inline double greatest(const double *values, int count) {
+    double most = values[0];
+    for (int i = 1; i < count; i++)
+        most = values[i] > most ? values[i] : most;
+    return most;
+}
+
+/* The median times in microseconds, and the ratios. */
+static inline void print_times(struct times *t) {
+    double most = greatest(t->ratio, t->count);
+    printf("%10.2f %10.2f %7.2f %8.2f", median(t->ours, t->count) * 1e6, median(t->plain, t->count) * 1e6, median(t->ratio, t->count), most);
+}
+
+static inline void print_times_head(void) {
+    printf("%10s %10s %7s %8s", "ours us", "C us", "ratio", "greatest");
+}
+
+/* Ends the run where the two sides differ. */
+static inline void require_equal(bool equal, const char *family, int instance) {
+    if (equal)
+        return;
+    printf("%s: instance %d differs\n", family, instance);
+    exit(1);
+}
+
+#endif

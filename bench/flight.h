@@ -1,0 +1,137 @@
+/* The flight planner in plain C: rounds over the constraints of an order, and the recursion over proper orders. */
+#ifndef BENCH_FLIGHT_H
+#define BENCH_FLIGHT_H
+
+#include "common.h"
+
+struct flight {
+    size_t blocks;
+    u64 first[32], delay[32], second[32];
+    bool ordered;
+    u64 order;
+};
+
+/* The starts: of the first pass of block i at i, of its second at blocks + i. */
+struct flight_plan {
+    bool possible;
+    u64 figure, order, starts[64];
+};
+
+struct constraint {
+    size_t from, to;
+    u64 up, down;
+};
+
+static inline size_t pass_of(size_t n, u64 order, size_t k) {
+    u64 low = k < 64 ? order & (((u64)1 << k) - 1) : order;
+    size_t seconds = (size_t)__builtin_popcountll(low);
+    return (order >> k) % 2 == 1 ? n + seconds : k - seconds;
+}
+
+static inline size_t write_constraints(const struct flight *f, u64 order, struct constraint *c) {
+    size_t n = f->blocks, m = 0;
+    for (size_t i = 0; i < n; i++)
+        c[m++] = (struct constraint){i, n + i, f->first[i] + f->delay[i], 0};
+    for (size_t i = 0; i < n; i++)
+        c[m++] = (struct constraint){n + i, i, 0, f->first[i] + f->delay[i]};
+    for (size_t j = 0; j + 1 < 2 * n; j++) {
+        size_t p = pass_of(n, order, j), q = pass_of(n, order, j + 1);
+        c[m++] = (struct constraint){p, q, p < n ? f->first[p] : f->second[p - n], 0};
+    }
+    return m;
+}
+
+/* The least starts of an order, or false where no timetable keeps it. */
+static inline bool least_starts(const struct flight *f, u64 order, u64 *starts) {
+    struct constraint c[127];
+    size_t n = f->blocks, m = write_constraints(f, order, c);
+    for (size_t j = 0; j < 2 * n; j++)
+        starts[j] = 0;
+    for (size_t r = 0; r < 2 * n; r++) {
+        bool held = true;
+        for (size_t k = 0; k < m; k++) {
+            u64 wanted = starts[c[k].from] + c[k].up;
+            if (starts[c[k].to] + c[k].down < wanted) {
+                starts[c[k].to] = wanted - c[k].down;
+                held = false;
+            }
+        }
+        if (held)
+            return true;
+    }
+    return false;
+}
+
+/* Tries the orders that begin with x and have `left` passes more. The first of the best is kept. */
+static inline void search_orders(const struct flight *f, size_t left, u64 x, u64 *starts, struct flight_plan *best) {
+    size_t n = f->blocks;
+    if (left == 0) {
+        if (least_starts(f, x, starts)) {
+            u64 figure = starts[2 * n - 1] + f->second[n - 1];
+            if (!best->possible || figure < best->figure) {
+                best->possible = true;
+                best->figure = figure;
+                best->order = x;
+            }
+        }
+        return;
+    }
+    size_t at = 2 * n - left, seconds = (size_t)__builtin_popcountll(x), firsts = at - seconds;
+    if (firsts < n)
+        search_orders(f, left - 1, x, starts, best);
+    if (seconds < firsts)
+        search_orders(f, left - 1, x | (u64)1 << at, starts, best);
+}
+
+/* The plan of at least one block. */
+static inline struct flight_plan flight_in_c(const struct flight *f) {
+    struct flight_plan plan = {.order = f->order};
+    size_t n = f->blocks;
+    if (!f->ordered)
+        search_orders(f, 2 * n, 0, plan.starts, &plan);
+    plan.possible = least_starts(f, plan.order, plan.starts);
+    plan.figure = plan.starts[2 * n - 1] + f->second[n - 1];
+    return plan;
+}
+
+static inline u64 random_order(size_t n) {
+    u64 x = 0;
+    size_t firsts = 0, seconds = 0;
+    for (size_t k = 0; k < 2 * n; k++) {
+        if (seconds < firsts && (firsts == n || any(0, 1))) {
+            x |= (u64)1 << k;
+            seconds++;
+        } else {
+            firsts++;
+        }
+    }
+    return x;
+}
+
+/* 8 blocks without an order: random, such that many orders are impossible, all equal. 32 with one: each block by itself, random orders (most of
+   them impossible), all first passes first. */
+enum flight_family { FREE_RANDOM, FREE_MANY_IMPOSSIBLE, FREE_EQUAL, ONE_BY_ONE, RANDOM_ORDER, FIRSTS_FIRST };
+
+/* The limits of a family: passes and delays. */
+static const struct { u64 pass_low, pass_high, delay_low, delay_high; } flight_times[] = {
+    {1, 100, 0, 300}, {50, 100, 0, 60}, {5, 5, 20, 20}, {1, 100, 0, 10000}, {1, 100, 0, 300}, {10, 10, 320, 320},
+};
+
+static inline struct flight random_flight(enum flight_family family) {
+    struct flight f = {.ordered = family >= ONE_BY_ONE};
+    f.blocks = f.ordered ? 32 : 8;
+    for (size_t i = 0; i < f.blocks; i++) {
+        f.first[i] = any(flight_times[family].pass_low, flight_times[family].pass_high);
+        f.second[i] = any(flight_times[family].pass_low, flight_times[family].pass_high);
+        f.delay[i] = any(flight_times[family].delay_low, flight_times[family].delay_high);
+    }
+    if (family == ONE_BY_ONE)
+        f.order = 0xAAAAAAAAAAAAAAAAu;
+    if (family == RANDOM_ORDER)
+        f.order = random_order(f.blocks);
+    if (family == FIRSTS_FIRST)
+        f.order = 0xFFFFFFFF00000000u;
+    return f;
+}
+
+#endif

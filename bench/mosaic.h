@@ -1,0 +1,103 @@
+/* The mosaic planner in plain C: ready times, bench sums, one row of least figures, and the figures that begin with a batch that waits. */
+#ifndef BENCH_MOSAIC_H
+#define BENCH_MOSAIC_H
+
+#include "common.h"
+
+/* Station k of strip j, both from 0, stands at 4 j + k. */
+struct mosaic {
+    size_t stations, strips;
+    u64 mount, station[160], bench[40];
+};
+
+struct mosaic_plan {
+    u64 figure;
+    size_t batches;
+    u64 last[40], start[40], finish[40];
+};
+
+/* A batch that is taken: its last strip, and the least figure from its first strip on. */
+struct choice {
+    size_t last;
+    u64 figure;
+};
+
+static inline u64 candidate(const u64 *ready, const u64 *sums, const u64 *late, const u64 *row, u64 mount, u64 free, size_t i, size_t q) {
+    if (ready[q - 1] <= free)
+        return (u64)(q - i) * (free + mount + (sums[q] - sums[i])) + row[q];
+    return late[41 * i + q];
+}
+
+static inline struct choice choose_batch(const u64 *ready, const u64 *sums, const u64 *late, const u64 *row, u64 mount, size_t n, u64 free, size_t i) {
+    struct choice best = {n, candidate(ready, sums, late, row, mount, free, i, n)};
+    for (size_t q = n; i + 1 < q;) {
+        q--;
+        u64 figure = candidate(ready, sums, late, row, mount, free, i, q);
+        if (figure < best.figure)
+            best = (struct choice){q, figure};
+    }
+    return best;
+}
+
+static inline void fill_block(const u64 *ready, const u64 *sums, const u64 *late, u64 *row, u64 mount, size_t n, u64 begin, size_t i, size_t low) {
+    u64 at = begin + (u64)(n - low) * mount;
+    row[n] = 0;
+    for (size_t p = n; low < p;) {
+        p--;
+        at -= mount;
+        for (size_t k = p; k < n; k++)
+            row[k] = choose_batch(ready, sums, late, row, mount, n, at + (sums[k] - sums[i]), k).figure;
+    }
+}
+
+static inline void read_times(const struct mosaic *m, u64 *ready, u64 *sums) {
+    u64 sum[4] = {0};
+    for (size_t j = 0; j < m->strips; j++) {
+        for (size_t k = 0; k < m->stations; k++) {
+            sum[k] += m->station[4 * j + k];
+            if (ready[j] < sum[k])
+                ready[j] = sum[k];
+        }
+        sums[j + 1] = sums[j] + m->bench[j];
+    }
+}
+
+static inline struct mosaic_plan mosaic_in_c(const struct mosaic *m) {
+    u64 ready[40] = {0}, sums[41] = {0}, late[1640] = {0}, row[41] = {0}, mount = m->mount, free = 0;
+    size_t n = m->strips;
+    struct mosaic_plan plan = {0};
+    read_times(m, ready, sums);
+    for (size_t i = n; 0 < i;) {
+        i--;
+        for (size_t q = i + 1; q <= n; q++) {
+            u64 begin = ready[q - 1] + mount;
+            fill_block(ready, sums, late, row, mount, n, begin, i, q);
+            late[41 * i + q] = (u64)(q - i) * (begin + (sums[q] - sums[i])) + row[q];
+        }
+    }
+    for (size_t i = 0; i < n;) {
+        fill_block(ready, sums, late, row, mount, n, free + mount, i, i + 1);
+        size_t q = choose_batch(ready, sums, late, row, mount, n, free, i).last;
+        u64 start = free < ready[q - 1] ? ready[q - 1] : free;
+        free = start + mount + (sums[q] - sums[i]);
+        plan.last[plan.batches] = q;
+        plan.start[plan.batches] = start;
+        plan.finish[plan.batches++] = free;
+        plan.figure += (u64)(q - i) * free;
+        i = q;
+    }
+    return plan;
+}
+
+/* Random times up to `high`, from `low` on where 0 is not asked for. */
+static inline struct mosaic random_mosaic(size_t stations, size_t strips, u64 low, u64 high) {
+    struct mosaic m = {.stations = stations, .strips = strips, .mount = any(low, high)};
+    for (size_t j = 0; j < strips; j++) {
+        for (size_t k = 0; k < stations; k++)
+            m.station[4 * j + k] = any(low, high);
+        m.bench[j] = any(low < 1 ? 1 : low, high);
+    }
+    return m;
+}
+
+#endif

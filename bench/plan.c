@@ -1,0 +1,166 @@
+/* Times the whole call, sevulamon_plan, against plain C that does the same work on the same bytes: full sheets (40 strips, 6 + 6 + 6 strips, 8 free
+   blocks or 32 with an order), a small sheet, and sheets that are refused. Both must give the same answer and leave the same bytes in the buffer.
+   rt staticlib viewer && gcc -O2 -Wall -Wextra -Werror -Iinclude -o target/bench_plan bench/plan.c target/staticlib/libviewer.a && target/bench_plan */
+#include "plan.h"
+#include <string.h>
+
+enum { SHEETS = 21, ORDER_FIELD = 11 };
+
+/* The targets of an accepted full sheet: its time by that of the C, and by that of plain enumeration of its sorting section alone. */
+static const double target_ratio = 2.0, target_part = 0.05;
+
+/* How a full sheet with an order is spoiled, if it is. */
+enum change { NONE, ONE_MEMBER_EACH, EMPTY, CUT, EARLY_RANGE, LATE_RANGE, NOT_PROPER, NO_ORDER, SMALL_BUFFER };
+
+struct family {
+    const char *name;
+    u64 number;
+    enum change change;
+    u64 mosaic_low, mosaic_high;
+    enum sorting_family sorting;
+    enum flight_family flight;
+};
+
+static const struct family families[] = {
+    {"random, 8 free blocks", 0, NONE, 0, 10000, RANDOM, FREE_RANDOM},
+    {"random, 32 blocks in order", 0, NONE, 0, 10000, RANDOM, ONE_BY_ONE},
+    {"random small times", 0, NONE, 0, 10, RANDOM_SMALL, FREE_RANDOM},
+    {"all times equal", 0, NONE, 100, 100, EQUAL, FREE_EQUAL},
+    {"scan-heavy", 0, NONE, 0, 10000, SCAN_HEAVY, FREE_RANDOM},
+    {"desk-heavy", 0, NONE, 0, 10000, DESK_HEAVY, FREE_RANDOM},
+    {"three identical desks", 0, NONE, 0, 10000, IDENTICAL_DESKS, FREE_RANDOM},
+    {"many impossible free orders", 0, NONE, 0, 10000, RANDOM, FREE_MANY_IMPOSSIBLE},
+    {"32 blocks, first passes first", 0, NONE, 0, 10000, RANDOM, FIRSTS_FIRST},
+    {"one member in each section", 0, ONE_MEMBER_EACH, 0, 10000, RANDOM, FREE_RANDOM},
+    {"2: buffer too small", SEVULAMON_BUFFER_TOO_SMALL, SMALL_BUFFER, 0, 10000, RANDOM, ONE_BY_ONE},
+    {"3: last field cut", SEVULAMON_FIELD_CUT, CUT, 0, 10000, RANDOM, ONE_BY_ONE},
+    {"6: first time out of range", SEVULAMON_OUT_OF_RANGE, EARLY_RANGE, 0, 10000, RANDOM, ONE_BY_ONE},
+    {"6: last time out of range", SEVULAMON_OUT_OF_RANGE, LATE_RANGE, 0, 10000, RANDOM, ONE_BY_ONE},
+    {"8: empty sheet", SEVULAMON_NO_MEMBERS, EMPTY, 0, 10000, RANDOM, ONE_BY_ONE},
+    {"9: order not proper", SEVULAMON_ORDER_NOT_PROPER, NOT_PROPER, 0, 10000, RANDOM, ONE_BY_ONE},
+    {"10: 32 blocks, no order", SEVULAMON_ORDER_MISSING, NO_ORDER, 0, 10000, RANDOM, ONE_BY_ONE},
+    {"11: impossible order", SEVULAMON_ORDER_IMPOSSIBLE, NONE, 0, 10000, RANDOM, RANDOM_ORDER},
+};
+
+struct call {
+    struct sheet sections;
+    uint8_t sheet[1024];
+    size_t length, plan_length;
+    struct sevulamon_answer ours, plain;
+    uint8_t ours_plan[SEVULAMON_PLAN_LENGTH], plain_plan[SEVULAMON_PLAN_LENGTH];
+    struct incumbent best;
+};
+
+/* The bytes of the sections. Each of these writes at d and returns where it ended. */
+
+static uint8_t *put_mosaic(uint8_t *d, const struct mosaic *m) {
+    d = put(put(put_head(d, MOSAIC_HEAD, 3), 1, m->stations), 2, m->mount);
+    for (size_t j = 0; j < m->strips; j++) {
+        d = put_head(d, MOSAIC_STRIP, 2 * m->stations + 2);
+        for (size_t k = 0; k < m->stations; k++)
+            d = put(d, 2, m->station[4 * j + k]);
+        d = put(d, 2, m->bench[j]);
+    }
+    return d;
+}
+
+static uint8_t *put_sorting(uint8_t *d, const struct sorting *s) {
+    d = put(put_head(d, SORTING_HEAD, 1), 1, s->desks);
+    for (size_t i = 0; i < 18; i++)
+        if (i % 6 < s->counts[i / 6])
+            d = put(put(put(put_head(d, SORTING_STRIP, 5), 1, i / 6 + 1), 2, s->scan[i]), 2, s->desk[i]);
+    return d;
+}
+
+static uint8_t *put_flight(uint8_t *d, const struct flight *f) {
+    d = put_head(d, FLIGHT_HEAD, 0);
+    for (size_t i = 0; i < f->blocks; i++)
+        d = put(put(put(put_head(d, FLIGHT_BLOCK, 6), 2, f->first[i]), 2, f->delay[i]), 2, f->second[i]);
+    return f->ordered ? put(put_head(d, FLIGHT_ORDER, 8), 8, f->order) : d;
+}
+
+static void change_sections(struct sheet *s, enum change change) {
+    if (change == ONE_MEMBER_EACH) {
+        s->mosaic.strips = s->sorting.counts[0] = s->flight.blocks = 1;
+        s->sorting.counts[1] = s->sorting.counts[2] = 0;
+    }
+}
+
+static void change_bytes(struct call *x, enum change change) {
+    uint8_t *order = x->sheet + x->length - ORDER_FIELD;
+    switch (change) {
+    case EMPTY: x->length = 0; break;
+    case CUT: x->length--; break;
+    case EARLY_RANGE: put(x->sheet + 9, 2, MOST_TIME + 1); break;
+    case LATE_RANGE: put(order - 2, 2, MOST_TIME + 1); break;
+    case NOT_PROPER: put(order + 3, 8, 3); break;
+    case NO_ORDER: x->length -= ORDER_FIELD; break;
+    case SMALL_BUFFER: x->plan_length--; break;
+    default: break;
+    }
+}
+
+static void make_call(struct call *x, const struct family *f) {
+    struct sheet *s = &x->sections;
+    s->mosaic = random_mosaic(4, 40, f->mosaic_low, f->mosaic_high);
+    s->sorting = random_sorting(f->sorting);
+    s->flight = random_flight(f->flight);
+    change_sections(s, f->change);
+    x->length = (size_t)(put_flight(put_sorting(put_mosaic(x->sheet, &s->mosaic), &s->sorting), &s->flight) - x->sheet);
+    x->plan_length = SEVULAMON_PLAN_LENGTH;
+    change_bytes(x, f->change);
+    memset(x->ours_plan, 0xCC, sizeof x->ours_plan);
+    memset(x->plain_plan, 0xCC, sizeof x->plain_plan);
+}
+
+static void ours(void *p) {
+    struct call *x = p;
+    x->ours = sevulamon_plan(x->sheet, x->length, x->ours_plan, x->plan_length);
+}
+
+static void plain(void *p) {
+    struct call *x = p;
+    x->plain = plan_in_c(x->sheet, x->length, x->plain_plan, x->plan_length);
+}
+
+static void enumeration(void *p) {
+    struct call *x = p;
+    u64 jobs[JOBS];
+    jobs_of(&x->sections.sorting, jobs);
+    x->best = enumerate_in_c(jobs).best;
+}
+
+static bool equal(const struct call *x) {
+    const struct sevulamon_answer *a = &x->ours, *b = &x->plain;
+    return a->number == b->number && a->place == b->place && a->length == b->length && memcmp(x->ours_plan, x->plain_plan, sizeof x->ours_plan) == 0;
+}
+
+/* One line of the table. Plain enumeration comes to the same nodes on every full sheet: one sheet of a family is enough. */
+static void measure(const struct family *f) {
+    static struct call x;
+    struct times t = {0};
+    for (int i = 0; i < SHEETS; i++) {
+        make_call(&x, f);
+        ours(&x);
+        plain(&x);
+        require_equal(equal(&x) && x.ours.number == f->number, f->name, i);
+        add_instance(&t, ours, plain, &x);
+    }
+    printf("%-30s %6d ", f->name, SHEETS);
+    print_times(&t);
+    if (f->number == 0 && f->change == NONE)
+        printf(" %6.2f | %8.5f %6.2f\n", target_ratio, median(t.ours, t.count) / time_of(enumeration, &x, 1), target_part);
+    else
+        printf(" %6s | %8s %6s\n", "-", "-", "-");
+    fflush(stdout);
+}
+
+int main(void) {
+    printf("ratio: to C that does the same work. part: of the time of plain enumeration, in C, of the sorting section alone.\n");
+    printf("%-30s %6s ", "family", "sheets");
+    print_times_head();
+    printf(" %6s | %8s %6s\n", "target", "part", "target");
+    for (size_t i = 0; i < sizeof families / sizeof families[0]; i++)
+        measure(&families[i]);
+    return 0;
+}

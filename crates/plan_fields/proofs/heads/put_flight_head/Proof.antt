@@ -1,0 +1,38 @@
+-- `plan_fields::heads::put_flight_head` meets its contract: the head's field.
+use Rattle.plan_fields.specs.FieldLaws.{flight-head-stored}
+use borrow.Author.Needs.{needs}
+use Rattle.plan_fields.proofs.heads.put_flight_head.Statement.{statement}
+use Rattle.plan_fields.proofs.heads.put_flight_head.Tie as tie
+
+put-head-requires : tie.Need-put-head-requires
+put-head-requires c κs = search needs
+
+add-put-number : tie.Need-add-put-number
+add-put-number c = search needs
+
+put-number-requires : tie.Need-put-number-requires
+put-number-requires c κs = search needs
+
+add-put-number-2 : tie.Need-add-put-number-2
+add-put-number-2 c = search needs
+
+put-number-requires-2 : tie.Need-put-number-requires-2
+put-number-requires-2 c κs = search needs
+
+same-length : tie.Need-same-length
+same-length c = search needs
+
+returns : tie.Need-returns
+returns c = search flight-head-stored
+
+pub put-flight-head-spec : {M : Type 1} → statement M
+put-flight-head-spec =
+    tie.close
+    (tie.spec
+    put-head-requires
+    add-put-number
+    put-number-requires
+    add-put-number-2
+    put-number-requires-2
+    same-length
+    returns)

@@ -1,0 +1,107 @@
+-- The loops over members: the first i are stored, each right behind the one before, since all of a kind are of one size.
+use Prim.Native.Nat.{ℕ, zero, suc, _+_, _*_, _≤_, _<_}
+use mathlib.Core.Path.{_≡_, refl, sym, ap, _∙_}
+use mathlib.Core.List.{List, _++_}
+use lib.ListN.{length, getD, length-append}
+use Rattle.field.specs.Bytes.{bytesOf}
+use Rattle.field.specs.Field.{fieldBytes}
+use Rattle.field.specs.Put.{put, put-none, length-put}
+use Rattle.rules.specs.Plan.{batchBytes, jobBytes, passesBytes}
+use Rattle.rules.specs.declared.Batch.{Batch}
+use Rattle.rules.specs.declared.Job.{Job}
+use Rattle.rules.specs.declared.Passes.{Passes}
+use native.Mathlib.Omega.{arith}
+use native.Mathlib.Numerals.{add-one}
+use native.Mathlib.Nat.{mul-suc, mul-zero}
+use Rattle.plan_fields.specs.Stored.{batch, job, passes, batchIn, jobIn, passesIn, membersTo}
+use Rattle.plan_fields.specs.FieldLaws.{joined}
+
+-- the length of each field
+pub length-batch : (b : Batch) → length (batchBytes b) ≡ 12
+unfolding batchBytes fieldBytes bytesOf
+length-batch b = refl
+
+pub length-job : (j : Job) → length (jobBytes j) ≡ 13
+unfolding jobBytes fieldBytes bytesOf
+length-job j = refl
+
+pub length-passes : (p : Passes) → length (passesBytes p) ≡ 11
+unfolding passesBytes fieldBytes bytesOf
+length-passes p = refl
+
+-- members of one size
+pub length-members : {A : Type 0} (bytes : A → List ℕ) (size : ℕ) → ((x : A) → length (bytes x) ≡ size) → (member : ℕ → A) (n : ℕ) → length (membersTo bytes member n) ≡ size * n
+unfolding membersTo
+length-members bytes size each member zero = sym (mul-zero size)
+length-members bytes size each member (suc n) =
+    length-append (membersTo bytes member n) (bytes (member n)) ∙ omega (arith, length-members bytes size each member n, each (member n), more)
+  where
+    more : size * suc n ≡ size * n + size
+    more = mul-suc size n
+
+-- The loops: the first i members are stored.
+pub record Storing {A : Type 0} (bytes : A → List ℕ) (member : ℕ → A) (before after : List ℕ) (at n i : ℕ) : Type 0 where
+  pub within : i ≤ n
+  pub long : length after ≡ length before
+  pub stored : after ≡ put before at (membersTo bytes member i)
+
+module _ {A : Type 0} (bytes : A → List ℕ) (member : ℕ → A) where
+  storing-none : (d : List ℕ) (at n : ℕ) → Storing bytes member d d at n 0
+  unfolding membersTo
+  storing-none d at n = record { within = omega arith; long = refl; stored = put-none d at }
+
+  members-next : (n : ℕ) → membersTo bytes member n ++ bytes (member n) ≡ membersTo bytes member (n + 1)
+  unfolding membersTo
+  members-next n = rw (add-one n)
+
+  storing-more : (size : ℕ) → ((x : A) → length (bytes x) ≡ size) → (d₀ d d₁ : List ℕ) (at n i : ℕ) → Storing bytes member d₀ d at n i → i < n → d₁ ≡ put d (at + size * i) (bytes (member i)) → Storing bytes member d₀ d₁ at n (i + 1)
+  storing-more size each d₀ d d₁ at n i s l e =
+      record {
+        within = omega arith;
+        long = ap length e ∙ length-put d (at + size * i) (bytes (member i)) ∙ s .long;
+        stored =
+            joined d₀ d d₁ at (at + size * i) (membersTo bytes member i) (bytes (member i)) (s .stored) e (omega (arith, length-members bytes size each member i))
+            ∙ ap (put d₀ at) (members-next i);
+      }
+
+  storing-all : (d₀ d : List ℕ) (at n i : ℕ) → Storing bytes member d₀ d at n i → n ≤ i → d ≡ put d₀ at (membersTo bytes member n)
+  storing-all d₀ d at n i s h = s .stored ∙ ap (λ (k : ℕ). put d₀ at (membersTo bytes member k)) all
+    where
+      all : i ≡ n
+      all = let w = s .within in omega arith
+
+module _ (last start finish : List ℕ) (d₀ : List ℕ) (at n : ℕ) where
+  pub batches-none : Storing batchBytes (batchIn last start finish) d₀ d₀ at n 0
+  batches-none = storing-none batchBytes (batchIn last start finish) d₀ at n
+
+  pub batches-more : (d d₁ : List ℕ) (i : ℕ) → Storing batchBytes (batchIn last start finish) d₀ d at n i → i < n
+      → d₁ ≡ put d (at + 12 * i) (batchBytes (batch (getD last i 0) (getD start i 0) (getD finish i 0))) → Storing batchBytes (batchIn last start finish) d₀ d₁ at n (i + 1)
+  unfolding batchIn
+  batches-more d d₁ i s l e = storing-more batchBytes (batchIn last start finish) 12 length-batch d₀ d d₁ at n i s l e
+
+  pub batches-all : (d : List ℕ) (i : ℕ) → Storing batchBytes (batchIn last start finish) d₀ d at n i → n ≤ i → d ≡ put d₀ at (membersTo batchBytes (batchIn last start finish) n)
+  batches-all d i s l = storing-all batchBytes (batchIn last start finish) d₀ d at n i s l
+
+module _ (desk number scan start : List ℕ) (d₀ : List ℕ) (at n : ℕ) where
+  pub jobs-none : Storing jobBytes (jobIn desk number scan start) d₀ d₀ at n 0
+  jobs-none = storing-none jobBytes (jobIn desk number scan start) d₀ at n
+
+  pub jobs-more : (d d₁ : List ℕ) (i : ℕ) → Storing jobBytes (jobIn desk number scan start) d₀ d at n i → i < n
+      → d₁ ≡ put d (at + 13 * i) (jobBytes (job (getD desk i 0) (getD number i 0) (getD scan i 0) (getD start i 0))) → Storing jobBytes (jobIn desk number scan start) d₀ d₁ at n (i + 1)
+  unfolding jobIn
+  jobs-more d d₁ i s l e = storing-more jobBytes (jobIn desk number scan start) 13 length-job d₀ d d₁ at n i s l e
+
+  pub jobs-all : (d : List ℕ) (i : ℕ) → Storing jobBytes (jobIn desk number scan start) d₀ d at n i → n ≤ i → d ≡ put d₀ at (membersTo jobBytes (jobIn desk number scan start) n)
+  jobs-all d i s l = storing-all jobBytes (jobIn desk number scan start) d₀ d at n i s l
+
+module _ (first second : List ℕ) (d₀ : List ℕ) (at n : ℕ) where
+  pub blocks-none : Storing passesBytes (passesIn first second) d₀ d₀ at n 0
+  blocks-none = storing-none passesBytes (passesIn first second) d₀ at n
+
+  pub blocks-more : (d d₁ : List ℕ) (i : ℕ) → Storing passesBytes (passesIn first second) d₀ d at n i → i < n
+      → d₁ ≡ put d (at + 11 * i) (passesBytes (passes (getD first i 0) (getD second i 0))) → Storing passesBytes (passesIn first second) d₀ d₁ at n (i + 1)
+  unfolding passesIn
+  blocks-more d d₁ i s l e = storing-more passesBytes (passesIn first second) 11 length-passes d₀ d d₁ at n i s l e
+
+  pub blocks-all : (d : List ℕ) (i : ℕ) → Storing passesBytes (passesIn first second) d₀ d at n i → n ≤ i → d ≡ put d₀ at (membersTo passesBytes (passesIn first second) n)
+  blocks-all d i s l = storing-all passesBytes (passesIn first second) d₀ d at n i s l

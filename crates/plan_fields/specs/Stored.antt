@@ -1,0 +1,68 @@
+-- What each function stores, and what it asks. The layout itself is that of crate rules (specs/Plan.antt).
+use Prim.Native.Nat.{ℕ, zero, suc, _+_, _*_, _≤_}
+use mathlib.Core.List.{List, [], _∷_, _++_}
+use lib.ListN.{length, getD}
+use Rattle.field.specs.Bytes.{bytesOf}
+use Rattle.field.specs.Field.{fieldBytes}
+use Rattle.sheet.specs.Tags.{planStripTag, planFlightTag}
+use Rattle.rules.specs.declared.Batch.{Batch}
+use Rattle.rules.specs.declared.Job.{Job}
+use Rattle.rules.specs.declared.Passes.{Passes}
+
+-- tag and content length of a field
+unfoldable pub headBytes : ℕ → ℕ → List ℕ
+headBytes tag size = tag ∷ bytesOf 2 size
+
+-- a job's field as far as its number within the desk
+unfoldable pub stripBytes : ℕ → ℕ → List ℕ
+stripBytes desk number = headBytes planStripTag 10 ++ bytesOf 1 desk ++ bytesOf 1 number
+
+-- the heads of the sections
+unfoldable pub figureBytes : ℕ → ℕ → List ℕ
+figureBytes tag figure = fieldBytes tag (bytesOf 4 figure)
+
+unfoldable pub flightHeadBytes : ℕ → ℕ → List ℕ
+flightHeadBytes figure order = fieldBytes planFlightTag (bytesOf 4 figure ++ bytesOf 8 order)
+
+abbrev pub batch : ℕ → ℕ → ℕ → Batch
+batch last start finish = record { last = last; start = start; finish = finish }
+
+abbrev pub job : ℕ → ℕ → ℕ → ℕ → Job
+job desk number scan start = record { desk = desk; number = number; scan = scan; start = start }
+
+abbrev pub passes : ℕ → ℕ → Passes
+passes first second = record { first = first; second = second }
+
+-- member i, from 0, of the lists of a plan
+unfoldable pub batchIn : List ℕ → List ℕ → List ℕ → ℕ → Batch
+batchIn last start finish i = batch (getD last i 0) (getD start i 0) (getD finish i 0)
+
+unfoldable pub jobIn : List ℕ → List ℕ → List ℕ → List ℕ → ℕ → Job
+jobIn desk number scan start i = job (getD desk i 0) (getD number i 0) (getD scan i 0) (getD start i 0)
+
+unfoldable pub passesIn : List ℕ → List ℕ → ℕ → Passes
+passesIn first second i = passes (getD first i 0) (getD second i 0)
+
+-- the bytes of the first n members
+unfoldable pub membersTo : {A : Type 0} → (A → List ℕ) → (ℕ → A) → ℕ → List ℕ
+membersTo bytes member zero = []
+membersTo bytes member (suc n) = membersTo bytes member n ++ bytes (member n)
+
+-- n members in the lists, and room for their fields
+pub record BatchLists (d : List ℕ) (at : ℕ) (last start finish : List ℕ) (n : ℕ) : Type 0 where
+  pub last-long : n ≤ length last
+  pub start-long : n ≤ length start
+  pub finish-long : n ≤ length finish
+  pub room : at + 12 * n ≤ length d
+
+pub record JobLists (d : List ℕ) (at : ℕ) (desk number scan start : List ℕ) (n : ℕ) : Type 0 where
+  pub desk-long : n ≤ length desk
+  pub number-long : n ≤ length number
+  pub scan-long : n ≤ length scan
+  pub start-long : n ≤ length start
+  pub room : at + 13 * n ≤ length d
+
+pub record PassLists (d : List ℕ) (at : ℕ) (first second : List ℕ) (n : ℕ) : Type 0 where
+  pub first-long : n ≤ length first
+  pub second-long : n ≤ length second
+  pub room : at + 11 * n ≤ length d

@@ -1,0 +1,101 @@
+// The members of the sections: one field, and the first n of the lists that a plan keeps them in.
+ghost use mathlib.Core.Path.{_≡_};
+ghost use Prim.Native.Nat.{ℕ, _+_, _≤_};
+ghost use lib.ListN.{length};
+ghost use Rattle.field.specs.Put.{put};
+ghost use Rattle.rules.specs.Plan.{batchBytes, jobBytes, passesBytes};
+ghost use Rattle.plan_fields.specs.Stored.{stripBytes, batch, job, passes, batchIn, jobIn, passesIn, membersTo, BatchLists, JobLists, PassLists};
+use crate::tag::put_head;
+use field::put_number;
+use sheet::tags::PLAN_BATCH;
+use sheet::tags::PLAN_BLOCK;
+use sheet::tags::PLAN_STRIP;
+
+fn put_batch(d: &mut [u8], at: usize, last: u64, start: u64, finish: u64)
+    requires { ⌜ at + 12 ≤ length (now d) ⌝ }
+    ensures { λ _. ⌜ now (d .exit) ≡ put (now (d .entry)) at (batchBytes (batch last start finish)) ⌝ }
+{
+    put_head(d, at, PLAN_BATCH, 9);
+    put_number(d, at + 3, 1, last);
+    put_number(d, at + 4, 4, start);
+    put_number(d, at + 8, 4, finish);
+}
+
+// The first n batches of the lists.
+pub fn put_batches<'a>(
+    d: &mut [u8],
+    at: usize,
+    last: &'a [u64],
+    start: &'a [u64],
+    finish: &'a [u64],
+    n: usize,
+)
+    requires { ⌜ BatchLists (now d) at (now last) (now start) (now finish) n ⌝ }
+    ensures { λ _. ⌜ now (d .exit) ≡ put (now (d .entry)) at (membersTo batchBytes (batchIn (now (last .entry)) (now (start .entry)) (now (finish .entry))) n) ⌝ }
+{
+    let mut i: usize = 0;
+    while i < n {
+        put_batch(d, at + 12 * i, last[i], start[i], finish[i]);
+        i += 1;
+    }
+}
+
+// The field of a job as far as its number within the desk.
+fn put_strip(d: &mut [u8], at: usize, desk: u64, number: u64)
+    requires { ⌜ at + 5 ≤ length (now d) ⌝ }
+    ensures { λ _. ⌜ now (d .exit) ≡ put (now (d .entry)) at (stripBytes desk number) ⌝ }
+{
+    put_head(d, at, PLAN_STRIP, 10);
+    put_number(d, at + 3, 1, desk);
+    put_number(d, at + 4, 1, number);
+}
+
+fn put_job(d: &mut [u8], at: usize, desk: u64, number: u64, scan: u64, start: u64)
+    requires { ⌜ at + 13 ≤ length (now d) ⌝ }
+    ensures { λ _. ⌜ now (d .exit) ≡ put (now (d .entry)) at (jobBytes (job desk number scan start)) ⌝ }
+{
+    put_strip(d, at, desk, number);
+    put_number(d, at + 5, 4, scan);
+    put_number(d, at + 9, 4, start);
+}
+
+// The first n jobs of the lists.
+pub fn put_jobs<'a>(
+    d: &mut [u8],
+    at: usize,
+    desk: &'a [u64],
+    number: &'a [u64],
+    scan: &'a [u64],
+    start: &'a [u64],
+    n: usize,
+)
+    requires { ⌜ JobLists (now d) at (now desk) (now number) (now scan) (now start) n ⌝ }
+    ensures { λ _. ⌜ now (d .exit) ≡ put (now (d .entry)) at (membersTo jobBytes (jobIn (now (desk .entry)) (now (number .entry)) (now (scan .entry)) (now (start .entry))) n) ⌝ }
+{
+    let mut i: usize = 0;
+    while i < n {
+        put_job(d, at + 13 * i, desk[i], number[i], scan[i], start[i]);
+        i += 1;
+    }
+}
+
+fn put_passes(d: &mut [u8], at: usize, first: u64, second: u64)
+    requires { ⌜ at + 11 ≤ length (now d) ⌝ }
+    ensures { λ _. ⌜ now (d .exit) ≡ put (now (d .entry)) at (passesBytes (passes first second)) ⌝ }
+{
+    put_head(d, at, PLAN_BLOCK, 8);
+    put_number(d, at + 3, 4, first);
+    put_number(d, at + 7, 4, second);
+}
+
+// The first n pairs of starts of the lists.
+pub fn put_blocks<'a>(d: &mut [u8], at: usize, first: &'a [u64], second: &'a [u64], n: usize)
+    requires { ⌜ PassLists (now d) at (now first) (now second) n ⌝ }
+    ensures { λ _. ⌜ now (d .exit) ≡ put (now (d .entry)) at (membersTo passesBytes (passesIn (now (first .entry)) (now (second .entry))) n) ⌝ }
+{
+    let mut i: usize = 0;
+    while i < n {
+        put_passes(d, at + 11 * i, first[i], second[i]);
+        i += 1;
+    }
+}

@@ -1,0 +1,16 @@
+// What every field begins with.
+ghost use mathlib.Core.Path.{_≡_};
+ghost use Prim.Native.Nat.{ℕ, _+_, _≤_};
+ghost use lib.ListN.{length};
+ghost use Rattle.field.specs.Put.{put};
+ghost use Rattle.plan_fields.specs.Stored.{headBytes};
+use field::put_number;
+
+// A field's tag and content length.
+pub fn put_head(d: &mut [u8], at: usize, tag: u8, size: u64)
+    requires { ⌜ at + 3 ≤ length (now d) ⌝ }
+    ensures { λ _. ⌜ now (d .exit) ≡ put (now (d .entry)) at (headBytes tag size) ⌝ }
+{
+    d[at] = tag;
+    put_number(d, at + 1, 2, size);
+}

@@ -1,0 +1,61 @@
+-- The sections of a plan stored one behind the other are the plan, and the buffer has room for each.
+use Prim.Native.Nat.{ℕ}
+use mathlib.Core.Path.{_≡_, ap, _∙_}
+use mathlib.Core.List.{List, _++_}
+use lib.ListN.{length, length-append}
+use Rattle.field.specs.Put.{length-put}
+use Rattle.sheet.specs.Sound.{stripsInAll}
+use Rattle.sheet.specs.declared.Sheet.{Sheet}
+use Rattle.rules.specs.Plan.{mosaicBytes, sortingBytes, flightBytes, ifPresent}
+use Rattle.mosaic.specs.Plan.{batchesOf}
+use Rattle.mosaic.specs.declared.MosaicPlan.{MosaicPlan}
+use Rattle.sorting.specs.Plan.{jobsOfPlan}
+use Rattle.sorting.specs.declared.SortingPlan.{SortingPlan}
+use Rattle.flight.specs.Choice.{passesOf}
+use Rattle.flight.specs.declared.FlightPlan.{FlightPlan}
+use native.Mathlib.Omega.{arith}
+use Rattle.plan_fields.specs.FieldLaws.{joined}
+use Rattle.plan_writer.specs.Written.{SortingAsked, FlightAsked, PlanAsked, Written, planOf}
+use Rattle.plan_writer.specs.SectionLaws.{mosaic-long, sorting-long}
+
+-- what is written behind what was written
+then-written : (d d₁ d₂ : List ℕ) (at at₁ at₂ : ℕ) (xs ys : List ℕ) → Written d d₁ at xs at₁ → Written d₁ d₂ at₁ ys at₂ → Written d d₂ at (xs ++ ys) at₂
+then-written d d₁ d₂ at at₁ at₂ xs ys w₁ w₂ =
+    record { buffer = joined d d₁ d₂ at at₁ xs ys (w₁ .buffer) (w₂ .buffer) (w₁ .end); end = omega (arith, w₁ .end, w₂ .end, length-append xs ys) }
+
+-- The whole plan: room behind each section, and its sections joined.
+module _ (d : List ℕ) (s : Sheet) (m : MosaicPlan) (t : SortingPlan) (asked : PlanAsked d s m t) where
+  module _ (d₁ : List ℕ) (at₁ : ℕ) (w₁ : Written d d₁ 0 (ifPresent (s .mosaic .strips) (mosaicBytes (m .figure) (batchesOf m))) at₁) where
+    first-long : length d₁ ≡ length d
+    first-long = ap length (w₁ .buffer) ∙ length-put d 0 (ifPresent (s .mosaic .strips) (mosaicBytes (m .figure) (batchesOf m)))
+
+    pub sorting-room : SortingAsked d₁ at₁ t
+    sorting-room =
+        record { few = asked .jobs; room = omega (arith, first-long, w₁ .end, mosaic-long (s .mosaic .strips) m, asked .room, asked .batches, asked .jobs) }
+
+    module _ (d₂ : List ℕ) (strips at₂ : ℕ) (e : strips ≡ stripsInAll (s .sorting)) (w₂ : Written d₁ d₂ at₁ (ifPresent strips (sortingBytes (t .figure) (jobsOfPlan t))) at₂) where
+      pub flight-room : FlightAsked d₂ at₂ (s .flight .blocks)
+      flight-room =
+          record {
+            few = asked .blocks;
+            room =
+                omega (
+                  arith,
+                  first-long,
+                  ap length (w₂ .buffer) ∙ length-put d₁ at₁ (ifPresent strips (sortingBytes (t .figure) (jobsOfPlan t))),
+                  w₁ .end,
+                  w₂ .end,
+                  mosaic-long (s .mosaic .strips) m,
+                  sorting-long strips t,
+                  asked .room,
+                  asked .batches,
+                  asked .jobs,
+                  asked .blocks,
+                );
+          }
+
+      pub plan-written : (d₃ : List ℕ) (f : FlightPlan) (at₃ : ℕ) → Written d₂ d₃ at₂ (ifPresent (s .flight .blocks) (flightBytes (f .figure) (f .order) (passesOf (s .flight .blocks) f))) at₃ → Written d d₃ 0 (planOf s m t f) at₃
+      unfolding planOf
+      plan-written d₃ f at₃ w₃ =
+          rw (← e)
+          (then-written d d₂ d₃ 0 at₂ at₃ _ _ (then-written d d₁ d₂ 0 at₁ at₂ _ _ w₁ w₂) w₃)

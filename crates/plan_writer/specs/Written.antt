@@ -1,0 +1,62 @@
+-- What each function of the writer asks and leaves. The layout itself is that of crate rules (specs/Plan.antt).
+use Prim.Native.Nat.{ℕ, _+_, _*_, _≤_}
+use mathlib.Core.Path.{_≡_}
+use mathlib.Core.List.{List, _++_}
+use lib.ListN.{length}
+use Rattle.field.specs.Put.{put}
+use Rattle.sheet.specs.Limits.{mostStrips, mostBlocks, planLength}
+use Rattle.sheet.specs.Sound.{SortingSound, stripsInAll}
+use Rattle.sheet.specs.declared.Sheet.{Sheet}
+use Rattle.rules.specs.Plan.{mosaicBytes, sortingBytes, flightBytes, ifPresent}
+use Rattle.mosaic.specs.Plan.{batchesOf}
+use Rattle.mosaic.specs.declared.MosaicPlan.{MosaicPlan}
+use Rattle.sorting.specs.Plan.{jobsOfPlan}
+use Rattle.sorting.specs.declared.SortingPlan.{SortingPlan}
+use Rattle.flight.specs.Choice.{passesOf}
+use Rattle.flight.specs.declared.FlightPlan.{FlightPlan}
+
+-- a plan of no more members than a sheet may have, and room for their fields
+pub record BatchesAsked (d : List ℕ) (at : ℕ) (p : MosaicPlan) : Type 0 where
+  pub few : p .batches ≤ mostStrips
+  pub room : at + 12 * p .batches ≤ length d
+
+pub record JobsAsked (d : List ℕ) (at : ℕ) (p : SortingPlan) : Type 0 where
+  pub few : p .jobs ≤ 18
+  pub room : at + 13 * p .jobs ≤ length d
+
+pub record BlocksAsked (d : List ℕ) (at n : ℕ) : Type 0 where
+  pub few : n ≤ mostBlocks
+  pub room : at + 11 * n ≤ length d
+
+-- the same with room for the section's head
+pub record MosaicAsked (d : List ℕ) (at : ℕ) (p : MosaicPlan) : Type 0 where
+  pub few : p .batches ≤ mostStrips
+  pub room : at + 7 + 12 * p .batches ≤ length d
+
+pub record SortingAsked (d : List ℕ) (at : ℕ) (p : SortingPlan) : Type 0 where
+  pub few : p .jobs ≤ 18
+  pub room : at + 7 + 13 * p .jobs ≤ length d
+
+pub record FlightAsked (d : List ℕ) (at n : ℕ) : Type 0 where
+  pub few : n ≤ mostBlocks
+  pub room : at + 15 + 11 * n ≤ length d
+
+-- the bytes are stored at the offset, and the answer is the offset behind them
+pub record Written (before after : List ℕ) (at : ℕ) (bytes : List ℕ) (behind : ℕ) : Type 0 where
+  pub buffer : after ≡ put before at bytes
+  pub end : behind ≡ at + length bytes
+
+-- a plan buffer of the length that every plan fits, and plans of no more members than a sheet may have
+pub record PlanAsked (d : List ℕ) (s : Sheet) (m : MosaicPlan) (t : SortingPlan) : Type 0 where
+  pub room : planLength ≤ length d
+  pub batches : m .batches ≤ mostStrips
+  pub jobs : t .jobs ≤ 18
+  pub blocks : s .flight .blocks ≤ mostBlocks
+  pub sorting : SortingSound (s .sorting)
+
+-- the bytes of the sections that the sheet has
+unfoldable pub planOf : Sheet → MosaicPlan → SortingPlan → FlightPlan → List ℕ
+planOf s m t f =
+    ifPresent (s .mosaic .strips) (mosaicBytes (m .figure) (batchesOf m))
+    ++ ifPresent (stripsInAll (s .sorting)) (sortingBytes (t .figure) (jobsOfPlan t))
+    ++ ifPresent (s .flight .blocks) (flightBytes (f .figure) (f .order) (passesOf (s .flight .blocks) f))
