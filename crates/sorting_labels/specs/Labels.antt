@@ -149,7 +149,7 @@ dominated-all M k s n p e q = sym (ap (dominatedBy M k s) four ∙ e)
     four : 4 ≡ n
     four = omega arith
 
-either : (x y : Bool) → (x || y) ≡ true → (x ≡ true) ⊎ (y ≡ true)
+pub either : (x y : Bool) → (x || y) ≡ true → (x ≡ true) ⊎ (y ≡ true)
 either true y e = inl refl
 either false y e = inr e
 

@@ -1,4 +1,3 @@
--- The search with its cuts: the dominance memory, the working table, the greedy start.
-pub mod Labels
+-- The search with its cuts: the working table, the greedy start.
 pub mod Table
 pub mod Greedy
