@@ -15,7 +15,7 @@ use Rattle.sorting.specs.Lawful.{chosen-length}
 use Rattle.sorting.specs.Theorems.{sorting-count}
 use Rattle.sorting.specs.Instance.{instance-sound}
 use Rattle.sorting.specs.Writing.{Listed, Written}
-use Rattle.sorting_search.specs.Table as search
+use Rattle.sorting_search.specs.Found as search
 
 -- a sound section, and a working table of the length that the search takes
 pub record Lent (s : SortingSection) (table : List ℕ) : Type 0 where

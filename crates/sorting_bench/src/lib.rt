@@ -1,5 +1,5 @@
 // The search of the sorting planner for C, so that bench/ can time it by itself.
-ghost use Rattle.sorting_search.specs.Table.{Lent, Found};
+ghost use Rattle.sorting_search.specs.Found.{Lent, Found};
 
 // The figure and the number of the scanner list of an interleaving.
 #[repr(C)]

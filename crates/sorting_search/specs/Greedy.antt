@@ -1,5 +1,4 @@
--- The greedy list: its next strip is always of the desk whose step has the least lower bound. Its figure plus one may start the search: from there the search
--- returns what it returns from no incumbent, for both return the first best list.
+-- The greedy list: its next strip is always of the desk whose step has the least lower bound. Its figure is that of a completion.
 use mathlib.Core.Path.{_≡_, refl, sym, ap, subst, _∙_}
 use mathlib.Core.Bool.{Bool, true, false, cond}
 use mathlib.Core.List.{List}
@@ -11,18 +10,13 @@ use lib.Dec.{ltb}
 use borrow.Author.Tests.{ltb-true, lt-ltb, le-ltb}
 use Rattle.sheet.specs.Limits.{tableLength}
 use Rattle.interleaving.specs.declared.State.{State}
-use Rattle.interleaving.specs.declared.Incumbent.{Incumbent}
 use Rattle.interleaving.specs.Instance.{Instance, costCap}
-use Rattle.interleaving.specs.Search.{maxOf, StripLeft, stepOf, searchFrom, Completes, startState, firstBest, noIncumbent}
+use Rattle.interleaving.specs.Search.{maxOf, StripLeft, stepOf, Completes}
 use Rattle.interleaving.specs.SearchLaws.{step-left}
 use Rattle.interleaving.specs.Caps.{CanServe}
-use Rattle.interleaving.specs.Consistent.{Consistent, consistent-step, consistent-start}
-use Rattle.interleaving.specs.Completion.{any-incumbent}
-use Rattle.sorting_bounds.specs.Layout.{labelsLength}
+use Rattle.interleaving.specs.Consistent.{Consistent, consistent-step}
 use Rattle.sorting_bounds.specs.DeskBound.{deskBound}
-use Rattle.sorting_bounds.specs.ScannerBound.{filledFrom, EntriesFrom, scannerBound}
-use Rattle.sorting_labels.specs.Labels.{clearedTo}
-use Rattle.sorting_search.specs.Table.{TableHolds, Searchable, Searched, Lent, Found, table-start, table-used}
+use Rattle.sorting_bounds.specs.ScannerBound.{EntriesFrom, scannerBound}
 
 -- the greater of the two lower bounds of s
 unfoldable pub boundOf : List ℕ → List ℕ → State → ℕ
@@ -222,23 +216,3 @@ greedy-figure {J} {s} {M} {r} h e = made (greedy-end J M (s .left) s h refl)
   where
     made : (x : State) × Completes J (s .left) s x × (greedyFigure J M s ≡ x .cost) → GreedyFigure J s r
     made w = record { end = w .0; completes = w .1; figure = e .0 ∙ w .2; small = e .1 }
-
--- best_interleaving
-module _ {J M N O : List ℕ} {s : State} where
-  pub bounded-start : Lent J M → N ≡ clearedTo labelsLength M → O ≡ filledFrom J N 343 → s ≡ startState J → Bounded J s O
-  bounded-start h c f e = made (table-start {B = 0} h c f)
-    where
-      made : TableHolds J O 0 → Bounded J s O
-      made t = record { jobs = h .jobs; state = subst (Consistent J) (sym e) (consistent-start J (h .jobs)); size = t .size; entries = t .entries }
-
-  pub searchable-start : {B : ℕ} → Lent J M → N ≡ clearedTo labelsLength M → O ≡ filledFrom J N 343 → s ≡ startState J → Searchable J s B O
-  searchable-start h c f e = record { jobs = h .jobs; state = subst (Consistent J) (sym e) (consistent-start J (h .jobs)); table = table-start h c f }
-
-  pub found : {P : List ℕ} {g : ℕ} {r : Incumbent} → Lent J M → N ≡ clearedTo labelsLength M → O ≡ filledFrom J N 343 → s ≡ startState J → (g ≡ greedyFigure J O s) × (g ≤ costCap) → Searched J s (record { figure = g + 1; path = 0 }) O P r → Found J M P r
-  unfolding firstBest
-  found {P} {g} {r} h c f e w q = record { found = first (greedy-figure (bounded-start h c f e) w); table = table-used h c f (q .table) (q .behind) }
-    where
-      first : GreedyFigure J s g → r ≡ searchFrom J (startState J .left) (startState J) noIncumbent
-      first w =
-          q .found ∙ any-incumbent J (s .left) s (record { figure = g + 1; path = 0 }) noIncumbent (w .end) (w .completes) (omega (arith, w .figure)) (omega (arith, w .figure, w .small)) (omega arith) (omega arith)
-          ∙ ap (λ (x : State). searchFrom J (x .left) x noIncumbent) e

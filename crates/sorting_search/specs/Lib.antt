@@ -1,3 +1,4 @@
--- The search with its cuts: the working table, the greedy start.
+-- The search with its cuts: its table, the greedy start, what it finds.
 pub mod Table
 pub mod Greedy
+pub mod Found

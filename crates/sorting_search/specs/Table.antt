@@ -1,9 +1,10 @@
--- The working table during the search, the contracts of the search, and the laws that its proof cites.
+-- The search with its cuts by definition (cutSearch), what its working table holds meanwhile, and the laws that its proof cites: it finds what the search without
+-- cuts finds.
 use mathlib.Core.Path.{_≡_, refl, sym, ap, subst, _∙_}
-use mathlib.Core.Bool.{Bool, true, false, _||_, or-true}
+use mathlib.Core.Bool.{Bool, true, false, cond, _||_, or-true}
 use mathlib.Core.List.{List}
 use mathlib.Core.Logic.{_⊎_, inl, inr}
-use Prim.Native.Nat.{ℕ, _+_, _-_, _≤_, _<_}
+use Prim.Native.Nat.{ℕ, zero, suc, _+_, _-_, _≤_, _<_}
 use native.Mathlib.Omega.{arith}
 use lib.ListN.{length, getD}
 use lib.Dec.{ltb, leb}
@@ -12,16 +13,36 @@ use Rattle.sheet.specs.Limits.{tableLength}
 use Rattle.interleaving.specs.declared.State.{State}
 use Rattle.interleaving.specs.declared.Incumbent.{Incumbent}
 use Rattle.interleaving.specs.Instance.{Instance}
-use Rattle.interleaving.specs.Search.{StripLeft, stepOf, keep, overDesks, branch, searchFrom, LowerBound, firstBest}
+use Rattle.interleaving.specs.Search.{StripLeft, stepOf, keep, overDesks, branch, searchFrom, LowerBound}
 use Rattle.interleaving.specs.SearchLaws.{over-none, branch-again-yes, branch-again-no, step-left, search-leaf, search-desks, search-stays, bound-down}
 use Rattle.interleaving.specs.Caps.{CanServe}
 use Rattle.interleaving.specs.Consistent.{Consistent, consistent-step}
-use Rattle.sorting_bounds.specs.Layout.{countKey, labelsLength, searchLength}
+use Rattle.sorting_bounds.specs.Layout.{countKey, labelsLength}
 use Rattle.sorting_bounds.specs.DeskBound.{boundCap, deskBound, desk-bound-holds}
-use Rattle.sorting_bounds.specs.ScannerBound.{filledFrom, EntriesFrom, entries-same, scannerBound, scanner-bound-holds}
-use Rattle.sorting_bounds.specs.ScannerTable.{Filled, filled}
-use Rattle.sorting_labels.specs.Labels.{dominatedBy, either, dominated-by, withLabel, clearedTo, cleared-length, cleared-label, cleared-rest}
-use Rattle.sorting_labels.specs.Memory.{LabelsHold, labels-search, labels-done, labels-none, labels-bound, stored-behind, stored-length}
+use Rattle.sorting_bounds.specs.ScannerBound.{EntriesFrom, entries-same, scannerBound, scanner-bound-holds}
+use Rattle.sorting_labels.specs.Labels.{dominatedBy, either, dominated-by, withLabel}
+use Rattle.sorting_labels.specs.Memory.{LabelsHold, labels-search, labels-done, labels-bound, stored-behind, stored-length}
+
+-- whether the scanner's bound, a label or the desks' bound shows that no completion of s is below B
+unfoldable pub isCut : List ℕ → List ℕ → State → ℕ → Bool
+isCut J M s B = leb B (scannerBound M s) || (dominatedBy M (countKey s) s 4 || leb B (deskBound J s))
+
+-- what the search has: its incumbent and its table
+pub record Outcome : Type 0 where
+  pub best : Incumbent
+  pub table : List ℕ
+
+abbrev pub outcome : Incumbent → List ℕ → Outcome
+outcome b M = record { best = b; table = M }
+
+-- the same with the label of s stored
+unfoldable pub labelled : State → Outcome → Outcome
+labelled s o = outcome (o .best) (withLabel (o .table) (countKey s) s)
+
+-- the search with its cuts in desk order, k strips being left: a node's label is stored once the node is explored
+unfoldable pub cutSearch : List ℕ → ℕ → State → Outcome → Outcome
+cutSearch J zero s o = outcome (keep s (o .best)) (o .table)
+cutSearch J (suc k) s o = cond (isCut J (o .table) s (o .best .figure)) o (labelled s (overDesks (branch J (cutSearch J k) s) 3 o))
 
 -- What the table holds while the incumbent's figure is B.
 pub record TableHolds (J M : List ℕ) (B : ℕ) : Type 0 where
@@ -40,20 +61,17 @@ same-trans : (n : ℕ) (M N O : List ℕ) → SameFrom n M N → SameFrom n N O 
 unfolding SameFrom
 same-trans n M N O p q x l = q x l ∙ p x l
 
--- what the search asks and what it gives: the result of the search without cuts; behind the labels it changes nothing
+-- what the search asks and what it gives: what the search without cuts finds, and the table that the search with cuts leaves; behind the labels it changes nothing
 pub record Searchable (J : List ℕ) (s : State) (B : ℕ) (M : List ℕ) : Type 0 where
   pub jobs : Instance J
   pub state : Consistent J s
   pub table : TableHolds J M B
 
 pub record Searched (J : List ℕ) (s : State) (b : Incumbent) (M N : List ℕ) (r : Incumbent) : Type 0 where
+  pub exact : outcome r N ≡ cutSearch J (s .left) s (outcome b M)
   pub found : r ≡ searchFrom J (s .left) s b
   pub table : TableHolds J N (r .figure)
   pub behind : SameFrom labelsLength M N
-
--- whether the scanner's bound, a label or the desks' bound shows that no completion of s is below B
-unfoldable pub isCut : List ℕ → List ℕ → State → ℕ → Bool
-isCut J M s B = leb B (scannerBound M s) || (dominatedBy M (countKey s) s 4 || leb B (deskBound J s))
 
 pub record Cuttable (J : List ℕ) (s : State) (k B : ℕ) (M : List ℕ) : Type 0 where
   pub jobs : Instance J
@@ -115,38 +133,80 @@ same-store : (M N : List ℕ) (s : State) (k : ℕ) → k < 343 → N ≡ withLa
 unfolding SameFrom
 same-store M N s k l e = rw e (stored-behind M k s l)
 
+-- the search with its cuts: a leaf, a cut, a node that is explored
+module _ (J M : List ℕ) (s : State) (b : Incumbent) where
+  exact-leaf : (r : Incumbent) → s .left ≡ 0 → r ≡ keep s b → outcome r M ≡ cutSearch J (s .left) s (outcome b M)
+  unfolding cutSearch
+  exact-leaf r e k = ap (λ (x : Incumbent). outcome x M) k ∙ sym (ap (λ (n : ℕ). cutSearch J n s (outcome b M)) e)
+
+  exact-cut : 0 < s .left → isCut J M s (b .figure) ≡ true → outcome b M ≡ cutSearch J (s .left) s (outcome b M)
+  unfolding cutSearch
+  exact-cut l e = sym (ap (λ (n : ℕ). cutSearch J n s (outcome b M)) more ∙ ap (λ (x : Bool). cond x (outcome b M) (labelled s (overDesks (branch J (cutSearch J (s .left - 1)) s) 3 (outcome b M)))) e)
+    where
+      more : s .left ≡ suc (s .left - 1)
+      more = omega arith
+
+  exact-all : (N O : List ℕ) (r : Incumbent) (d k : ℕ) → 0 < s .left → isCut J M s (b .figure) ≡ false → d ≤ 3 → 3 ≤ d → outcome r N ≡ overDesks (branch J (cutSearch J (s .left - 1)) s) d (outcome b M) → k ≡ countKey s → O ≡ withLabel N k s
+      → outcome r O ≡ cutSearch J (s .left) s (outcome b M)
+  unfolding cutSearch labelled
+  exact-all N O r d k l e p q h f g =
+      ap (outcome r) (g ∙ ap (λ (x : ℕ). withLabel N x s) f) ∙ ap (labelled s) (h ∙ ap (λ (n : ℕ). overDesks (branch J (cutSearch J (s .left - 1)) s) n (outcome b M)) three)
+      ∙ sym (ap (λ (n : ℕ). cutSearch J n s (outcome b M)) more ∙ ap (λ (x : Bool). cond x (outcome b M) (labelled s (overDesks (branch J (cutSearch J (s .left - 1)) s) 3 (outcome b M)))) e)
+    where
+      three : d ≡ 3
+      three = omega arith
+
+      more : s .left ≡ suc (s .left - 1)
+      more = omega arith
+
 -- search: a leaf, a cut, the loop over the desks, and what is returned after it
 module _ {J M : List ℕ} {s : State} {b : Incumbent} where
   pub searched-leaf : {r : Incumbent} → Searchable J s (b .figure) M → s .left ≡ 0 → r ≡ keep s b → Searched J s b M M r
   unfolding SameFrom
-  searched-leaf {r} h e k = let w : r ≡ searchFrom J (s .left) s b = k ∙ sym (search-leaf J s b e) in record { found = w; table = table-search s b r (s .left) (h .table) w; behind = λ x l. refl }
+  searched-leaf {r} h e k = let w : r ≡ searchFrom J (s .left) s b = k ∙ sym (search-leaf J s b e) in record { exact = exact-leaf J M s b r e k; found = w; table = table-search s b r (s .left) (h .table) w; behind = λ x l. refl }
 
-  pub searched-cut : {q : Bool} → Searchable J s (b .figure) M → q ≡ isCut J M s (b .figure) → q ≡ true → Searched J s b M M b
+  pub searched-cut : {q : Bool} → Searchable J s (b .figure) M → (s .left ≡ 0 → ⊥) → q ≡ isCut J M s (b .figure) → q ≡ true → Searched J s b M M b
   unfolding SameFrom
-  searched-cut h c e = record { found = sym (search-stays J (s .left) s b (cut-bounds h (sym c ∙ e))); table = h .table; behind = λ x l. refl }
+  searched-cut h z c e = record {
+    exact = exact-cut J M s b (omega arith) (sym c ∙ e);
+    found = sym (search-stays J (s .left) s b (cut-bounds h (sym c ∙ e)));
+    table = h .table;
+    behind = λ x l. refl;
+  }
 
 -- what holds once the desks below d were searched
 pub record Branched (J : List ℕ) (s : State) (b : Incumbent) (M N : List ℕ) (d : ℕ) (r : Incumbent) : Type 0 where
   pub desks : d ≤ 3
+  pub exact : outcome r N ≡ overDesks (branch J (cutSearch J (s .left - 1)) s) d (outcome b M)
   pub found : r ≡ overDesks (branch J (searchFrom J (s .left - 1)) s) d b
   pub table : TableHolds J N (r .figure)
   pub behind : SameFrom labelsLength M N
 
 pub branched-none : {J M : List ℕ} {s : State} {b : Incumbent} → Searchable J s (b .figure) M → Branched J s b M M 0 b
 unfolding SameFrom
-branched-none {J} {M} {s} {b} h = record { desks = omega arith; found = over-none _ b; table = h .table; behind = λ x l. refl }
+branched-none {J} {M} {s} {b} h = record { desks = omega arith; exact = over-none _ (outcome b M); found = over-none _ b; table = h .table; behind = λ x l. refl }
 
 module _ {J M N : List ℕ} {s : State} {b : Incumbent} where
   pub branched-no : {d : ℕ} {r : Incumbent} → Branched J s b M N d r → d < 3 → getD J d 0 ≤ getD (s .taken) d 0 → Branched J s b M N (d + 1) r
-  branched-no {d} {r} h l m = record { desks = omega arith; found = branch-again-no J (s .left - 1) s d b r (h .found) m; table = h .table; behind = h .behind }
+  branched-no {d} {r} h l m = record {
+    desks = omega arith;
+    exact = branch-again-no J (cutSearch J (s .left - 1)) s d (outcome b M) (outcome r N) (h .exact) m;
+    found = branch-again-no J (searchFrom J (s .left - 1)) s d b r (h .found) m;
+    table = h .table;
+    behind = h .behind;
+  }
 
   pub branched-yes : {d : ℕ} {q r : Incumbent} {n : State} {O : List ℕ} → Branched J s b M N d q → d < 3 → StripLeft J s d → n ≡ stepOf J s d → Searched J n q N O r → Branched J s b M O (d + 1) r
   branched-yes {d} {q} {r} {n} {O} h l m e w = record {
     desks = omega arith;
-    found = branch-again-yes J (s .left - 1) s n d b q r (h .found) m e (w .found) (ap (λ (x : State). x .left) e ∙ step-left J s d);
+    exact = branch-again-yes J (cutSearch J (s .left - 1)) s d (outcome b M) (outcome q N) n (outcome r O) (h .exact) m e (w .exact ∙ ap (λ (k : ℕ). cutSearch J k n (outcome q N)) less);
+    found = branch-again-yes J (searchFrom J (s .left - 1)) s d b q n r (h .found) m e (w .found ∙ ap (λ (k : ℕ). searchFrom J k n q) less);
     table = w .table;
     behind = same-trans labelsLength M N O (h .behind) (w .behind);
   }
+    where
+      less : n .left ≡ s .left - 1
+      less = ap (λ (x : State). x .left) e ∙ step-left J s d
 
 pub branched-same : {J M N O : List ℕ} {s : State} {b r q : Incumbent} {d : ℕ} → N ≡ O → r ≡ q → Branched J s b M O d q → Branched J s b M N d r
 branched-same {J} {M} {N} {O} {s} {b} {r} {q} {d} e w h = subst (λ (x : List ℕ). Branched J s b M x d r) (sym e) (subst (λ (x : Incumbent). Branched J s b M O d x) (sym w) h)
@@ -164,51 +224,12 @@ searchable-step {J} {L} {M} {N} {s} {n} {b} {r} {B} {d} a c h e = record {
   table = h .table;
 }
 
-pub searched-all : {J L M N O : List ℕ} {s : State} {b r : Incumbent} {B d k : ℕ} → Searchable J s B O → (s .left ≡ 0 → ⊥) → Branched J s b L M d r → 3 ≤ d → (k ≡ countKey s) × (k < 343) → N ≡ withLabel M k s → Searched J s b L N r
-searched-all {J} {L} {M} {N} {O} {s} {b} {r} {B} {d} {k} a z h l e p =
+pub searched-all : {J M N O : List ℕ} {s : State} {b r : Incumbent} {d k : ℕ} {q : Bool} → Searchable J s (b .figure) M → (s .left ≡ 0 → ⊥) → q ≡ isCut J M s (b .figure) → q ≡ false → Branched J s b M N d r → 3 ≤ d → (k ≡ countKey s) × (k < 343) → O ≡ withLabel N k s → Searched J s b M O r
+searched-all {J} {M} {N} {O} {s} {b} {r} {d} {k} a z c f h l e p =
     let w : r ≡ searchFrom J (s .left) s b = search-desks J s b r d (omega arith) (h .desks) l (h .found) in
-    record { found = w; table = table-store b (a .jobs) (a .state) (h .table) e p w; behind = same-trans labelsLength L M N (h .behind) (same-store M N s k (e .1) p) }
-
--- best_interleaving
-pub record Lent (J M : List ℕ) : Type 0 where
-  pub jobs : Instance J
-  pub size : length M ≡ tableLength
-
--- the table where the search starts: no label, and the scanner's entries
-unfoldable pub startTable : List ℕ → List ℕ → List ℕ
-startTable J M = filledFrom J (clearedTo labelsLength M) 343
-
--- What the table M has become after the search, whose best figure is B. Which labels stand in it is the search's own; all else is determined.
-pub record Used (J M N : List ℕ) (B : ℕ) : Type 0 where
-  pub holds : TableHolds J N B
-  -- the scanner's entries are those of the start
-  pub entries : SameFrom labelsLength (startTable J M) N
-  -- the numbers behind them are as they were
-  pub rest : SameFrom searchLength M N
-
-pub record Found (J M N : List ℕ) (r : Incumbent) : Type 0 where
-  pub found : r ≡ firstBest J
-  pub table : Used J M N (r .figure)
-
--- the table once its labels are cleared and its entries are filled
-start-filled : {J M N : List ℕ} → Lent J M → N ≡ clearedTo labelsLength M → Filled J N (filledFrom J N 343) 0
-start-filled {J} {M} {N} h c = filled J N (ap length c ∙ cleared-length labelsLength M (omega (arith, h .size)) ∙ h .size) 343 (omega arith)
-
-module _ {J M N O : List ℕ} where
-  pub table-start : {B : ℕ} → Lent J M → N ≡ clearedTo labelsLength M → O ≡ filledFrom J N 343 → TableHolds J O B
-  table-start {B} h c e = subst (λ (x : List ℕ). TableHolds J x B) (sym e) (made (start-filled h c))
-    where
-      made : Filled J N (filledFrom J N 343) 0 → TableHolds J (filledFrom J N 343) B
-      made f = record {
-        size = f .size;
-        labels = labels-none J (h .jobs) (filledFrom J N 343) B (λ i p. f .labels i p ∙ ap (λ (x : List ℕ). getD x i 0) c ∙ cleared-label labelsLength M i p);
-        entries = f .entries;
-      }
-
-  pub table-used : {P : List ℕ} {B : ℕ} → Lent J M → N ≡ clearedTo labelsLength M → O ≡ filledFrom J N 343 → TableHolds J P B → SameFrom labelsLength O P → Used J M P B
-  unfolding startTable SameFrom
-  table-used {P} {B} h c e t q = record {
-    holds = t;
-    entries = λ x l. q x l ∙ ap (λ (y : List ℕ). getD y x 0) (e ∙ ap (λ (y : List ℕ). filledFrom J y 343) c);
-    rest = λ x l. q x (omega arith) ∙ ap (λ (y : List ℕ). getD y x 0) e ∙ start-filled h c .rest x l ∙ ap (λ (y : List ℕ). getD y x 0) c ∙ cleared-rest labelsLength M x (omega arith);
-  }
+    record {
+      exact = exact-all J M s b N O r d k (omega arith) (sym c ∙ f) (h .desks) l (h .exact) (e .0) p;
+      found = w;
+      table = table-store b (a .jobs) (a .state) (h .table) e p w;
+      behind = same-trans labelsLength M N O (h .behind) (same-store N O s k (e .1) p);
+    }

@@ -1,6 +1,6 @@
 -- `sorting_search::best_interleaving` meets its contract: the table holds at the start, and the search from the greedy figure plus one returns
 -- what it returns from no incumbent.
-use Rattle.sorting_search.specs.Greedy.{bounded-start, searchable-start, found}
+use Rattle.sorting_search.specs.Found.{bounded-start, searchable-start, found}
 use borrow.Author.Needs.{needs}
 use Rattle.sorting_search.proofs.best_interleaving.Statement.{statement}
 use Rattle.sorting_search.proofs.best_interleaving.Tie as tie
