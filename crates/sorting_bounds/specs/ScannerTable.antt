@@ -13,7 +13,7 @@ use lib.Seq.{getD-set-same, getD-set-other}
 use borrow.Author.Tests.{lt-ltb, le-ltb, le-leb, lt-leb}
 use Rattle.sheet.specs.Limits.{tableLength}
 use Rattle.interleaving.specs.declared.State.{State}
-use Rattle.interleaving.specs.Instance.{Instance, scanOf, deskOf, weightOf, timeCap, scannerCap}
+use Rattle.interleaving.specs.Instance.{Instance, desk-capped, scanOf, deskOf, weightOf, timeCap, scannerCap}
 use Rattle.interleaving.specs.Consistent.{Consistent, scanSum}
 use Rattle.sorting_bounds.specs.Layout.{countKey, labelsLength, searchLength}
 use Rattle.sorting_bounds.specs.DeskBound.{boundCap}
@@ -87,10 +87,7 @@ strip-sums {J} {time} {d} {i} h = record {
     small-scan = h .jobs .small (d * 6 + i)
 
     small-desk : deskOf J d i ≤ timeCap
-    small-desk = subst (λ (k : ℕ). getD J k 0 ≤ timeCap) e (h .jobs .small (18 + (d * 6 + i)))
-      where
-        e : 3 + (18 + (d * 6 + i)) ≡ 3 + (d * 6 + i) + 18
-        e = omega arith
+    small-desk = desk-capped (h .jobs) d i
 
 lesser-least : (a b : ℕ) → (lesserOf a b ≤ a) × (lesserOf a b ≤ b)
 unfolding lesserOf
