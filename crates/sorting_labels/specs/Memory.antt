@@ -55,7 +55,7 @@ module _ (J : List ℕ) where
           (finish-mono s z d m)
       go e (no q) = rw (getD-set-other (s .free) d e (finish J s d) 0 q, getD-set-other (z .free) d e (finish J z d) 0 q) (m .free e)
 
-  pub bound-dominates : (k : ℕ) (s z : State) (B : ℕ) → Dominates s z → LowerBound J k s B → LowerBound J k z B
+  bound-dominates : (k : ℕ) (s z : State) (B : ℕ) → Dominates s z → LowerBound J k s B → LowerBound J k z B
   unfolding LowerBound
   bound-dominates zero s z B m h = omega (arith, m .cost)
   bound-dominates (suc k) s z B m h = λ d p l. bound-dominates k (stepOf J s d) (stepOf J z d) B (dominates-step s z d p m) (h d p (rw (m .taken) l))
@@ -64,7 +64,7 @@ module _ (J : List ℕ) where
 unfoldable pub LabelsHold : List ℕ → List ℕ → ℕ → Type 0
 LabelsHold J M B = (s : State) → Consistent J s → Dominated M s → LowerBound J (s .left) s B
 
-pub labels-down : (J M : List ℕ) (B C : ℕ) → C ≤ B → LabelsHold J M B → LabelsHold J M C
+labels-down : (J M : List ℕ) (B C : ℕ) → C ≤ B → LabelsHold J M B → LabelsHold J M C
 unfolding LabelsHold
 labels-down J M B C l h = λ s g c. bound-down J (s .left) s B C l (h s g c)
 
@@ -74,7 +74,7 @@ unfolding LabelsHold
 labels-bound J M s B h g c = h s g c
 
 module _ (M : List ℕ) (a : ℕ) (s : State) where
-  pub store-other : (x : ℕ) → (x ≡ a → ⊥) → (x ≡ a + 1 → ⊥) → (x ≡ a + 2 → ⊥) → (x ≡ a + 3 → ⊥) → getD (storeLabel M a s) x 0 ≡ getD M x 0
+  store-other : (x : ℕ) → (x ≡ a → ⊥) → (x ≡ a + 1 → ⊥) → (x ≡ a + 2 → ⊥) → (x ≡ a + 3 → ⊥) → getD (storeLabel M a s) x 0 ≡ getD M x 0
   store-other x p q r t =
       getD-set-other (set (set (set M a (s .cost)) (a + 1) (getD (s .free) 0 0)) (a + 2) (getD (s .free) 1 0)) (a + 3) x (getD (s .free) 2 0) 0 t
       ∙ getD-set-other (set (set M a (s .cost)) (a + 1) (getD (s .free) 0 0)) (a + 2) x (getD (s .free) 1 0) 0 r
@@ -136,7 +136,7 @@ module _ (J : List ℕ) (j : Instance J) where
   key-small : (s : State) → Consistent J s → countKey s < 343
   key-small s g = omega (arith, key-digits J j s g)
 
-  pub labels-store : (M : List ℕ) (s : State) (slot B : ℕ) → labelsLength ≤ length M → slot < 4 → Consistent J s → LabelsHold J M B → LowerBound J (s .left) s B → LabelsHold J (storeLabel M (labelPlace (countKey s) slot) s) B
+  labels-store : (M : List ℕ) (s : State) (slot B : ℕ) → labelsLength ≤ length M → slot < 4 → Consistent J s → LabelsHold J M B → LowerBound J (s .left) s B → LabelsHold J (storeLabel M (labelPlace (countKey s) slot) s) B
   unfolding LabelsHold
   labels-store M s slot B size l g h b = λ z k c. go z k c (ℕ-discrete (labelPlace (countKey z) (c .slot)) (labelPlace (countKey s) slot))
     where

@@ -17,7 +17,8 @@ use Rattle.sorting_bounds.specs.ScannerBound.{filledFrom}
 use Rattle.sorting_bounds.specs.ScannerTable.{Filled, filled}
 use Rattle.sorting_labels.specs.Labels.{clearedTo, cleared-length, cleared-label, cleared-rest}
 use Rattle.sorting_labels.specs.Memory.{labels-none}
-use Rattle.sorting_search.specs.Table.{Outcome, outcome, cutSearch, TableHolds, SameFrom, Searchable, Searched}
+use Rattle.sorting_search.specs.CutSearch.{Outcome, outcome, cutSearch}
+use Rattle.sorting_search.specs.Table.{TableHolds, SameFrom, Searchable, Searched}
 use Rattle.sorting_search.specs.Greedy.{greedyFigure, Bounded, GreedyFigure, greedy-figure}
 
 pub record Lent (J M : List ℕ) : Type 0 where

@@ -1,10 +1,9 @@
--- The search with its cuts by definition (cutSearch), what its working table holds meanwhile, and the laws that its proof cites: it finds what the search without
--- cuts finds.
+-- The working table during the search, the contracts of the search, and the laws that its proof cites: with its cuts it finds what the search without cuts finds.
 use mathlib.Core.Path.{_≡_, refl, sym, ap, subst, _∙_}
-use mathlib.Core.Bool.{Bool, true, false, cond, _||_, or-true}
+use mathlib.Core.Bool.{Bool, true, false, _||_, or-true}
 use mathlib.Core.List.{List}
 use mathlib.Core.Logic.{_⊎_, inl, inr}
-use Prim.Native.Nat.{ℕ, zero, suc, _+_, _-_, _≤_, _<_}
+use Prim.Native.Nat.{ℕ, _+_, _-_, _≤_, _<_}
 use native.Mathlib.Omega.{arith}
 use lib.ListN.{length, getD}
 use lib.Dec.{ltb, leb}
@@ -22,29 +21,9 @@ use Rattle.sorting_bounds.specs.DeskBound.{boundCap, deskBound, desk-bound-hold
 use Rattle.sorting_bounds.specs.ScannerBound.{EntriesFrom, entries-same, scannerBound, scanner-bound-holds}
 use Rattle.sorting_labels.specs.Labels.{dominatedBy, either, dominated-by, withLabel}
 use Rattle.sorting_labels.specs.Memory.{LabelsHold, labels-search, labels-done, labels-bound, stored-behind, stored-length}
+use Rattle.sorting_search.specs.CutSearch.{isCut, outcome, cutSearch, exact-leaf, exact-cut, exact-all}
 
--- whether the scanner's bound, a label or the desks' bound shows that no completion of s is below B
-unfoldable pub isCut : List ℕ → List ℕ → State → ℕ → Bool
-isCut J M s B = leb B (scannerBound M s) || (dominatedBy M (countKey s) s 4 || leb B (deskBound J s))
-
--- what the search has: its incumbent and its table
-pub record Outcome : Type 0 where
-  pub best : Incumbent
-  pub table : List ℕ
-
-abbrev pub outcome : Incumbent → List ℕ → Outcome
-outcome b M = record { best = b; table = M }
-
--- the same with the label of s stored
-unfoldable pub labelled : State → Outcome → Outcome
-labelled s o = outcome (o .best) (withLabel (o .table) (countKey s) s)
-
--- the search with its cuts in desk order, k strips being left: a node's label is stored once the node is explored
-unfoldable pub cutSearch : List ℕ → ℕ → State → Outcome → Outcome
-cutSearch J zero s o = outcome (keep s (o .best)) (o .table)
-cutSearch J (suc k) s o = cond (isCut J (o .table) s (o .best .figure)) o (labelled s (overDesks (branch J (cutSearch J k) s) 3 o))
-
--- What the table holds while the incumbent's figure is B.
+-- what the table holds while the incumbent's figure is B
 pub record TableHolds (J M : List ℕ) (B : ℕ) : Type 0 where
   -- it has its length
   pub size : length M ≡ tableLength
@@ -61,7 +40,8 @@ same-trans : (n : ℕ) (M N O : List ℕ) → SameFrom n M N → SameFrom n N O 
 unfolding SameFrom
 same-trans n M N O p q x l = q x l ∙ p x l
 
--- what the search asks and what it gives: what the search without cuts finds, and the table that the search with cuts leaves; behind the labels it changes nothing
+-- what the search asks and what it gives: incumbent and table as the search with its cuts has them, and the incumbent as the search without cuts finds it. Behind the
+-- labels it changes nothing.
 pub record Searchable (J : List ℕ) (s : State) (B : ℕ) (M : List ℕ) : Type 0 where
   pub jobs : Instance J
   pub state : Consistent J s
@@ -73,6 +53,7 @@ pub record Searched (J : List ℕ) (s : State) (b : Incumbent) (M N : List ℕ) 
   pub table : TableHolds J N (r .figure)
   pub behind : SameFrom labelsLength M N
 
+-- cut: what it asks, and its tests in turn
 pub record Cuttable (J : List ℕ) (s : State) (k B : ℕ) (M : List ℕ) : Type 0 where
   pub jobs : Instance J
   pub state : Consistent J s
@@ -104,7 +85,7 @@ module _ (J : List ℕ) (s : State) (B : ℕ) (M : List ℕ) where
       no : dominatedBy M (countKey s) s 4 ≡ false
       no = ap (λ (x : ℕ). dominatedBy M x s 4) (sym (h .key)) ∙ sym f ∙ t
 
--- a cut is right
+-- where a node is cut, no completion is below B
 pub cut-bounds : {J : List ℕ} {s : State} {B : ℕ} {M : List ℕ} → Searchable J s B M → isCut J M s B ≡ true → LowerBound J (s .left) s B
 unfolding isCut
 cut-bounds {J} {s} {B} {M} h e = go (either _ _ e)
@@ -118,7 +99,7 @@ cut-bounds {J} {s} {B} {M} h e = go (either _ _ e)
         rest (inr g) = bound-down J (s .left) s _ B (leb-true _ _ g) (desk-bound-holds J (h .jobs) (s .left) s (h .state) refl)
 
 -- the table holds for a smaller figure, and for a label more
-pub table-search : {J M : List ℕ} (s : State) (b r : Incumbent) (k : ℕ) → TableHolds J M (b .figure) → r ≡ searchFrom J k s b → TableHolds J M (r .figure)
+table-search : {J M : List ℕ} (s : State) (b r : Incumbent) (k : ℕ) → TableHolds J M (b .figure) → r ≡ searchFrom J k s b → TableHolds J M (r .figure)
 table-search {J} {M} s b r k t e = record { size = t .size; labels = labels-search J M k s b r (t .labels) e; entries = t .entries }
 
 module _ {J M N : List ℕ} {s : State} (b : Incumbent) {r : Incumbent} {k : ℕ} where
@@ -132,32 +113,6 @@ module _ {J M N : List ℕ} {s : State} (b : Incumbent) {r : Incumbent} {k : ℕ
 same-store : (M N : List ℕ) (s : State) (k : ℕ) → k < 343 → N ≡ withLabel M k s → SameFrom labelsLength M N
 unfolding SameFrom
 same-store M N s k l e = rw e (stored-behind M k s l)
-
--- the search with its cuts: a leaf, a cut, a node that is explored
-module _ (J M : List ℕ) (s : State) (b : Incumbent) where
-  exact-leaf : (r : Incumbent) → s .left ≡ 0 → r ≡ keep s b → outcome r M ≡ cutSearch J (s .left) s (outcome b M)
-  unfolding cutSearch
-  exact-leaf r e k = ap (λ (x : Incumbent). outcome x M) k ∙ sym (ap (λ (n : ℕ). cutSearch J n s (outcome b M)) e)
-
-  exact-cut : 0 < s .left → isCut J M s (b .figure) ≡ true → outcome b M ≡ cutSearch J (s .left) s (outcome b M)
-  unfolding cutSearch
-  exact-cut l e = sym (ap (λ (n : ℕ). cutSearch J n s (outcome b M)) more ∙ ap (λ (x : Bool). cond x (outcome b M) (labelled s (overDesks (branch J (cutSearch J (s .left - 1)) s) 3 (outcome b M)))) e)
-    where
-      more : s .left ≡ suc (s .left - 1)
-      more = omega arith
-
-  exact-all : (N O : List ℕ) (r : Incumbent) (d k : ℕ) → 0 < s .left → isCut J M s (b .figure) ≡ false → d ≤ 3 → 3 ≤ d → outcome r N ≡ overDesks (branch J (cutSearch J (s .left - 1)) s) d (outcome b M) → k ≡ countKey s → O ≡ withLabel N k s
-      → outcome r O ≡ cutSearch J (s .left) s (outcome b M)
-  unfolding cutSearch labelled
-  exact-all N O r d k l e p q h f g =
-      ap (outcome r) (g ∙ ap (λ (x : ℕ). withLabel N x s) f) ∙ ap (labelled s) (h ∙ ap (λ (n : ℕ). overDesks (branch J (cutSearch J (s .left - 1)) s) n (outcome b M)) three)
-      ∙ sym (ap (λ (n : ℕ). cutSearch J n s (outcome b M)) more ∙ ap (λ (x : Bool). cond x (outcome b M) (labelled s (overDesks (branch J (cutSearch J (s .left - 1)) s) 3 (outcome b M)))) e)
-    where
-      three : d ≡ 3
-      three = omega arith
-
-      more : s .left ≡ suc (s .left - 1)
-      more = omega arith
 
 -- search: a leaf, a cut, the loop over the desks, and what is returned after it
 module _ {J M : List ℕ} {s : State} {b : Incumbent} where

@@ -1,6 +1,7 @@
 // The search over interleavings with its cuts: it returns what the search without cuts returns.
 ghost use mathlib.Core.Path.{_≡_};
-ghost use Rattle.sorting_search.specs.Table.{isCut, Searchable, Searched, Cuttable};
+ghost use Rattle.sorting_search.specs.CutSearch.{isCut};
+ghost use Rattle.sorting_search.specs.Table.{Searchable, Searched, Cuttable};
 ghost use Rattle.sorting_search.specs.Found.{Lent, Found};
 use interleaving::Incumbent;
 use interleaving::State;
