@@ -1,7 +1,7 @@
 -- The labels at the front of the working table, four to each count vector, and what the functions over them compute. A label is the cost and the desks'
 -- free times of a state. The laws are those that the functions' proofs cite.
 use mathlib.Core.Path.{_≡_, refl, sym, ap, _∙_}
-use mathlib.Core.Bool.{Bool, true, false, cond, _&&_, _||_, or-true}
+use mathlib.Core.Bool.{Bool, true, false, false≢true, cond, _&&_, _||_, or-true}
 use mathlib.Core.List.{List, _++_}
 use mathlib.Core.Logic.{_⊎_, inl, inr}
 use Prim.Native.Nat.{ℕ, zero, suc, _+_, _-_, _*_, _≤_, _<_}
@@ -14,6 +14,7 @@ use lib.ListN.{length, getD, set, drop, replicate, length-set, length-append, le
 use lib.Seq.{getD-append-add, getD-drop}
 use borrow.Author.Fill.{fill-none, fill-more}
 use borrow.Author.Tests.{lt-ltb, le-ltb, le-leb, lt-leb, leb-true}
+use Rattle.field.specs.Branch.{both}
 use Rattle.sheet.specs.Limits.{tableLength}
 use Rattle.interleaving.specs.declared.State.{State}
 use Rattle.interleaving.specs.Instance.{largest}
@@ -85,13 +86,6 @@ module _ (M : List ℕ) (a : ℕ) (s : State) where
   over-none p q r t =
       rw (le-leb (getD M a 0) (s .cost) p, le-leb (getD M (a + 1) 0) (getD (s .free) 0 0) q, le-leb (getD M (a + 2) 0) (getD (s .free) 1 0) r, le-leb (getD M (a + 3) 0) (getD (s .free) 2 0) t)
 
-never : {A : Type 0} → false ≡ true → A
-never e = let z : _≡_ {A = ℕ} 0 1 = cc in absurd (omega arith)
-
-both : (x y : Bool) → (x && y) ≡ true → (x ≡ true) × (y ≡ true)
-both true y e = (refl, e)
-both false y e = never e
-
 -- the label at a dominates s
 pub record LabelDominates (M : List ℕ) (a : ℕ) (s : State) : Type 0 where
   pub cost : getD M a 0 ≤ s .cost
@@ -155,7 +149,7 @@ either false y e = inr e
 
 pub dominated-by : (M : List ℕ) (k : ℕ) (s : State) (n : ℕ) → n ≤ 4 → k ≡ countKey s → dominatedBy M k s n ≡ true → Dominated M s
 unfolding dominatedBy
-dominated-by M k s zero l key e = never e
+dominated-by M k s zero l key e = absurd (false≢true e)
 dominated-by M k s (suc n) l key e = go (either _ _ e) (λ f. dominated-by M k s n (omega arith) key f)
   where
     go : (dominatedBy M k s n ≡ true) ⊎ (labelDominates M (labelPlace k n) s ≡ true) → (dominatedBy M k s n ≡ true → Dominated M s) → Dominated M s
