@@ -14,7 +14,7 @@ use Rattle.sorting.specs.Plan.{instanceOf, leastFigure, jobsOfList, chos
 use Rattle.sorting.specs.Lawful.{chosen-length}
 use Rattle.sorting.specs.Theorems.{sorting-count}
 use Rattle.sorting.specs.Instance.{instance-sound}
-use Rattle.sorting.specs.Writing.{Listed, Written}
+use Rattle.sorting.specs.Writing.{writtenPlan, Listed, Written}
 use Rattle.sorting_search.specs.Found as search
 
 -- a sound section, and a working table of the length that the search takes
@@ -22,8 +22,9 @@ pub record Lent (s : SortingSection) (table : List ℕ) : Type 0 where
   pub sound : SortingSound s
   pub size : length table ≡ tableLength
 
--- the plan holds the chosen jobs and the least figure; the table keeps its length, holds what the search says of it (Used), and is the caller's to clear
+-- the plan is the written one: it holds the chosen jobs and the least figure; the table keeps its length, holds what the search says of it (Used), and is the caller's to clear
 pub record Planned (s : SortingSection) (table after : List ℕ) (r : SortingPlan) : Type 0 where
+  pub plan : r ≡ writtenPlan (instanceOf s)
   pub figure : r .figure ≡ leastFigure s
   pub jobs : jobsOfPlan r ≡ chosenJobs s
   pub count : r .jobs ≡ length (chosenJobs s)
@@ -45,6 +46,7 @@ chosen-is s = refl
 pub planned : {s : SortingSection} {J M N : List ℕ} {b : Incumbent} {r : SortingPlan} → Lent s M → J ≡ instanceOf s → search.Found J M N b → Written J b r → Planned s M N r
 unfolding leastFigure
 planned {s} {J} {M} {N} {b} {r} h e f w = record {
+  plan = w .exact ∙ ap writtenPlan e;
   figure = w .figure ∙ least;
   jobs = w .jobs ∙ ap (λ (x : Incumbent). jobsOfList J (x .path)) (f .found) ∙ same;
   count = count;
