@@ -8,7 +8,7 @@ use native.Mathlib.Omega.{arith}
 use lib.ListN.{length, getD, set, length-set}
 use lib.Seq.{getD-set-same, getD-set-other}
 use Rattle.interleaving.specs.declared.State.{State}
-use Rattle.interleaving.specs.Instance.{Instance, scanOf, deskOf, weightOf, instanceLength, timeCap, weightCap, scannerCap, stripSpan, freeCap, stripCost, costCap, pathCap}
+use Rattle.interleaving.specs.Instance.{Instance, desk-capped, scanOf, deskOf, weightOf, instanceLength, timeCap, weightCap, scannerCap, stripSpan, freeCap, stripCost, costCap, pathCap}
 use Rattle.interleaving.specs.Search.{maxOf, StripLeft, scanned, finish, stepOf}
 use Rattle.interleaving.specs.SearchLaws.{max-least}
 
@@ -54,10 +54,7 @@ module _ (J : List ℕ) (j : Instance J) (s : State) (f : Capped s) (d : ℕ) (p
   scan-small = j .small (d * 6 + getD (s .taken) d 0)
 
   desk-small : deskOf J d (getD (s .taken) d 0) ≤ timeCap
-  desk-small = rw e (j .small (18 + (d * 6 + getD (s .taken) d 0)))
-    where
-      e : 3 + (d * 6 + getD (s .taken) d 0) + 18 ≡ 3 + (18 + (d * 6 + getD (s .taken) d 0))
-      e = omega arith
+  desk-small = desk-capped j d (getD (s .taken) d 0)
 
   finish-small : finish J s d + (s .left - 1) * stripSpan ≤ freeCap
   finish-small =

@@ -61,6 +61,9 @@ zeros (suc zero) = refl
 zeros (suc (suc zero)) = refl
 zeros (suc (suc (suc d))) = refl
 
+pub start-sum : (J : List ℕ) → Instance J → getD J 0 0 + getD J 1 0 + getD J 2 0 ≤ 18
+start-sum J j = omega (arith, j .few 0 (omega arith), j .few 1 (omega arith), j .few 2 (omega arith))
+
 pub consistent-start : (J : List ℕ) → Instance J → Consistent J (startState J)
 unfolding startState scanSum
 consistent-start J j = record {
@@ -79,7 +82,4 @@ consistent-start J j = record {
 }
   where
     few : getD J 0 0 + getD J 1 0 + getD J 2 0 ≤ 18
-    few = omega (arith, j .few 0 (omega arith), j .few 1 (omega arith), j .few 2 (omega arith))
-
-pub start-sum : (J : List ℕ) → Instance J → getD J 0 0 + getD J 1 0 + getD J 2 0 ≤ 18
-start-sum J j = omega (arith, j .few 0 (omega arith), j .few 1 (omega arith), j .few 2 (omega arith))
+    few = start-sum J j

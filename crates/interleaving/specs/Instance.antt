@@ -1,7 +1,8 @@
 -- The sorting section as one list of numbers, which the search reads: strips of each desk, then scan times, desk times and weights, six to a desk. Desks and strips are counted from 0.
 use Prim.Native.Nat.{ℕ, _+_, _*_, _≤_, _<_}
-use mathlib.Core.Path.{_≡_}
+use mathlib.Core.Path.{_≡_, subst}
 use mathlib.Core.List.{List}
+use native.Mathlib.Omega.{arith}
 use lib.ListN.{length, getD}
 
 -- the scan time, the desk time and the weight of strip i of desk d; the number of strips of desk d stands at d
@@ -53,3 +54,9 @@ pub record Instance (J : List ℕ) : Type 0 where
   pub few : (d : ℕ) → d < 3 → getD J d 0 ≤ 6
   pub small : (k : ℕ) → getD J (3 + k) 0 ≤ timeCap
   pub light : (k : ℕ) → getD J (3 + k + 36) 0 ≤ weightCap
+
+pub desk-capped : {J : List ℕ} → Instance J → (d i : ℕ) → deskOf J d i ≤ timeCap
+desk-capped {J} j d i = subst (λ (k : ℕ). getD J k 0 ≤ timeCap) there (j .small (18 + (d * 6 + i)))
+  where
+    there : 3 + (18 + (d * 6 + i)) ≡ 3 + (d * 6 + i) + 18
+    there = omega arith

@@ -40,12 +40,12 @@ unfoldable pub keep : State → Incumbent → Incumbent
 keep s b = cond (ltb (s .cost) (b .figure)) (record { figure = s .cost; path = s .path }) b
 
 -- g 0, then g 1, .. then g (n - 1)
-unfoldable pub overDesks : (ℕ → Incumbent → Incumbent) → ℕ → Incumbent → Incumbent
+unfoldable pub overDesks : {A : Type 0} → (ℕ → A → A) → ℕ → A → A
 overDesks g zero b = b
 overDesks g (suc d) b = g d (overDesks g d b)
 
 -- the search f of what s becomes by desk d, where that desk has a strip left
-unfoldable pub branch : List ℕ → (State → Incumbent → Incumbent) → State → ℕ → Incumbent → Incumbent
+unfoldable pub branch : {A : Type 0} → List ℕ → (State → A → A) → State → ℕ → A → A
 branch J f s d r = cond (ltb (getD (s .taken) d 0) (getD J d 0)) (f (stepOf J s d) r) r
 
 -- the search in desk order, k strips being left

@@ -70,11 +70,11 @@ module _ (J : List ℕ) where
       go (yes l) = rw (lt-ltb _ _ l) (h (stepOf J s d) b)
       go (no l) = rw (le-ltb (getD (s .taken) d 0) (getD J d 0) (omega arith)) (le-refl _)
 
-  pub branch-yes : (f : State → Incumbent → Incumbent) (s : State) (d : ℕ) (b : Incumbent) → StripLeft J s d → branch J f s d b ≡ f (stepOf J s d) b
+  pub branch-yes : {A : Type 0} (f : State → A → A) (s : State) (d : ℕ) (b : A) → StripLeft J s d → branch J f s d b ≡ f (stepOf J s d) b
   unfolding branch
   branch-yes f s d b l = rw (lt-ltb _ _ l)
 
-  pub branch-no : (f : State → Incumbent → Incumbent) (s : State) (d : ℕ) (b : Incumbent) → getD J d 0 ≤ getD (s .taken) d 0 → branch J f s d b ≡ b
+  pub branch-no : {A : Type 0} (f : State → A → A) (s : State) (d : ℕ) (b : A) → getD J d 0 ≤ getD (s .taken) d 0 → branch J f s d b ≡ b
   unfolding branch
   branch-no f s d b l = rw (le-ltb (getD (s .taken) d 0) (getD J d 0) l)
 
@@ -121,24 +121,23 @@ module _ (J : List ℕ) where
   search-leaf s b e = rw e
 
 -- the loop over the desks
-pub over-none : (g : ℕ → Incumbent → Incumbent) (b : Incumbent) → b ≡ overDesks g 0 b
+pub over-none : {A : Type 0} (g : ℕ → A → A) (b : A) → b ≡ overDesks g 0 b
 unfolding overDesks
 over-none g b = refl
 
-pub over-one : (g : ℕ → Incumbent → Incumbent) (d : ℕ) (b : Incumbent) → overDesks g (d + 1) b ≡ g d (overDesks g d b)
+pub over-one : {A : Type 0} (g : ℕ → A → A) (d : ℕ) (b : A) → overDesks g (d + 1) b ≡ g d (overDesks g d b)
 unfolding overDesks
 over-one g d b = rw (add-one d)
 
 module _ (J : List ℕ) where
-  -- a desk that is searched, and a desk that has no strip left
-  pub branch-again-yes : (k : ℕ) (s n : State) (d : ℕ) (b q r : Incumbent) → q ≡ overDesks (branch J (searchFrom J k) s) d b → StripLeft J s d → n ≡ stepOf J s d → r ≡ searchFrom J (n .left) n q → n .left ≡ k
-      → r ≡ overDesks (branch J (searchFrom J k) s) (d + 1) b
-  branch-again-yes k s n d b q r i m e h z =
-      h ∙ ap (λ (j : ℕ). searchFrom J j n q) z ∙ ap (λ (x : State). searchFrom J k x q) e ∙ ap (λ (x : Incumbent). searchFrom J k (stepOf J s d) x) i
-      ∙ sym (over-one (branch J (searchFrom J k) s) d b ∙ branch-yes J (searchFrom J k) s d _ m)
+  -- a desk that is searched, and a desk that has no strip left, for any search f
+  module _ {A : Type 0} (f : State → A → A) (s : State) (d : ℕ) (b q : A) where
+    pub branch-again-yes : (n : State) (r : A) → q ≡ overDesks (branch J f s) d b → StripLeft J s d → n ≡ stepOf J s d → r ≡ f n q → r ≡ overDesks (branch J f s) (d + 1) b
+    branch-again-yes n r i m e h =
+        h ∙ ap (λ (x : State). f x q) e ∙ ap (f (stepOf J s d)) i ∙ sym (over-one (branch J f s) d b ∙ branch-yes J f s d (overDesks (branch J f s) d b) m)
 
-  pub branch-again-no : (k : ℕ) (s : State) (d : ℕ) (b q : Incumbent) → q ≡ overDesks (branch J (searchFrom J k) s) d b → getD J d 0 ≤ getD (s .taken) d 0 → q ≡ overDesks (branch J (searchFrom J k) s) (d + 1) b
-  branch-again-no k s d b q i m = i ∙ sym (over-one (branch J (searchFrom J k) s) d b ∙ branch-no J (searchFrom J k) s d _ m)
+    pub branch-again-no : q ≡ overDesks (branch J f s) d b → getD J d 0 ≤ getD (s .taken) d 0 → q ≡ overDesks (branch J f s) (d + 1) b
+    branch-again-no i m = i ∙ sym (over-one (branch J f s) d b ∙ branch-no J f s d (overDesks (branch J f s) d b) m)
 
   pub step-left : (s : State) (d : ℕ) → stepOf J s d .left ≡ s .left - 1
   unfolding stepOf

@@ -1,5 +1,5 @@
 -- The contract of the planner.
-use mathlib.Core.Path.{_≡_, refl, sym, ap, _∙_}
+use mathlib.Core.Path.{_≡_, refl, sym, ap, subst, _∙_}
 use mathlib.Core.List.{List}
 use Prim.Native.Nat.{ℕ, _≤_}
 use native.Mathlib.Omega.{arith}
@@ -14,43 +14,50 @@ use Rattle.sorting.specs.Plan.{instanceOf, leastFigure, jobsOfList, chos
 use Rattle.sorting.specs.Lawful.{chosen-length}
 use Rattle.sorting.specs.Theorems.{sorting-count}
 use Rattle.sorting.specs.Instance.{instance-sound}
-use Rattle.sorting.specs.Writing.{Listed, Written}
-use Rattle.sorting_search.specs.Table as search
+use Rattle.sorting.specs.Writing.{writtenPlan, Listed, Written}
+use Rattle.sorting_search.specs.Found as search
 
 -- a sound section, and a working table of the length that the search takes
 pub record Lent (s : SortingSection) (table : List ℕ) : Type 0 where
   pub sound : SortingSound s
   pub size : length table ≡ tableLength
 
--- the plan holds the chosen jobs and the least figure; the table keeps its length, and is the caller's to clear
+-- the plan is the written one: it holds the chosen jobs and the least figure; the table keeps its length, holds what the search says of it (Used), and is the caller's to clear
 pub record Planned (s : SortingSection) (table after : List ℕ) (r : SortingPlan) : Type 0 where
+  pub plan : r ≡ writtenPlan (instanceOf s)
   pub figure : r .figure ≡ leastFigure s
   pub jobs : jobsOfPlan r ≡ chosenJobs s
   pub count : r .jobs ≡ length (chosenJobs s)
   pub most : r .jobs ≤ 18
   pub size : length after ≡ length table
+  pub working : search.Used (instanceOf s) table after (leastFigure s)
 
 -- what is known once the instance is written, and once the search is done
 pub lent-search : {s : SortingSection} {J M : List ℕ} → Lent s M → J ≡ instanceOf s → search.Lent J M
 lent-search {s} {J} {M} h e = record { jobs = rw e (instance-sound s (h .sound)); size = h .size }
 
-pub search-listed : {s : SortingSection} {J M : List ℕ} {b : Incumbent} → Lent s M → J ≡ instanceOf s → b ≡ firstBest J → Listed J b
-search-listed {s} {J} {M} {b} h e f = record { jobs = rw e (instance-sound s (h .sound)); best = f }
+pub search-listed : {s : SortingSection} {J M N : List ℕ} {b : Incumbent} → Lent s M → J ≡ instanceOf s → search.Found J M N b → Listed J b
+search-listed {s} {J} {M} {N} {b} h e f = record { jobs = rw e (instance-sound s (h .sound)); best = f .found }
 
 chosen-is : (s : SortingSection) → chosenJobs s ≡ jobsOfList (instanceOf s) (firstBest (instanceOf s) .path)
 unfolding chosenJobs
 chosen-is s = refl
 
-pub planned : {s : SortingSection} {J M N : List ℕ} {b : Incumbent} {r : SortingPlan} → Lent s M → J ≡ instanceOf s → b ≡ firstBest J → Written J b r → length N ≡ length M → Planned s M N r
+pub planned : {s : SortingSection} {J M N : List ℕ} {b : Incumbent} {r : SortingPlan} → Lent s M → J ≡ instanceOf s → search.Found J M N b → Written J b r → Planned s M N r
 unfolding leastFigure
-planned {s} {J} {M} {N} {b} {r} h e f w l = record {
-  figure = w .figure ∙ ap (λ (x : Incumbent). x .figure) (f ∙ ap firstBest e);
-  jobs = w .jobs ∙ ap (λ (x : Incumbent). jobsOfList J (x .path)) f ∙ same;
+planned {s} {J} {M} {N} {b} {r} h e f w = record {
+  plan = w .exact ∙ ap writtenPlan e;
+  figure = w .figure ∙ least;
+  jobs = w .jobs ∙ ap (λ (x : Incumbent). jobsOfList J (x .path)) (f .found) ∙ same;
   count = count;
   most = omega (arith, count, sorting-count s (h .sound));
-  size = l;
+  size = f .table .holds .size ∙ sym (h .size);
+  working = subst (search.Used (instanceOf s) M N) least (subst (λ (x : List ℕ). search.Used x M N (b .figure)) e (f .table));
 }
   where
+    least : b .figure ≡ firstBest (instanceOf s) .figure
+    least = ap (λ (x : Incumbent). x .figure) (f .found ∙ ap firstBest e)
+
     count : r .jobs ≡ length (chosenJobs s)
     count = w .count ∙ ap (λ (x : List ℕ). startState x .left) e ∙ sym (chosen-length s (h .sound))
 

@@ -1,6 +1,6 @@
 -- No lawful timetable has a smaller figure, none with the same scanner list starts anything sooner, and of those with the least figure the chosen one has the first list.
 -- The search's states along a timetable's own list are never later than the timetable.
-use mathlib.Core.Path.{_≡_, refl, sym, ap, subst, _∙_}
+use mathlib.Core.Path.{_≡_, sym, ap, subst, _∙_}
 use mathlib.Core.List.{List}
 use Prim.Native.Nat.{ℕ, zero, suc, _+_, _-_, _*_, _^_, _/_, _≤_, _<_}
 use native.Mathlib.Nat.{le-refl, le-trans, div-mul-le-self, le-div-iff-mul-le, one-le-pow}
@@ -12,6 +12,7 @@ use Rattle.sheet.specs.Sound.{SortingSound}
 use Rattle.rules.specs.declared.Job.{Job}
 use Rattle.rules.specs.Sums.{sumOver}
 use Rattle.rules.specs.Sorting.{jobAt, jobsOf, scanEnd, deskFinish, SortingLawful, sortingFigure}
+use Rattle.rules_laws.specs.SortingRunning.{jobs-same, jobs-mono}
 use Rattle.interleaving.specs.declared.State.{State}
 use Rattle.interleaving.specs.Instance.{Instance, scanOf, deskOf}
 use Rattle.interleaving.specs.Search.{maxOf, scanned, finish, stepOf, startState, noIncumbent, firstBest, Completes}
@@ -20,20 +21,10 @@ use Rattle.interleaving.specs.Consistent.{Consistent, consistent-start}
 use Rattle.interleaving.specs.Completion.{bound-completes, search-first, step-path}
 use Rattle.sorting.specs.Plan.{instanceOf, leastFigure, reached, chosenJobs}
 use Rattle.sorting.specs.Instance.{instance-sound, weight-of}
-use Rattle.sorting.specs.Route.{rises, Serves, reached-same, reached-next, reached-consistent, reached-left, reached-lengths, reached-completes, step-time, step-cost, free-same, free-other, jobs-same, jobs-other, taken-is, path-begins}
+use Rattle.sorting.specs.Route.{Serves, reached-same, reached-next, reached-consistent, reached-left, reached-lengths, reached-rest, path-begins, step-time, step-cost, free-same, free-other, taken-is}
 use Rattle.sorting.specs.Chosen.{chosenDesk, chosenState, chosen}
 use Rattle.sorting.specs.Times.{scan-time, desk-time, strips-of, no-strips, start-taken, start-free, start-time, start-cost}
 use Rattle.sorting.specs.Lawful.{job-start, desk-is, scan-is, start-is}
-
-jobs-next : (js : List Job) (desk i : ℕ) → jobsOf js desk i ≤ jobsOf js desk (suc i)
-jobs-next js desk i = go (ℕ-discrete (jobAt js i .desk) desk)
-  where
-    go : Dec (jobAt js i .desk ≡ desk) → jobsOf js desk i ≤ jobsOf js desk (suc i)
-    go (yes e) = omega (arith, jobs-same js desk i e)
-    go (no e) = omega (arith, jobs-other js desk i e)
-
-jobs-mono : (js : List Job) (desk i k : ℕ) → i ≤ k → jobsOf js desk i ≤ jobsOf js desk k
-jobs-mono js desk i k l = rises (jobsOf js desk) k (λ x m. jobs-next js desk x) i k l (le-refl _)
 
 none-over : (J : List ℕ) (s : State) → Consistent J s → ((d : ℕ) → d < 3 → getD J d 0 ≤ getD (s .taken) d 0) → s .left ≡ 0
 none-over J s g h = omega (arith, g .left, h 0 (omega arith), h 1 (omega arith), h 2 (omega arith))
@@ -67,8 +58,14 @@ module _ (s : SortingSection) (h : SortingSound s) (js : List Job) (law : Sortin
   serves : Serves J (startState J) G (length js)
   serves i l = (
     desk-of-job i l .1,
-    omega (arith, taken i (omega arith) (G i) (desk-of-job i l .1), jobs-same js (G i + 1) i (desk-of-job i l .0), jobs-mono js (G i + 1) (suc i) (length js) (omega arith), all-of (G i) (desk-of-job i l .1) (omega (arith, law .at-desk i l))),
+    omega (arith, taken i (omega arith) (G i) (desk-of-job i l .1), jobs-same js (G i + 1) i (desk-of-job i l .0), later i l, all-of (G i) (desk-of-job i l .1) (omega (arith, law .at-desk i l))),
   )
+    where
+      later : (i : ℕ) → i < length js → jobsOf js (G i + 1) (suc i) ≤ jobsOf js (G i + 1) (length js)
+      later i l = subst (λ (n : ℕ). jobsOf js (G i + 1) (suc i) ≤ jobsOf js (G i + 1) n) there (jobs-mono js (G i + 1) (suc i) (length js - suc i))
+        where
+          there : suc i + (length js - suc i) ≡ length js
+          there = omega arith
 
   consistent : (i : ℕ) → i ≤ length js → Consistent J (T i)
   consistent = reached-consistent J j (startState J) (consistent-start J j) G (length js) serves
@@ -84,8 +81,8 @@ module _ (s : SortingSection) (h : SortingSound s) (js : List Job) (law : Sortin
   lawful-length = omega (arith, reached-left J j (startState J) (consistent-start J j) G (length js) serves (length js) (le-refl _), none-left)
 
   completes : Completes J (startState J .left) (startState J) (T (length js))
-  unfolding Completes
-  completes = reached-completes J j (startState J) (consistent-start J j) G (length js) serves (length js) (le-refl _) (T (length js)) (subst (λ (k : ℕ). Completes J k (T (length js)) (T (length js))) (sym none-left) refl)
+  unfolding reached
+  completes = subst (λ (k : ℕ). Completes J k (startState J) (T (length js))) lawful-length (reached-rest J (startState J) G (length js) serves (length js) 0 (omega arith))
 
   lengths : (i : ℕ) → (length (T i .free) ≡ 3) × (length (T i .taken) ≡ 3)
   lengths = reached-lengths J (startState J) G (consistent-start J j .fits .frees) (consistent-start J j .fits .takens)
@@ -180,7 +177,7 @@ module _ (s : SortingSection) (h : SortingSound s) (js : List Job) (law : Sortin
       -- the digits behind place i cut off
       begins : chosenState J (suc i) .path ≤ T (suc i) .path
       begins =
-          omega (arith, path-begins J (startState J) (chosenDesk J) (suc i) (startState J .left) (omega (arith, lawful-length)) (λ x m. chosen J j .serves x m .0), path-begins J (startState J) G (suc i) (length js) (omega arith) (λ x m. desk-of-job x m .1), shorter)
+          omega (arith, path-begins J (startState J) (chosenDesk J) (startState J .left) (chosen J j .serves) (suc i) (omega (arith, lawful-length)), path-begins J (startState J) G (length js) serves (suc i) (omega arith), shorter)
         where
           whole : chosenState J (startState J .left) .path ≤ T (length js) .path
           whole = omega (arith, first, chosen J j .path)

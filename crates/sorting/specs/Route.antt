@@ -1,24 +1,22 @@
 -- What holds along a way through the search: the states that a list of desks reaches, for any list that serves strips that are there.
 use mathlib.Core.Path.{_≡_, refl, sym, ap, subst, _∙_}
-use mathlib.Core.Bool.{Bool, cond}
 use mathlib.Core.List.{List}
 use Prim.Native.Nat.{ℕ, zero, suc, _+_, _-_, _*_, _^_, _/_, _≤_, _<_}
-use native.Mathlib.Nat.{le-refl, le-trans, mul-assoc, pow-suc, div-eq-of-lt-le}
+use native.Mathlib.Nat.{le-refl, le-trans, div-eq-of-lt-le}
 use native.Mathlib.Decide.{decLt, ℕ-discrete}
 use native.Mathlib.Omega.{arith}
-use lib.Dec.{eqb}
 use lib.ListN.{length, getD, length-set}
 use lib.Seq.{getD-set-same, getD-set-other}
-use borrow.Author.Tests.{eq-eqb, ne-eqb}
 use Rattle.rules.specs.declared.Job.{Job}
 use Rattle.rules.specs.Sums.{sumOver}
 use Rattle.rules.specs.Sorting.{jobAt, jobsOf}
+use Rattle.rules_laws.specs.SortingRunning.{jobs-same, jobs-other}
 use Rattle.interleaving.specs.declared.State.{State}
 use Rattle.interleaving.specs.Instance.{Instance, weightOf}
 use Rattle.interleaving.specs.Search.{StripLeft, scanned, finish, stepOf, Completes}
 use Rattle.interleaving.specs.SearchLaws.{step-left}
 use Rattle.interleaving.specs.Consistent.{Consistent, consistent-step}
-use Rattle.interleaving.specs.Completion.{step-path}
+use Rattle.interleaving.specs.Completion.{path-range}
 use Rattle.sorting.specs.Plan.{reached}
 
 -- what never falls from one place to the next never falls
@@ -69,13 +67,23 @@ module _ (J : List ℕ) (j : Instance J) (s : State) (start : Consistent J s) (f
   reached-left zero l = omega arith
   reached-left (suc i) l = omega (arith, step-left J (reached J s f i) (f i), reached-left i (omega arith), reached-more i (omega arith))
 
-  pub reached-completes : (i : ℕ) → i ≤ n → (e : State) → Completes J (reached J s f i .left) (reached J s f i) e → Completes J (s .left) s e
-  unfolding reached Completes
-  reached-completes zero l e c = c
-  reached-completes (suc i) l e c = reached-completes i (omega arith) e (subst (λ (k : ℕ). Completes J k (reached J s f i) e) (sym more) (f i, h i (omega arith) .0, h i (omega arith) .1, c))
+-- what is reached is completed by the rest of the list
+module _ (J : List ℕ) (s : State) (f : ℕ → ℕ) (n : ℕ) (h : Serves J s f n) where
+  pub reached-rest : (k i : ℕ) → i + k ≡ n → Completes J k (reached J s f i) (reached J s f n)
+  unfolding Completes
+  reached-rest zero i e = ap (reached J s f) (same e)
     where
-      more : reached J s f i .left ≡ suc (stepOf J (reached J s f i) (f i) .left)
-      more = omega (arith, step-left J (reached J s f i) (f i), reached-more i (omega arith))
+      same : i + 0 ≡ n → n ≡ i
+      same e = omega arith
+  reached-rest (suc k) i e =
+      (f i, h i (omega arith) .0, h i (omega arith) .1, subst (λ (x : State). Completes J k x (reached J s f n)) (reached-next J s f i) (reached-rest k (suc i) (omega arith)))
+
+  -- so the beginning of a list is its number without the last digits
+  pub path-begins : (i : ℕ) → i ≤ n → reached J s f n .path / 4 ^ (n - i) ≡ reached J s f i .path
+  path-begins i l = go (path-range J (n - i) (reached J s f i) (reached J s f n) (reached-rest (n - i) i (omega arith)))
+    where
+      go : (reached J s f i .path * 4 ^ (n - i) ≤ reached J s f n .path) × (reached J s f n .path < (reached J s f i .path + 1) * 4 ^ (n - i)) → reached J s f n .path / 4 ^ (n - i) ≡ reached J s f i .path
+      go w = div-eq-of-lt-le (4 ^ (n - i)) (w .0) (w .1)
 
 -- the lists of a state keep their lengths
 pub reached-lengths : (J : List ℕ) (s : State) (f : ℕ → ℕ) → length (s .free) ≡ 3 → length (s .taken) ≡ 3 → (i : ℕ) → (length (reached J s f i .free) ≡ 3) × (length (reached J s f i .taken) ≡ 3)
@@ -126,21 +134,10 @@ module _ (J : List ℕ) (s : State) (d : ℕ) where
   unfolding stepOf
   free-other e n = getD-set-other (s .free) d e (finish J s d) 0 n
 
--- the jobs of a desk among the first so many
+-- no job is among the first none
 pub jobs-none : (js : List Job) (desk : ℕ) → jobsOf js desk 0 ≡ 0
 unfolding jobsOf sumOver
 jobs-none js desk = refl
-
-pub jobs-same : (js : List Job) (desk i : ℕ) → jobAt js i .desk ≡ desk → jobsOf js desk (suc i) ≡ jobsOf js desk i + 1
-unfolding jobsOf sumOver
-jobs-same js desk i e = ap (λ (b : Bool). sumOver i (λ k. cond (eqb (jobAt js k .desk) desk) 1 0) + cond b 1 0) (eq-eqb (jobAt js i .desk) desk e)
-
-pub jobs-other : (js : List Job) (desk i : ℕ) → (jobAt js i .desk ≡ desk → ⊥) → jobsOf js desk (suc i) ≡ jobsOf js desk i
-unfolding jobsOf sumOver
-jobs-other js desk i n = ap (λ (b : Bool). sumOver i (λ k. cond (eqb (jobAt js k .desk) desk) 1 0) + cond b 1 0) (ne-eqb (jobAt js i .desk) desk n) ∙ none
-  where
-    none : sumOver i (λ k. cond (eqb (jobAt js k .desk) desk) 1 0) + 0 ≡ sumOver i (λ k. cond (eqb (jobAt js k .desk) desk) 1 0)
-    none = omega arith
 
 -- the strips taken of a desk are its jobs so far, in a list of jobs with the same desks
 pub taken-is : (J : List ℕ) (s : State) (f : ℕ → ℕ) (js : List Job) (n : ℕ) → length (s .free) ≡ 3 → length (s .taken) ≡ 3 → ((d : ℕ) → getD (s .taken) d 0 ≡ 0) → ((i : ℕ) → i < n → (jobAt js i .desk ≡ f i + 1) × (f i < 3))
@@ -153,35 +150,3 @@ taken-is J s f js n a b z h (suc i) l d p = go (h i (omega arith)) (taken-is J s
     go w before (yes e) =
         omega (arith, subst (λ (y : ℕ). getD (stepOf J (reached J s f i) (f i) .taken) y 0 ≡ getD (reached J s f i .taken) y 0 + 1) (sym e) (taken-same J (reached J s f i) (f i) (omega (arith, reached-lengths J s f a b i))), jobs-same js (d + 1) i (omega (arith, w .0)))
     go w before (no e) = omega (arith, taken-other J (reached J s f i) (f i) d e, jobs-other js (d + 1) i (λ q. e (omega (arith, w .0))))
-
--- where the number of a list goes while it grows by k desks
-module _ (J : List ℕ) (s : State) (f : ℕ → ℕ) where
-  abbrev Grown : ℕ → ℕ → ℕ → Type 0
-  Grown i k m = (reached J s f i .path * 4 ^ k ≤ reached J s f m .path) × (reached J s f m .path < (reached J s f i .path + 1) * 4 ^ k)
-
-  path-grows : (i k m : ℕ) → m ≡ i + k → ((x : ℕ) → x < m → f x < 3) → Grown i k m
-  unfolding reached
-  path-grows i zero m e h = subst (Grown i 0) (same e) (omega arith, omega arith)
-    where
-      same : m ≡ i + 0 → i ≡ m
-      same e = omega arith
-  path-grows i (suc k) m e h = subst (Grown i (suc k)) (sym (next e)) (go (path-grows i k (i + k) refl (λ x l. h x (omega arith))) (h (i + k) (omega arith)))
-    where
-      next : m ≡ i + suc k → m ≡ suc (i + k)
-      next e = omega arith
-
-      four : (a : ℕ) → a * 4 ^ suc k ≡ a * 4 ^ k * 4
-      four a = ap (λ (x : ℕ). a * x) (pow-suc 4 k) ∙ sym (mul-assoc a (4 ^ k) 4)
-
-      go : Grown i k (i + k) → f (i + k) < 3 → Grown i (suc k) (suc (i + k))
-      go w p = (
-        omega (arith, w .0, four (reached J s f i .path), step-path J (reached J s f (i + k)) (f (i + k))),
-        omega (arith, w .1, p, four (reached J s f i .path + 1), step-path J (reached J s f (i + k)) (f (i + k))),
-      )
-
-  -- so the beginning of a list is its number without the last digits
-  pub path-begins : (i n : ℕ) → i ≤ n → ((x : ℕ) → x < n → f x < 3) → reached J s f n .path / 4 ^ (n - i) ≡ reached J s f i .path
-  path-begins i n l h = go (path-grows i (n - i) n (omega arith) h)
-    where
-      go : Grown i (n - i) n → reached J s f n .path / 4 ^ (n - i) ≡ reached J s f i .path
-      go w = div-eq-of-lt-le (4 ^ (n - i)) (w .0) (w .1)

@@ -1,7 +1,7 @@
 -- How the plan is written: one job after another, each from the state that the list has reached.
 use mathlib.Core.Path.{_≡_, refl, sym, ap, subst, _∙_}
 use mathlib.Core.List.{List, [], _∷_, _++_}
-use Prim.Native.Nat.{ℕ, suc, _+_, _-_, _^_, _/_, _%_, _≤_, _<_}
+use Prim.Native.Nat.{ℕ, zero, suc, _+_, _-_, _^_, _/_, _%_, _≤_, _<_}
 use native.Mathlib.Nat.{div-div-eq-div-mul, pow-suc, div-one}
 use native.Mathlib.Numerals.{add-one}
 use native.Mathlib.Omega.{arith}
@@ -45,6 +45,14 @@ withJob J s d p = record {
   start = set (p .start) (p .jobs) (maxOf (getD (s .free) d 0) (scanned J s d));
 }
 
+-- the plan of the chosen list with its first i jobs written, and with all of them
+unfoldable pub writtenTo : List ℕ → ℕ → SortingPlan
+writtenTo J zero = record { figure = firstBest J .figure; jobs = 0; desk = replicate 18 0; number = replicate 18 0; scan = replicate 18 0; start = replicate 18 0 }
+writtenTo J (suc i) = withJob J (chosenState J i) (chosenDesk J i) (writtenTo J i)
+
+abbrev pub writtenPlan : List ℕ → SortingPlan
+writtenPlan J = writtenTo J (startState J .left)
+
 pub record Appending (J : List ℕ) (s : State) (d : ℕ) (p : SortingPlan) : Type 0 where
   pub serves : CanServe J s d
   pub room : p .jobs < 18
@@ -67,6 +75,7 @@ pub record Listed (J : List ℕ) (b : Incumbent) : Type 0 where
   pub best : b ≡ firstBest J
 
 pub record Written (J : List ℕ) (b : Incumbent) (r : SortingPlan) : Type 0 where
+  pub exact : r ≡ writtenPlan J
   pub figure : r .figure ≡ b .figure
   pub jobs : jobsOfPlan r ≡ jobsOfList J (b .path)
   pub count : r .jobs ≡ startState J .left
@@ -90,17 +99,19 @@ pub record Begun (J : List ℕ) (b : Incumbent) (p : SortingPlan) (s : State) : 
   pub best : b ≡ firstBest J
   pub within : p .jobs ≤ startState J .left
   pub state : s ≡ chosenState J (p .jobs)
+  pub exact : p ≡ writtenTo J (p .jobs)
   pub sized : Sized p
   pub figure : p .figure ≡ b .figure
   pub listed : listed (p .jobs) (planJob p) ≡ listed (p .jobs) (chosenJob J)
 
 pub begun-start : {J : List ℕ} {b : Incumbent} {s : State} → Listed J b → s ≡ startState J → Begun J b (record { figure = b .figure; jobs = 0; desk = replicate 18 0; number = replicate 18 0; scan = replicate 18 0; start = replicate 18 0 }) s
-unfolding reached listed
+unfolding reached listed writtenTo
 begun-start h e = record {
   jobs = h .jobs;
   best = h .best;
   within = omega arith;
   state = e;
+  exact = ap (λ (x : Incumbent). record { figure = x .figure; jobs = 0; desk = replicate 18 0; number = replicate 18 0; scan = replicate 18 0; start = replicate 18 0 }) (h .best);
   sized = record { desk = refl; number = refl; scan = refl; start = refl };
   figure = refl;
   listed = refl;
@@ -196,12 +207,18 @@ module _ {J : List ℕ} {b : Incumbent} {p : SortingPlan} {s : State} {digit : �
   unfolding listed
   jobs-are h w = with-job-listed J s (digit - 1) p (h .sized) (w .room) ∙ ap (λ (l : List Job). l ++ (jobOf J s (digit - 1) ∷ [])) (h .listed) ∙ ap (λ (x : Job). listed (p .jobs) (chosenJob J) ++ (x ∷ [])) (job-is h w)
 
+  plan-is : Begun J b p s → Next J p s digit → withJob J s (digit - 1) p ≡ writtenTo J (suc (p .jobs))
+  unfolding writtenTo
+  plan-is h w =
+      ap (withJob J s (digit - 1)) (h .exact) ∙ ap (λ (x : State). withJob J x (digit - 1) (writtenTo J (p .jobs))) (h .state) ∙ ap (λ (d : ℕ). withJob J (chosenState J (p .jobs)) d (writtenTo J (p .jobs))) (w .desk)
+
   begun-next : Begun J b p s → Next J p s digit → Begun J b (withJob J s (digit - 1) p) (stepOf J s (digit - 1))
   begun-next h w = record {
     jobs = h .jobs;
     best = h .best;
     within = omega (arith, with-job-jobs J s (digit - 1) p (h .sized) (w .room), w .more);
     state = state-is h w ∙ ap (chosenState J) (sym next);
+    exact = plan-is h w ∙ ap (writtenTo J) (sym next);
     sized = with-job-sized J s (digit - 1) p (h .sized) (w .room);
     figure = with-job-figure J s (digit - 1) p (h .sized) (w .room) ∙ h .figure;
     listed = ap (λ (n : ℕ). listed n (planJob (withJob J s (digit - 1) p))) next ∙ jobs-are h w ∙ ap (λ (n : ℕ). listed n (chosenJob J)) (sym next);
@@ -233,6 +250,7 @@ module _ {J : List ℕ} {b : Incumbent} {p : SortingPlan} {s : State} {digit : �
 pub begun-end : {J : List ℕ} {b : Incumbent} {p : SortingPlan} {s : State} → Begun J b p s → s .left ≤ 0 → Written J b p
 unfolding jobsOfPlan jobsOfList
 begun-end {J} {b} {p} {s} h l = record {
+  exact = h .exact ∙ ap (writtenTo J) count;
   figure = h .figure;
   jobs = h .listed ∙ ap (λ (n : ℕ). listed n (chosenJob J)) count ∙ ap (λ (x : Incumbent). jobsOfList J (x .path)) (sym (h .best));
   count = count;

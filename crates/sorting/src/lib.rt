@@ -1,5 +1,4 @@
 // The sorting planner: the first best interleaving of a section, as a plan.
-ghost use mathlib.Core.Path.{_≡_};
 ghost use Rattle.sorting.specs.Contracts.{Lent, Planned};
 use sheet::SortingSection;
 

@@ -1,7 +1,5 @@
 // The search of the sorting planner for C, so that bench/ can time it by itself.
-ghost use mathlib.Core.Path.{_≡_};
-ghost use Rattle.interleaving.specs.Search.{firstBest};
-ghost use Rattle.sorting_search.specs.Table.{Lent};
+ghost use Rattle.sorting_search.specs.Found.{Lent, Found};
 
 // The figure and the number of the scanner list of an interleaving.
 #[repr(C)]
@@ -10,11 +8,11 @@ pub struct Interleaving {
     pub path: u64,
 }
 
-// The first best interleaving.
+// The first best interleaving. The caller clears the table.
 #[no_mangle]
 pub extern "C" fn sorting_best(jobs: &[u64], table: &mut [u64]) -> Interleaving
     requires { ⌜ Lent (now jobs) (now table) ⌝ }
-    ensures { λ r. ⌜ (r .figure ≡ firstBest (now (jobs .entry)) .figure) × (r .path ≡ firstBest (now (jobs .entry)) .path) ⌝ }
+    ensures { λ r. ⌜ Found (now (jobs .entry)) (now (table .entry)) (now (table .exit)) (record { figure = r .figure; path = r .path }) ⌝ }
 {
     let best = sorting_search::best_interleaving(jobs, table);
     Interleaving {

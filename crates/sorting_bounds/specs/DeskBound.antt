@@ -1,5 +1,5 @@
 -- The first lower bound: the cost so far, and the rest of each desk as if the scanner served that desk alone. A step never lowers it.
-use mathlib.Core.Path.{_≡_, refl, ap, subst, _∙_}
+use mathlib.Core.Path.{_≡_, refl, ap, _∙_}
 use mathlib.Core.List.{List}
 use Prim.Native.Nat.{ℕ, zero, suc, _+_, _-_, _*_, _≤_, _<_}
 use native.Mathlib.Nat.{le-refl, le-trans, mul-le-mul-left, mul-le-mul-right}
@@ -7,7 +7,7 @@ use native.Mathlib.Omega.{arith}
 use lib.ListN.{length, getD}
 use lib.Seq.{getD-set-same, getD-set-other}
 use Rattle.interleaving.specs.declared.State.{State}
-use Rattle.interleaving.specs.Instance.{Instance, scanOf, deskOf, weightOf, instanceLength, timeCap, scannerCap, stripSpan, freeCap}
+use Rattle.interleaving.specs.Instance.{Instance, desk-capped, scanOf, deskOf, weightOf, instanceLength, timeCap, scannerCap, stripSpan, freeCap}
 use Rattle.interleaving.specs.Search.{maxOf, StripLeft, scanned, finish, stepOf, LowerBound}
 use Rattle.interleaving.specs.SearchLaws.{max-left, max-right, max-least, step-left, bound-down}
 use Rattle.interleaving.specs.Consistent.{Consistent, consistent-step}
@@ -132,10 +132,7 @@ module _ (J : List ℕ) (j : Instance J) (s : State) (g : Consistent J s) (d : �
 module _ (J : List ℕ) (j : Instance J) (z d : ℕ) where
   module _ (i t f sum : ℕ) (h : RestSoFar J z d i t f sum) (l : i < getD J d 0) where
     pub strip-small : (scanOf J d i ≤ timeCap) × (deskOf J d i ≤ timeCap)
-    strip-small = (j .small (d * 6 + i), subst (λ (k : ℕ). getD J k 0 ≤ timeCap) e (j .small (18 + (d * 6 + i))))
-      where
-        e : 3 + (18 + (d * 6 + i)) ≡ 3 + (d * 6 + i) + 18
-        e = omega arith
+    strip-small = (j .small (d * 6 + i), desk-capped j d i)
 
     pub later-small : maxOf f (t + scanOf J d i) ≤ freeCap + i * stripSpan + timeCap
     later-small = max-least f (t + scanOf J d i) _ (omega (arith, h .free)) (omega (arith, h .time, strip-small))

@@ -16,6 +16,10 @@ countKey s = (getD (s .taken) 0 0 * 7 + getD (s .taken) 1 0) * 7 + getD (s .take
 abbrev pub labelsLength : ℕ
 labelsLength = 5_488
 
+-- and those that the search uses: behind the labels the scanner's entry of each of the 343 count vectors
+abbrev pub searchLength : ℕ
+searchLength = 5_831
+
 pub key-digits : (J : List ℕ) → Instance J → (s : State) → Consistent J s → (getD (s .taken) 0 0 ≤ 6) × (getD (s .taken) 1 0 ≤ 6) × (getD (s .taken) 2 0 ≤ 6)
 key-digits J j s g = (few 0 (omega arith), few 1 (omega arith), few 2 (omega arith))
   where

@@ -13,9 +13,9 @@ use lib.Seq.{getD-set-same, getD-set-other}
 use borrow.Author.Tests.{lt-ltb, le-ltb, le-leb, lt-leb}
 use Rattle.sheet.specs.Limits.{tableLength}
 use Rattle.interleaving.specs.declared.State.{State}
-use Rattle.interleaving.specs.Instance.{Instance, scanOf, deskOf, weightOf, timeCap, scannerCap}
+use Rattle.interleaving.specs.Instance.{Instance, desk-capped, scanOf, deskOf, weightOf, timeCap, scannerCap}
 use Rattle.interleaving.specs.Consistent.{Consistent, scanSum}
-use Rattle.sorting_bounds.specs.Layout.{countKey, labelsLength}
+use Rattle.sorting_bounds.specs.Layout.{countKey, labelsLength, searchLength}
 use Rattle.sorting_bounds.specs.DeskBound.{boundCap}
 use Rattle.sorting_bounds.specs.ScannerBound.{entryCap, firstCount, secondCount, thirdCount, timeAt, share, entryAt, lesserOf, throughOf, entryOf, filledFrom, Entry, EntriesFrom, scannerBound}
 
@@ -87,10 +87,7 @@ strip-sums {J} {time} {d} {i} h = record {
     small-scan = h .jobs .small (d * 6 + i)
 
     small-desk : deskOf J d i ≤ timeCap
-    small-desk = subst (λ (k : ℕ). getD J k 0 ≤ timeCap) e (h .jobs .small (18 + (d * 6 + i)))
-      where
-        e : 3 + (18 + (d * 6 + i)) ≡ 3 + (d * 6 + i) + 18
-        e = omega arith
+    small-desk = desk-capped (h .jobs) d i
 
 lesser-least : (a b : ℕ) → (lesserOf a b ≤ a) × (lesserOf a b ≤ b)
 unfolding lesserOf
@@ -197,12 +194,13 @@ entry-of J M k = go (decLt (firstCount k + secondCount k + thirdCount k) (getD J
     })
     go (no l) = rw (le-leb (getD J 0 0 + getD J 1 0 + getD J 2 0) (firstCount k + secondCount k + thirdCount k) (omega arith)) (record { capped = omega arith; first = λ m. omega arith; second = λ m. omega arith; third = λ m. omega arith; full = λ p q r. omega arith })
 
--- fill_scanner_table: the entries from k on are there, and the labels are as they were
+-- fill_scanner_table: the entries from k on are there, and the numbers before and behind all entries are as they were
 pub record Filled (J M₀ M : List ℕ) (k : ℕ) : Type 0 where
   pub within : k ≤ 343
   pub size : length M ≡ tableLength
   pub entries : EntriesFrom J M k
   pub labels : (i : ℕ) → i < labelsLength → getD M i 0 ≡ getD M₀ i 0
+  pub rest : (i : ℕ) → searchLength ≤ i → getD M i 0 ≡ getD M₀ i 0
 
 fill-more : {J M₀ M : List ℕ} {k v : ℕ} → Filled J M₀ M k → 0 < k → Entry J M (k - 1) v → Filled J M₀ (set M (labelsLength + (k - 1)) v) (k - 1)
 unfolding EntriesFrom
@@ -211,6 +209,7 @@ fill-more {J} {M₀} {M} {k} {v} f l e = record {
   size = simp length-set (f .size);
   entries = λ x p q. go x p q (ℕ-discrete x (k - 1));
   labels = λ i p. getD-set-other M (labelsLength + (k - 1)) i v 0 (λ w. omega arith) ∙ f .labels i p;
+  rest = λ i p. getD-set-other M (labelsLength + (k - 1)) i v 0 (λ w. omega (arith, f .within)) ∙ f .rest i p;
 }
   where
     N : List ℕ
@@ -237,7 +236,7 @@ fill-more {J} {M₀} {M} {k} {v} f l e = record {
 
 pub filled : (J M : List ℕ) → length M ≡ tableLength → (n : ℕ) → n ≤ 343 → Filled J M (filledFrom J M n) (343 - n)
 unfolding filledFrom EntriesFrom
-filled J M size zero l = record { within = omega arith; size = size; entries = λ x p q. absurd (omega arith); labels = λ i p. refl }
+filled J M size zero l = record { within = omega arith; size = size; entries = λ x p q. absurd (omega arith); labels = λ i p. refl; rest = λ i p. refl }
 filled J M size (suc n) l =
     subst (Filled J M (set (filledFrom J M n) (labelsLength + (342 - n)) (entryOf J (filledFrom J M n) (342 - n)))) here
     (subst (λ (k : ℕ). Filled J M (set (filledFrom J M n) (labelsLength + k) (entryOf J (filledFrom J M n) k)) k) there

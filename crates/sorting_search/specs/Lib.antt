@@ -1,4 +1,5 @@
--- The search with its cuts: the dominance memory, the working table, the greedy start.
-pub mod Labels
+-- The search with its cuts: its definition, its table, the greedy start, what it finds.
+pub mod CutSearch
 pub mod Table
 pub mod Greedy
+pub mod Found

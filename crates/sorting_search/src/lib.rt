@@ -1,24 +1,23 @@
 // The search over interleavings with its cuts: it returns what the search without cuts returns.
 ghost use mathlib.Core.Path.{_≡_};
-ghost use mathlib.Core.Bool.{true};
-ghost use Rattle.interleaving.specs.Search.{LowerBound, firstBest};
-ghost use Rattle.sorting_search.specs.Table.{Searchable, Searched, Cuttable, Lent};
+ghost use Rattle.sorting_search.specs.CutSearch.{isCut};
+ghost use Rattle.sorting_search.specs.Table.{Searchable, Searched, Cuttable};
+ghost use Rattle.sorting_search.specs.Found.{Lent, Found};
 use interleaving::Incumbent;
 use interleaving::State;
 
 mod greedy;
-mod labels;
 
-// Whether no completion of s, whose count vector has the number k, is below the figure: by the scanner's bound, a label or the desks' bound.
+// Whether the scanner's bound, a label or the desks' bound shows that no completion of s, whose count vector has the number k, is below the figure.
 fn cut(jobs: &[u64], s: State, k: usize, figure: u64, m: &[u64]) -> bool
     requires { ⌜ Cuttable (now jobs) s k figure (now m) ⌝ }
-    ensures { λ r. ⌜ (r ≡ true → LowerBound (now (jobs .entry)) (s .left) s figure) ⌝ }
+    ensures { λ r. ⌜ r ≡ isCut (now (jobs .entry)) (now (m .entry)) s figure ⌝ }
 {
     let by_scanner = sorting_bounds::scanner_bound::scanner_bound(jobs, s, k, m);
     if figure <= by_scanner {
         return true;
     }
-    if labels::dominated(s, k, m) {
+    if sorting_labels::dominated(s, k, m) {
         return true;
     }
     let by_desks = sorting_bounds::desk_bound::desk_bound(jobs, s);
@@ -31,12 +30,12 @@ fn cut(jobs: &[u64], s: State, k: usize, figure: u64, m: &[u64]) -> bool
 // The best of b and of all completions of s, in desk order. A node's label is stored once the node is explored.
 fn search(jobs: &[u64], s: State, b: Incumbent, m: &mut [u64]) -> Incumbent
     requires { ⌜ Searchable (now jobs) s (b .figure) (now m) ⌝ }
-    ensures { λ r. ⌜ Searched (now (jobs .entry)) s b (now (m .exit)) r ⌝ }
+    ensures { λ r. ⌜ Searched (now (jobs .entry)) s b (now (m .entry)) (now (m .exit)) r ⌝ }
 {
     if s.left == 0 {
         return interleaving::keep_better(s, b);
     }
-    let k = labels::count_key(jobs, s);
+    let k = sorting_labels::count_key(jobs, s);
     if cut(jobs, s, k, b.figure, m) {
         return b;
     }
@@ -49,16 +48,16 @@ fn search(jobs: &[u64], s: State, b: Incumbent, m: &mut [u64]) -> Incumbent
         }
         d += 1;
     }
-    labels::store_label(s, k, m);
+    sorting_labels::store_label(s, k, m);
     r
 }
 
-// The first best interleaving. The search starts from a greedy figure plus one, which the greedy list itself is below.
+// The first best interleaving. The search starts from a greedy figure plus one, which the greedy list itself is below. The caller clears the table.
 pub fn best_interleaving(jobs: &[u64], m: &mut [u64]) -> Incumbent
     requires { ⌜ Lent (now jobs) (now m) ⌝ }
-    ensures { λ r. ⌜ r ≡ firstBest (now (jobs .entry)) ⌝ }
+    ensures { λ r. ⌜ Found (now (jobs .entry)) (now (m .entry)) (now (m .exit)) r ⌝ }
 {
-    labels::clear_labels(m);
+    sorting_labels::clear_labels(m);
     sorting_bounds::scanner_bound::fill_scanner_table(jobs, m);
     let s = interleaving::start_state(jobs);
     let g = greedy::greedy(jobs, s, m);

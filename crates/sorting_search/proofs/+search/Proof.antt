@@ -1,6 +1,7 @@
--- `sorting_search::search` meets its contract, by the number of strips left, which falls. The loop's invariant: what the search without cuts has
--- after the desks passed, and the table holds for it. A cut keeps the incumbent, as the search without cuts does; the label is stored once the loop is through.
-use Rattle.sorting_search.specs.Table.{Branched, cuttable, searched-leaf, searched-cut, branched-none, branched-yes, branched-no, branched-same, can-serve, step-less, searchable-step, searched-all}
+-- `sorting_search::search` meets its contract, by the number of strips left, which falls. The loop's invariant: incumbent and table are those of the search with its cuts
+-- after the desks passed, the incumbent is that of the search without cuts, and the table holds for it. A cut keeps the incumbent, as the search without cuts does;
+-- the label is stored once the loop is through.
+use Rattle.sorting_search.specs.Table.{Branched, searched-leaf, searched-cut, branched-none, branched-yes, branched-no, branched-same, can-serve, step-less, searchable-step, searched-all}
 use Prim.Native.Nat.{_-_}
 use borrow.Author.Tests.{ltb-true, ltb-false}
 use mathlib.Core.Logic.{⊎-elim}
@@ -17,8 +18,8 @@ use Rattle.interleaving.proofs.keep_better.Reads as keep-better-reads
 use Rattle.interleaving.proofs.step.Reads as step-reads
 use Rattle.interleaving.proofs.strip_left.Reads as strip-left-reads
 use Rattle.sorting_search.proofs.cut.Reads as cut-reads
-use Rattle.sorting_search.proofs.labels.count_key.Reads as count-key-reads
-use Rattle.sorting_search.proofs.labels.store_label.Reads as store-label-reads
+use Rattle.sorting_labels.proofs.count_key.Reads as count-key-reads
+use Rattle.sorting_labels.proofs.store_label.Reads as store-label-reads
 use Rattle.sorting_search.proofs.+search.{statement}
 use Rattle.sorting_search.proofs.+search.Tie.{close}
 
@@ -50,7 +51,7 @@ claims t = (
 )
 
 abbrev search-Inv-loop : search-lts.InvT-loop
-search-Inv-loop jobs s m₀ k r₀ d₀ m r d = Branched jobs s r₀ m d r
+search-Inv-loop jobs s m₀ k r₀ d₀ m r d = Branched jobs s r₀ m₀ m d r
 
 abbrev search-μ-loop : search-lts.MeasureT-loop
 search-μ-loop jobs s m₀ k r₀ d₀ m r d = 3 - d
@@ -65,7 +66,7 @@ search-count-key-requires : (t : ℕ) → search-lts.Need-count-key-requires (cl
 search-count-key-requires t c κs = search needs
 
 search-cut-requires : (t : ℕ) → search-lts.Need-cut-requires (claims t) (search-at t) search′.Post search-Inv-loop search-μ-loop
-search-cut-requires t c κs = search cuttable
+search-cut-requires t c κs = search needs
 
 search-same-length : (t : ℕ) → search-lts.Need-same-length (claims t) (search-at t) search′.Post search-Inv-loop search-μ-loop
 search-same-length t c = search needs

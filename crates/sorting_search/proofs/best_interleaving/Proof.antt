@@ -1,6 +1,6 @@
 -- `sorting_search::best_interleaving` meets its contract: the table holds at the start, and the search from the greedy figure plus one returns
 -- what it returns from no incumbent.
-use Rattle.sorting_search.specs.Greedy.{bounded-start, searchable-start, searched-start}
+use Rattle.sorting_search.specs.Found.{bounded-start, searchable-start, found}
 use borrow.Author.Needs.{needs}
 use Rattle.sorting_search.proofs.best_interleaving.Statement.{statement}
 use Rattle.sorting_search.proofs.best_interleaving.Tie as tie
@@ -15,7 +15,7 @@ start-state-requires : tie.Need-start-state-requires
 start-state-requires c κs = search needs
 
 greedy-requires : tie.Need-greedy-requires
-greedy-requires c κs = bounded-start (c .before .before .before .before .before .before .before .before .before .before .before .before .pre .jobs) (c .before .before .before .before .before .before .before .before .clear-labels .ensures) (c .before .before .before .before .fill-scanner-table .ensures) (c .before .start-state .ensures)
+greedy-requires c κs = search bounded-start
 
 add-t13 : tie.Need-add-t13
 add-t13 c = search needs
@@ -27,7 +27,7 @@ same-length : tie.Need-same-length
 same-length c = search needs
 
 returns : tie.Need-returns
-returns c = search searched-start
+returns c = search found
 
 pub best-interleaving-spec : {M : Type 1} → statement M
 best-interleaving-spec =

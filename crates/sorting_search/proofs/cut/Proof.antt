@@ -1,6 +1,5 @@
--- `sorting_search::cut` meets its contract: each of its three tests is one law that the figure bounds the state from below.
-use Rattle.sorting_search.specs.Table.{cut-by-scanner, cut-by-label, cut-by-desks}
-use Rattle.sorting_search.specs.Labels.{never}
+-- `sorting_search::cut` meets its contract: each of its three tests is one law.
+use Rattle.sorting_search.specs.Table.{cut-by-scanner, cut-by-label, cut-by-desks, cut-by-none}
 use borrow.Author.Needs.{needs}
 use Rattle.sorting_search.proofs.cut.Statement.{statement}
 use Rattle.sorting_search.proofs.cut.Tie as tie
@@ -24,7 +23,7 @@ returns-3 : tie.Need-returns-3
 returns-3 c = search cut-by-desks
 
 returns-4 : tie.Need-returns-4
-returns-4 c = never
+returns-4 c = search cut-by-none
 
 pub cut-spec : {M : Type 1} → statement M
 cut-spec =

@@ -1,5 +1,5 @@
 -- `sorting_search::greedy::better_desk` meets its contract: both desks have a strip left where they are compared.
-use Rattle.sorting_search.specs.Greedy.{serve-if, bounded-step}
+use Rattle.sorting_search.specs.Greedy.{serve-if, bounded-step, better-other, better-chosen, better-none}
 use borrow.Author.Needs.{needs}
 use Rattle.sorting_search.proofs.greedy.better_desk.Statement.{statement}
 use Rattle.sorting_search.proofs.greedy.better_desk.Tie as tie
@@ -20,13 +20,13 @@ lower-bound-requires-2 : tie.Need-lower-bound-requires-2
 lower-bound-requires-2 c κs = search (bounded-step, serve-if)
 
 returns : tie.Need-returns
-returns c = search serve-if
+returns c = search better-other
 
 returns-2 : tie.Need-returns-2
-returns-2 c = search needs
+returns-2 c = search better-chosen
 
 returns-3 : tie.Need-returns-3
-returns-3 c = search needs
+returns-3 c = search better-none
 
 pub better-desk-spec : {M : Type 1} → statement M
 better-desk-spec =

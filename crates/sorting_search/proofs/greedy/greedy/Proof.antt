@@ -1,6 +1,6 @@
--- `sorting_search::greedy::greedy` meets its contract. The loop's invariant: what completes the present state completes the first.
-use borrow.Author.Needs.{needs}
-use Rattle.sorting_search.specs.Greedy.{Leads, leads-start, leads-going, leads-step, leads-less, leads-end}
+-- `sorting_search::greedy::greedy` meets its contract. The loop's invariant: the greedy list of the present state is the rest of that of the first.
+use Rattle.sorting_search.specs.Greedy.{Leads, leads-start, leads-going, leads-serves, leads-step, leads-less, leads-end}
+use native.Mathlib.Omega.{arith}
 use Rattle.sorting_search.proofs.greedy.greedy.Statement.{statement}
 use Rattle.sorting_search.proofs.greedy.greedy.Tie as tie
 
@@ -17,7 +17,7 @@ greedy-desk-requires : tie.Need-greedy-desk-requires Inv-loop μ-loop
 greedy-desk-requires c κs = search leads-going
 
 step-requires : tie.Need-step-requires Inv-loop μ-loop
-step-requires c κs = search needs
+step-requires c κs = search leads-serves
 
 loop-less : tie.Need-loop-less Inv-loop μ-loop
 loop-less c = search leads-less
@@ -26,7 +26,7 @@ loop-again : tie.Need-loop-again Inv-loop μ-loop
 loop-again c = search leads-step
 
 returns : tie.Need-returns Inv-loop μ-loop
-returns c = search leads-end
+returns c = leads-end (c .before .before .loop .inv) (omega arith)
 
 pub greedy-spec : {M : Type 1} → statement M
 greedy-spec =

@@ -1,4 +1,5 @@
 -- `sorting_search::greedy::lower_bound` meets its contract: the greater of what its two callees return.
+use Rattle.sorting_search.specs.Greedy.{boundOf}
 use borrow.Author.Needs.{needs}
 use Rattle.sorting_search.proofs.greedy.lower_bound.Statement.{statement}
 use Rattle.sorting_search.proofs.greedy.lower_bound.Tie as tie
@@ -16,6 +17,7 @@ later-requires : tie.Need-later-requires
 later-requires c κs = search needs
 
 returns : tie.Need-returns
+unfolding boundOf
 returns c = cc
 
 pub lower-bound-spec : {M : Type 1} → statement M

@@ -1,18 +1,20 @@
--- `sorting_search::labels::dominated` meets its contract: it says so only of a label that dominates.
-use Rattle.sorting_search.specs.Labels.{never}
-use Prim.Native.Nat.{_≤_, _-_}
+-- `sorting_labels::dominated` meets its contract. The loop's invariant: no label passed dominates the state.
+use Rattle.sorting_labels.specs.Labels.{dominatedBy, dominated-none, dominated-not, dominated-at, dominated-all}
+use mathlib.Core.Path.{_≡_}
+use mathlib.Core.Bool.{false}
+use Prim.Native.Nat.{_≤_, _<_, _-_}
 use native.Mathlib.Omega.{arith}
-use Rattle.sorting_search.proofs.labels.dominated.Statement.{statement}
-use Rattle.sorting_search.proofs.labels.dominated.Tie as tie
+use Rattle.sorting_labels.proofs.dominated.Statement.{statement}
+use Rattle.sorting_labels.proofs.dominated.Tie as tie
 
 abbrev Inv-loop : tie.InvT-loop
-Inv-loop s k m j₀ j = j ≤ 4
+Inv-loop s k m j₀ j = (j ≤ 4) × (dominatedBy m k s j ≡ false)
 
 abbrev μ-loop : tie.MeasureT-loop
 μ-loop s k m j₀ j = 4 - j
 
 loop-holds : tie.Need-loop-holds Inv-loop μ-loop
-loop-holds c = omega arith
+loop-holds c = (omega arith, dominated-none _ _ _)
 
 mul-label-dominates : tie.Need-mul-label-dominates Inv-loop μ-loop
 mul-label-dominates c = omega arith
@@ -27,7 +29,7 @@ label-dominates-requires : tie.Need-label-dominates-requires Inv-loop μ-loop
 label-dominates-requires c κs = omega arith
 
 returns : tie.Need-returns Inv-loop μ-loop
-returns c = λ _. record { slot = c .before .before .before .loop .j; few = omega arith; under = rw (c .before .before .before .before .before .pre .0) at (c .before .label-dominates .ensures (c .if1 .taken)) }
+returns c = let l : c .before .before .before .loop .j < 4 = omega arith in search dominated-at
 
 add-j : tie.Need-add-j Inv-loop μ-loop
 add-j c = omega arith
@@ -36,10 +38,10 @@ loop-less : tie.Need-loop-less Inv-loop μ-loop
 loop-less c = omega arith
 
 loop-again : tie.Need-loop-again Inv-loop μ-loop
-loop-again c = omega arith
+loop-again c = (omega arith, search dominated-not)
 
 returns-2 : tie.Need-returns-2 Inv-loop μ-loop
-returns-2 c = never
+returns-2 c = search dominated-all
 
 pub dominated-spec : {M : Type 1} → statement M
 dominated-spec =

@@ -1,9 +1,9 @@
--- `sorting_search::labels::count_key` meets its contract: each count is at most 6.
+-- `sorting_labels::count_key` meets its contract: each count is at most 6.
 use Rattle.sorting_bounds.specs.Layout.{key-digits}
 use native.Mathlib.Omega.{arith}
 use borrow.Author.Needs.{needs}
-use Rattle.sorting_search.proofs.labels.count_key.Statement.{statement}
-use Rattle.sorting_search.proofs.labels.count_key.Tie as tie
+use Rattle.sorting_labels.proofs.count_key.Statement.{statement}
+use Rattle.sorting_labels.proofs.count_key.Tie as tie
 
 array-read-result : tie.Need-array-read-result
 array-read-result c = search needs

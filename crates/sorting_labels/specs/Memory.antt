@@ -1,7 +1,6 @@
--- The dominance memory: for each count vector four labels, each the cost and the desks' free times of a state that was explored. A state that a label dominates
--- has no completion below the label's, so what a label dominates is bounded by the incumbent. That is the memory's invariant: it is stated by its use.
+-- The dominance memory. A state that a label dominates has no completion below those of the label's state, and a label is stored once its state is explored:
+-- so what a label dominates is bounded by the incumbent. That is the memory's invariant: it is stated by its use.
 use mathlib.Core.Path.{_≡_, sym, ap, subst, _∙_}
-use mathlib.Core.Bool.{true, false}
 use mathlib.Core.List.{List}
 use Prim.Native.Nat.{ℕ, zero, suc, _+_, _-_, _*_, _≤_, _<_}
 use native.Mathlib.Nat.{le-trans, mul-le-mul-left}
@@ -12,15 +11,12 @@ use lib.Seq.{getD-set-same, getD-set-other, ext-getD}
 use Rattle.sheet.specs.Limits.{tableLength}
 use Rattle.interleaving.specs.declared.State.{State}
 use Rattle.interleaving.specs.declared.Incumbent.{Incumbent}
-use Rattle.interleaving.specs.Instance.{largest, Instance, deskOf, weightOf}
+use Rattle.interleaving.specs.Instance.{Instance, deskOf, weightOf}
 use Rattle.interleaving.specs.Search.{maxOf, scanned, finish, stepOf, searchFrom, LowerBound}
 use Rattle.interleaving.specs.SearchLaws.{max-left, max-right, max-least, bound-down, search-bound, search-falls}
 use Rattle.interleaving.specs.Consistent.{Consistent, sum3, scanSum}
 use Rattle.sorting_bounds.specs.Layout.{countKey, labelsLength, key-digits}
-
--- a number that no label has
-abbrev pub noLabel : ℕ
-noLabel = largest
+use Rattle.sorting_labels.specs.Labels.{noLabel, labelPlace, LabelDominates, Dominated, storeLabel, costliest, costliest-few, withLabel}
 
 -- s dominates z: the counts are equal, and neither the cost nor a desk's free time is larger
 pub record Dominates (s z : State) : Type 0 where
@@ -59,31 +55,16 @@ module _ (J : List ℕ) where
           (finish-mono s z d m)
       go e (no q) = rw (getD-set-other (s .free) d e (finish J s d) 0 q, getD-set-other (z .free) d e (finish J z d) 0 q) (m .free e)
 
-  pub bound-dominates : (k : ℕ) (s z : State) (B : ℕ) → Dominates s z → LowerBound J k s B → LowerBound J k z B
+  bound-dominates : (k : ℕ) (s z : State) (B : ℕ) → Dominates s z → LowerBound J k s B → LowerBound J k z B
   unfolding LowerBound
   bound-dominates zero s z B m h = omega (arith, m .cost)
   bound-dominates (suc k) s z B m h = λ d p l. bound-dominates k (stepOf J s d) (stepOf J z d) B (dominates-step s z d p m) (h d p (rw (m .taken) l))
-
--- the label at a dominates s
-pub record LabelDominates (M : List ℕ) (a : ℕ) (s : State) : Type 0 where
-  pub cost : getD M a 0 ≤ s .cost
-  pub one : getD M (a + 1) 0 ≤ getD (s .free) 0 0
-  pub two : getD M (a + 2) 0 ≤ getD (s .free) 1 0
-  pub three : getD M (a + 3) 0 ≤ getD (s .free) 2 0
-
-abbrev pub labelPlace : ℕ → ℕ → ℕ
-labelPlace k j = (k * 4 + j) * 4
-
-pub record Dominated (M : List ℕ) (s : State) : Type 0 where
-  pub slot : ℕ
-  pub few : slot < 4
-  pub under : LabelDominates M (labelPlace (countKey s) slot) s
 
 -- the memory's invariant: what a label dominates is bounded by B from below
 unfoldable pub LabelsHold : List ℕ → List ℕ → ℕ → Type 0
 LabelsHold J M B = (s : State) → Consistent J s → Dominated M s → LowerBound J (s .left) s B
 
-pub labels-down : (J M : List ℕ) (B C : ℕ) → C ≤ B → LabelsHold J M B → LabelsHold J M C
+labels-down : (J M : List ℕ) (B C : ℕ) → C ≤ B → LabelsHold J M B → LabelsHold J M C
 unfolding LabelsHold
 labels-down J M B C l h = λ s g c. bound-down J (s .left) s B C l (h s g c)
 
@@ -92,18 +73,8 @@ pub labels-bound : (J M : List ℕ) (s : State) (B : ℕ) → LabelsHold J M B �
 unfolding LabelsHold
 labels-bound J M s B h g c = h s g c
 
--- the label of s, stored at a
-abbrev pub storeLabel : List ℕ → ℕ → State → List ℕ
-storeLabel M a s = set (set (set (set M a (s .cost)) (a + 1) (getD (s .free) 0 0)) (a + 2) (getD (s .free) 1 0)) (a + 3) (getD (s .free) 2 0)
-
--- in one of the four places of the count vector k
-pub record Stored (M : List ℕ) (k : ℕ) (s : State) (N : List ℕ) : Type 0 where
-  pub slot : ℕ
-  pub few : slot < 4
-  pub is : N ≡ storeLabel M (labelPlace k slot) s
-
 module _ (M : List ℕ) (a : ℕ) (s : State) where
-  pub store-other : (x : ℕ) → (x ≡ a → ⊥) → (x ≡ a + 1 → ⊥) → (x ≡ a + 2 → ⊥) → (x ≡ a + 3 → ⊥) → getD (storeLabel M a s) x 0 ≡ getD M x 0
+  store-other : (x : ℕ) → (x ≡ a → ⊥) → (x ≡ a + 1 → ⊥) → (x ≡ a + 2 → ⊥) → (x ≡ a + 3 → ⊥) → getD (storeLabel M a s) x 0 ≡ getD M x 0
   store-other x p q r t =
       getD-set-other (set (set (set M a (s .cost)) (a + 1) (getD (s .free) 0 0)) (a + 2) (getD (s .free) 1 0)) (a + 3) x (getD (s .free) 2 0) 0 t
       ∙ getD-set-other (set (set M a (s .cost)) (a + 1) (getD (s .free) 0 0)) (a + 2) x (getD (s .free) 1 0) 0 r
@@ -165,7 +136,7 @@ module _ (J : List ℕ) (j : Instance J) where
   key-small : (s : State) → Consistent J s → countKey s < 343
   key-small s g = omega (arith, key-digits J j s g)
 
-  pub labels-store : (M : List ℕ) (s : State) (slot B : ℕ) → labelsLength ≤ length M → slot < 4 → Consistent J s → LabelsHold J M B → LowerBound J (s .left) s B → LabelsHold J (storeLabel M (labelPlace (countKey s) slot) s) B
+  labels-store : (M : List ℕ) (s : State) (slot B : ℕ) → labelsLength ≤ length M → slot < 4 → Consistent J s → LabelsHold J M B → LowerBound J (s .left) s B → LabelsHold J (storeLabel M (labelPlace (countKey s) slot) s) B
   unfolding LabelsHold
   labels-store M s slot B size l g h b = λ z k c. go z k c (ℕ-discrete (labelPlace (countKey z) (c .slot)) (labelPlace (countKey s) slot))
     where
@@ -204,48 +175,33 @@ module _ (J : List ℕ) (j : Instance J) where
             three = omega (arith, c .under .three, same 3 (omega arith));
           }
 
-pub never : {A : Type 0} → false ≡ true → A
-never e = let z : _≡_ {A = ℕ} 0 1 = cc in absurd (omega arith)
-
 pub labels-search : (J M : List ℕ) (k : ℕ) (s : State) (b r : Incumbent) → LabelsHold J M (b .figure) → r ≡ searchFrom J k s b → LabelsHold J M (r .figure)
 labels-search J M k s b r h e = labels-down J M (b .figure) (r .figure) (rw e (search-falls J k s b)) h
 
-pub labels-done : (J : List ℕ) → Instance J → (M N : List ℕ) (s : State) (b r : Incumbent) (k slot : ℕ) → labelsLength ≤ length M → slot < 4 → k ≡ countKey s → N ≡ storeLabel M (labelPlace k slot) s → Consistent J s → LabelsHold J M (r .figure) → r ≡ searchFrom J (s .left) s b
-    → LabelsHold J N (r .figure)
-labels-done J j M N s b r k slot size l key e g h w =
-    subst (λ (x : List ℕ). LabelsHold J x (r .figure)) (sym (e ∙ ap (λ (x : ℕ). storeLabel M (labelPlace x slot) s) key))
-    (labels-store J j M s slot (r .figure) size l g h (subst (λ (x : Incumbent). LowerBound J (s .left) s (x .figure)) (sym w) (search-bound J (s .left) s b)))
+-- a label stored once its state is explored
+module _ (J M N : List ℕ) (s : State) (b r : Incumbent) (k : ℕ) where
+  pub labels-done : Instance J → length M ≡ tableLength → (k ≡ countKey s) × (k < 343) → N ≡ withLabel M k s → Consistent J s → LabelsHold J M (r .figure) → r ≡ searchFrom J (s .left) s b → LabelsHold J N (r .figure)
+  unfolding withLabel
+  labels-done j size key e g h w =
+      subst (λ (x : List ℕ). LabelsHold J x (r .figure)) (sym (e ∙ ap (λ (x : ℕ). storeLabel M (labelPlace x (costliest M k)) s) (key .0)))
+      (labels-store J j M s (costliest M k) (r .figure) (omega arith) (costliest-few M k) g h (subst (λ (x : Incumbent). LowerBound J (s .left) s (x .figure)) (sym w) (search-bound J (s .left) s b)))
 
--- the first n numbers are those of no label
-unfoldable pub NoLabels : List ℕ → ℕ → Type 0
-NoLabels M n = (i : ℕ) → i < n → getD M i 0 ≡ noLabel
-
-pub no-labels-more : (M : List ℕ) (n : ℕ) → n < length M → NoLabels M n → NoLabels (set M n noLabel) (n + 1)
-unfolding NoLabels
-no-labels-more M n l h i p = go (ℕ-discrete i n)
+-- it changes no number behind the labels, and no length
+pub stored-behind : (M : List ℕ) (k : ℕ) (s : State) → k < 343 → (x : ℕ) → labelsLength ≤ x → getD (withLabel M k s) x 0 ≡ getD M x 0
+unfolding withLabel
+stored-behind M k s l x p = store-other M (labelPlace k (costliest M k)) s x (λ e. apart 0 (omega arith) (omega arith)) (apart 1 (omega arith)) (apart 2 (omega arith)) (apart 3 (omega arith))
   where
-    go : Dec (i ≡ n) → getD (set M n noLabel) i 0 ≡ noLabel
-    go (yes e) = rw e (getD-set-same M n noLabel 0 l)
-    go (no e) = getD-set-other M n i noLabel 0 e ∙ h i (omega arith)
+    apart : (y : ℕ) → y < 4 → x ≡ labelPlace k (costliest M k) + y → ⊥
+    apart y q e = omega (arith, costliest-few M k)
 
-pub no-labels-none : (M : List ℕ) → NoLabels M 0
-unfolding NoLabels
-no-labels-none M i p = absurd (omega arith)
+pub stored-length : (M : List ℕ) (k : ℕ) (s : State) → length (withLabel M k s) ≡ length M
+unfolding withLabel
+stored-length M k s = simp length-set
 
-pub labels-none : (J : List ℕ) → Instance J → (M : List ℕ) (B : ℕ) → NoLabels M labelsLength → LabelsHold J M B
-unfolding LabelsHold NoLabels
+-- a table without labels
+pub labels-none : (J : List ℕ) → Instance J → (M : List ℕ) (B : ℕ) → ((i : ℕ) → i < labelsLength → getD M i 0 ≡ noLabel) → LabelsHold J M B
+unfolding LabelsHold
 labels-none J j M B e = λ s g c. absurd (go s g c)
   where
     go : (s : State) → Consistent J s → Dominated M s → ⊥
     go s g c = omega (arith, c .under .cost, e (labelPlace (countKey s) (c .slot)) (omega (arith, key-small J j s g, c .few)), g .fits .cost)
-
--- clear_labels
-pub record Cleared (M : List ℕ) : Type 0 where
-  pub none : NoLabels M labelsLength
-  pub size : length M ≡ tableLength
-
-pub cleared : {M : List ℕ} {i : ℕ} → (i ≤ labelsLength) × (length M ≡ tableLength) × NoLabels M i → labelsLength ≤ i → Cleared M
-cleared {M} {i} h l = record { none = subst (NoLabels M) (all h l) (h .2); size = h .1 }
-  where
-    all : (i ≤ labelsLength) × (length M ≡ tableLength) × NoLabels M i → labelsLength ≤ i → i ≡ labelsLength
-    all h l = omega (arith, h .0)

@@ -1,12 +1,11 @@
 // The dominance memory: four labels to each count vector, at the front of the working table.
 ghost use mathlib.Core.Path.{_≡_};
-ghost use mathlib.Core.Bool.{true};
 ghost use Prim.Native.Nat.{_+_, _<_};
 ghost use lib.ListN.{length};
 ghost use Rattle.interleaving.specs.Instance.{Instance};
 ghost use Rattle.interleaving.specs.Consistent.{Consistent};
-ghost use Rattle.sorting_search.specs.Labels.{LabelDominates, Dominated, storeLabel, Stored, Cleared};
-ghost use Rattle.sorting_bounds.specs.Layout.{countKey};
+ghost use Rattle.sorting_labels.specs.Labels.{labelDominates, dominatedBy, storeLabel, costliest, withLabel, clearedTo};
+ghost use Rattle.sorting_bounds.specs.Layout.{countKey, labelsLength};
 ghost use Rattle.sheet.specs.Limits.{tableLength};
 use interleaving::State;
 use sorting_bounds::LABELS_LENGTH;
@@ -26,7 +25,7 @@ pub fn count_key(jobs: &[u64], s: State) -> usize
 // Whether the label at a dominates s.
 fn label_dominates(s: State, m: &[u64], a: usize) -> bool
     requires { ⌜ a + 3 < length (now m) ⌝ }
-    ensures { λ r. ⌜ (r ≡ true → LabelDominates (now (m .entry)) a s) ⌝ }
+    ensures { λ r. ⌜ r ≡ labelDominates (now (m .entry)) a s ⌝ }
 {
     let f = s.free;
     if s.cost < m[a] {
@@ -44,10 +43,10 @@ fn label_dominates(s: State, m: &[u64], a: usize) -> bool
     true
 }
 
-// Whether one of the four labels of the count vector k of s dominates s.
+// Whether one of the four labels of the count vector k dominates s.
 pub fn dominated(s: State, k: usize, m: &[u64]) -> bool
-    requires { ⌜ (k ≡ countKey s) × (k < 343) × (length (now m) ≡ tableLength) ⌝ }
-    ensures { λ r. ⌜ (r ≡ true → Dominated (now (m .entry)) s) ⌝ }
+    requires { ⌜ (k < 343) × (length (now m) ≡ tableLength) ⌝ }
+    ensures { λ r. ⌜ r ≡ dominatedBy (now (m .entry)) k s 4 ⌝ }
 {
     let mut j: usize = 0;
     while j < 4 {
@@ -59,10 +58,10 @@ pub fn dominated(s: State, k: usize, m: &[u64]) -> bool
     false
 }
 
-// The label of the count vector k that has the largest cost: the next one stored takes its place.
+// The first label of the count vector k that has the largest cost: the next one stored takes its place.
 fn costliest_label(m: &[u64], k: usize) -> usize
     requires { ⌜ (k < 343) × (length (now m) ≡ tableLength) ⌝ }
-    ensures { λ r. ⌜ r < 4 ⌝ }
+    ensures { λ r. ⌜ (r ≡ costliest (now (m .entry)) k) × (r < 4) ⌝ }
 {
     let mut w: usize = 0;
     let mut j: usize = 1;
@@ -89,7 +88,7 @@ fn write_label(s: State, m: &mut [u64], a: usize)
 // Stores the label of s, whose count vector has the number k.
 pub fn store_label(s: State, k: usize, m: &mut [u64])
     requires { ⌜ (k < 343) × (length (now m) ≡ tableLength) ⌝ }
-    ensures { λ _. ⌜ Stored (now (m .entry)) k s (now (m .exit)) ⌝ }
+    ensures { λ _. ⌜ now (m .exit) ≡ withLabel (now (m .entry)) k s ⌝ }
 {
     let j = costliest_label(m, k);
     write_label(s, m, (k * 4 + j) * 4);
@@ -98,7 +97,7 @@ pub fn store_label(s: State, k: usize, m: &mut [u64])
 // No label at any count vector.
 pub fn clear_labels(m: &mut [u64])
     requires { ⌜ length (now m) ≡ tableLength ⌝ }
-    ensures { λ _. ⌜ Cleared (now (m .exit)) ⌝ }
+    ensures { λ _. ⌜ now (m .exit) ≡ clearedTo labelsLength (now (m .entry)) ⌝ }
 {
     let mut i: usize = 0;
     while i < LABELS_LENGTH {

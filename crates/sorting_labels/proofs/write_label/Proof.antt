@@ -1,9 +1,9 @@
--- `sorting_search::labels::write_label` meets its contract: four stores, as the definition has them.
+-- `sorting_labels::write_label` meets its contract: four stores, as the definition has them.
 use lib.ListN.{length-set}
 use native.Mathlib.Omega.{arith}
 use borrow.Author.Needs.{needs}
-use Rattle.sorting_search.proofs.labels.write_label.Statement.{statement}
-use Rattle.sorting_search.proofs.labels.write_label.Tie as tie
+use Rattle.sorting_labels.proofs.write_label.Statement.{statement}
+use Rattle.sorting_labels.proofs.write_label.Tie as tie
 
 mul-m : tie.Need-mul-m
 mul-m c = search needs
