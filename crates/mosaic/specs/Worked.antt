@@ -12,9 +12,11 @@ use Rattle.sheet.specs.declared.MosaicSection.{MosaicSection}
 use Rattle.rules.specs.declared.Batch.{Batch}
 use Rattle.rules.specs.Sums.{sumOver, greatestOver}
 use Rattle.rules.specs.Mosaic.{stationSum, ready, benchSum, MosaicLawful, mosaicFigure}
-use Rattle.mosaic.specs.Least.{mountStart, benchStart, finishOf, leastOpen, leastFrom, weightOf, weightSum, instanceOf, leastFigure}
+use Rattle.batching.specs.Least.{mountStart, benchStart, finishOf, leastOpen, leastFrom}
+use Rattle.mosaic.specs.Least.{weightOf, weightSum, instanceOf, leastFigure}
 use Rattle.mosaic.specs.Theorems.{mosaic-least}
-use Rattle.mosaic.specs.Chosen.{batchOf, chosenOpen, chosenFrom, chosenBatches}
+use Rattle.batching.specs.Chosen.{batchOf, chosenOpen, chosenFrom}
+use Rattle.mosaic.specs.Chosen.{chosenBatches}
 
 unfoldable pub workedSection : MosaicSection
 workedSection = record {
