@@ -19,7 +19,8 @@ use Rattle.rules.specs.Sums.{sumOver}
 use Rattle.flight_order.specs.Constraints.{passOf, timeOf, exactFlight, possibleIn}
 use Rattle.flight_order.specs.Schedule.{Schedule}
 use Rattle.flight_order.specs.Good.{pass-first, pass-second}
-use Rattle.flight_order.specs.Timetable.{time-is, time-first, time-second}
+use Rattle.flight_order.specs.Timetable.{time-is}
+use Rattle.rules_laws.specs.FlightRunning.{time-first, time-second}
 use Rattle.flight_order.specs.Planned.{schedule-possible, empty-possible}
 
 -- The order of i blocks one after the other.

@@ -9,7 +9,7 @@ use Rattle.sheet.specs.Sound.{FlightSound}
 use Rattle.sheet.specs.declared.FlightSection.{FlightSection}
 use Rattle.rules.specs.Flight.{passesAt, passEnd, FlightLawful, Keeps, OrderAllowed, flightFigure}
 use Rattle.rules.specs.declared.Passes.{Passes}
-use Rattle.flight_order.specs.Timetable.{start-first, start-second}
+use Rattle.rules_laws.specs.FlightRunning.{start-first, start-second}
 use Rattle.flight_order.specs.Planned.{possible-lawful, possible-keeps, kept-possible, least-earliest, least-figure, figure-below, least-ends}
 use Rattle.flight.specs.Choice.{chosenOrder, isPossible, leastFigure, chosenPasses}
 use Rattle.flight.specs.Chosen.{chosen-proper, chosen-allowed, chosen-least, allowed-possible, free-possible}

@@ -2,11 +2,12 @@
 use Prim.Native.Nat.{ℕ, zero, suc, _+_, _-_, _≤_, _<_}
 use mathlib.Core.Path.{_≡_, refl}
 use mathlib.Core.List.{List, [], _∷_, _++_}
-use mathlib.Core.Bool.{Bool, true, false, cond}
+use mathlib.Core.Bool.{Bool, true, _&&_}
 use native.Mathlib.Omega.{arith}
 use lib.ListN.{getD, replicate}
 use lib.Dec.{leb}
 use borrow.Author.Tests.{leb-true}
+use Rattle.field.specs.Branch.{both}
 use Rattle.sheet.specs.Sound.{MosaicSound}
 use Rattle.sheet.specs.declared.MosaicSection.{MosaicSection}
 use Rattle.rules.specs.declared.Batch.{Batch}
@@ -46,11 +47,7 @@ worked-batches = refl
 -- the section is sound
 unfoldable mostOf : ℕ → List ℕ → Bool
 mostOf c [] = true
-mostOf c (a ∷ l) = cond (leb a c) (mostOf c l) false
-
-both : (a b : Bool) → cond a b false ≡ true → (a ≡ true) × (b ≡ true)
-both true b e = (refl, e)
-both false b e = absurd (let z : _≡_ {A = ℕ} 0 1 = cc in omega arith)
+mostOf c (a ∷ l) = leb a c && mostOf c l
 
 most-at : (c : ℕ) (l : List ℕ) → mostOf c l ≡ true → (i : ℕ) → getD l i 0 ≤ c
 unfolding mostOf
