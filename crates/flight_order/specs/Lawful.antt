@@ -10,10 +10,10 @@ use Rattle.order.specs.Order.{Proper}
 use Rattle.sheet.specs.Limits.{ceiling}
 use Rattle.sheet.specs.Sound.{FlightSound}
 use Rattle.sheet.specs.declared.FlightSection.{FlightSection}
-use Rattle.rules.specs.Flight.{passesAt, passStart, passTime, passEnd, passAt, FlightLawful, Keeps, flightFigure}
+use Rattle.rules.specs.Flight.{passStart, passTime, passEnd, passAt, FlightLawful, Keeps, flightFigure}
 use Rattle.rules.specs.declared.Passes.{Passes}
 use Rattle.rules_laws.specs.Sums.{greatest-most, greatest-part}
-use Rattle.rules_laws.specs.FlightRunning.{position, start-first, start-second, end-is, next-apart, before-later, all-apart, order-kept}
+use Rattle.rules_laws.specs.FlightRunning.{position, start-first, second-start, end-is, next-apart, before-later, all-apart, order-kept}
 use Rattle.flight_order.specs.Constraints.{passOf, timeOf, exactFlight}
 use Rattle.flight_order.specs.Schedule.{Schedule}
 use Rattle.flight_order.specs.Good.{pass-in}
@@ -28,12 +28,7 @@ module _ (f : FlightSection) (w : ℕ) (proper : Proper (f .blocks) w) where
     where
       delay : (i : ℕ) → i < f .blocks → passStart f ps (f .blocks + i) ≡ passStart f ps i + (getD (f .first) i 0 + getD (f .delay) i 0)
       delay i l =
-          start-second f ps (f .blocks + i) (omega arith)
-          ∙ ap (λ (j : ℕ). passesAt ps j .second) back
-          ∙ omega (arith, law .exact-delay i l, start-first f ps i l)
-        where
-          back : f .blocks + i - f .blocks ≡ i
-          back = omega arith
+          second-start f ps i ∙ omega (arith, law .exact-delay i l, start-first f ps i l)
 
       order : (j : ℕ) → j + 1 < 2 * f .blocks
           → passStart f ps (passOf (f .blocks) w j) + (timeOf (f .blocks) (f .first) (f .second) (passOf (f .blocks) w j) + 0)

@@ -2,6 +2,7 @@
 use mathlib.Core.Path.{_≡_, refl, _∙_, sym}
 use mathlib.Core.List.{List, [], _∷_, _++_, append-assoc, append-nil}
 use Prim.Native.Nat.{ℕ, zero, suc, _+_, _*_, _-_, _≤_, _<_, _^_, max}
+use native.Mathlib.Nat.{mul-le-mul}
 use native.Mathlib.Numerals.{add-one}
 use native.Mathlib.Decide.{decLt}
 use native.Mathlib.Omega.{arith}
@@ -108,9 +109,10 @@ module _ {rs sums late : List ℕ} {s n : ℕ} (P : BatchesPre rs sums late s n)
       pub plan-sub : getD sums i 0 ≤ getD sums q 0
       plan-sub = P .input .rise i q (omega (arith, C .first)) (C .last)
 
-      module _ {start : ℕ} (e : start ≡ max free (getD rs (q - 1) 0)) where
+      -- a mount that waits for any strip is over early
+      module _ {start : ℕ} (j : ℕ) (e : start ≡ max free (getD rs j 0)) where
         finish-most : start + s + (getD sums q 0 - getD sums i 0) ≤ 2 ^ 39 + q * 2 ^ 32 + getD sums q 0
-        finish-most = omega (arith, plan-sub, M .most-free, C .first, P .input .most-ready (q - 1), P .input .most-mount)
+        finish-most = omega (arith, plan-sub, M .most-free, C .first, P .input .most-ready j, P .input .most-mount)
 
         finish-cap : start + s + (getD sums q 0 - getD sums i 0) ≤ 2 ^ 42
         finish-cap = omega (arith, finish-most, C .last, P .input .most-strips, P .input .most-sum q (C .last))
@@ -121,17 +123,21 @@ module _ {rs sums late : List ℕ} {s n : ℕ} (P : BatchesPre rs sums late s n)
         pub plan-finish : start + s + (getD sums q 0 - getD sums i 0) < 2 ^ 64
         plan-finish = omega (arith, finish-cap)
 
-        least-is : leastAt (instanceIn rs sums s n) i free
-            ≡ (q - i) * (start + s + (getD sums q 0 - getD sums i 0)) + leastAt (instanceIn rs sums s n) q (start + s + (getD sums q 0 - getD sums i 0))
-        unfolding closedAt benchStart mountStart
-        least-is = rw e (sym (C .figure) ∙ C .closed)
+        product-most : (q - i) * (start + s + (getD sums q 0 - getD sums i 0)) ≤ 40 * 2 ^ 42
+        product-most = mul-le-mul {n₂ = 40} {m₂ = 2 ^ 42} (omega (arith, C .last, P .input .most-strips)) finish-cap
 
         pub plan-add : AddPre plan (q - i) (start + s + (getD sums q 0 - getD sums i 0))
         plan-add = record {
           sized = M .sized;
           few = omega (arith, M .few, P .input .most-strips);
-          fits = omega (arith, M .figure-is, least-is, least-most (P .input) 0 0 (omega arith));
+          fits = omega (arith, M .figure-is, product-most, least-most (P .input) 0 0 (omega arith));
         }
+
+      module _ {start : ℕ} (e : start ≡ max free (getD rs (q - 1) 0)) where
+        least-is : leastAt (instanceIn rs sums s n) i free
+            ≡ (q - i) * (start + s + (getD sums q 0 - getD sums i 0)) + leastAt (instanceIn rs sums s n) q (start + s + (getD sums q 0 - getD sums i 0))
+        unfolding closedAt benchStart mountStart
+        least-is = rw e (sym (C .figure) ∙ C .closed)
 
         finish-is : finishOf (instanceIn rs sums s n) free i q ≡ start + s + (getD sums q 0 - getD sums i 0)
         unfolding finishOf benchStart mountStart
@@ -148,7 +154,7 @@ module _ {rs sums late : List ℕ} {s n : ℕ} (P : BatchesPre rs sums late s n)
           no-more = A .no-more (M .no-more);
           few = omega (arith, M .few, C .first, A .one-more);
           to = C .last;
-          most-free = finish-most;
+          most-free = finish-most (q - 1) e;
           figure-is = omega (arith, M .figure-is, least-is, A .figure);
           batches = rw (A .batches, append-assoc) (rw (← batch-is) (rw (C .taken, finish-is) at (M .batches)));
         }

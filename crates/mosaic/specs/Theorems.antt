@@ -9,14 +9,13 @@ use Rattle.sheet.specs.Limits.{mostTime, mostStrips}
 use Rattle.sheet.specs.Sound.{MosaicSound}
 use Rattle.sheet.specs.declared.MosaicSection.{MosaicSection}
 use Rattle.rules.specs.declared.Batch.{Batch}
-use Rattle.rules.specs.Mosaic.{ready, noBatch, batchAt, MosaicLawful, mosaicFigure}
+use Rattle.rules.specs.Mosaic.{noBatch, batchAt, MosaicLawful, mosaicFigure}
 use Rattle.rules.specs.Running.{MosaicRuns}
 use Rattle.batching.specs.Least.{leastFrom}
 use Rattle.mosaic.specs.Least.{leastFigure}
 use Rattle.batching.specs.Chosen.{chosenFrom}
 use Rattle.mosaic.specs.Chosen.{chosenBatches}
 use Rattle.mosaic.specs.Plan.{lasts}
-use Rattle.mosaic.specs.Laws.Rules.{ready-most}
 use Rattle.rules_laws.specs.Equivalent as running
 use Rattle.rules_laws.specs.Fits.{mosaic-figure-least, batches-most}
 use Rattle.mosaic.specs.Laws.LowerBound.{lower-after}
@@ -66,7 +65,3 @@ module _ (m : MosaicSection) (S : MosaicSound m) where
   pub mosaic-absent : m .strips ≡ 0 → (leastFigure m ≡ 0) × (chosenBatches m ≡ [])
   unfolding leastFigure leastFrom chosenBatches chosenFrom
   mosaic-absent h = (rw h refl, rw h refl)
-
-  -- 400,000 at most
-  pub mosaic-ready : (q : ℕ) → q ≤ m .strips → ready m q ≤ mostStrips * mostTime
-  mosaic-ready q h = ready-most S q (omega (arith, S .most-strips))

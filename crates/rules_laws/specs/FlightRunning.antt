@@ -99,6 +99,12 @@ module _ (f : FlightSection) (ps : List Passes) where
   unfolding passStart
   start-second p l = rw (le-ltb p (f .blocks) l)
 
+  pub second-start : (i : ℕ) → passStart f ps (f .blocks + i) ≡ passesAt ps i .second
+  second-start i = start-second (f .blocks + i) (omega arith) ∙ ap (λ (x : ℕ). passesAt ps x .second) back
+    where
+      back : f .blocks + i - f .blocks ≡ i
+      back = omega arith
+
   pub end-is : (p : ℕ) → passEnd f ps p ≡ passStart f ps p + passTime f p
   unfolding passEnd
   end-is p = refl
@@ -121,14 +127,11 @@ module _ (f : FlightSection) (ps : List Passes) where
     block-follows i l = record {
       known = l;
       exact-delay = law .exact-delay i l;
-      within = omega (arith, law .within (f .blocks + i) (omega arith), end-is (f .blocks + i), there, time);
+      within = omega (arith, law .within (f .blocks + i) (omega arith), end-is (f .blocks + i), second-start i, time);
     }
       where
         back : f .blocks + i - f .blocks ≡ i
         back = omega arith
-
-        there : passStart f ps (f .blocks + i) ≡ passesAt ps i .second
-        there = start-second (f .blocks + i) (omega arith) ∙ ap (λ (x : ℕ). passesAt ps x .second) back
 
         time : passTime f (f .blocks + i) ≡ getD (f .second) i 0
         time = time-second f (f .blocks + i) (omega arith) ∙ ap (λ (x : ℕ). getD (f .second) x 0) back
