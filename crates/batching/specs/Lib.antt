@@ -6,3 +6,4 @@ pub mod Tables
 pub mod Recursion
 pub mod Bounds
 pub mod Alike
+pub mod Determined

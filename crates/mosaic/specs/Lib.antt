@@ -5,4 +5,5 @@ pub mod Plan
 pub mod Theorems
 pub mod Worked
 pub mod Tables
+pub mod Determined
 pub mod Laws

@@ -7,7 +7,7 @@ mod ready;
 
 use sheet::MosaicSection;
 
-// A plan of the mosaic: its figure, and last strip, mount start and finish of each batch, in the first `batches` entries.
+// A plan of the mosaic: its figure, and last strip, mount start and finish of each batch, in the first `batches` entries, with zeros after them.
 pub struct MosaicPlan {
     pub figure: u64,
     pub batches: usize,
