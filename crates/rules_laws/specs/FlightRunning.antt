@@ -82,6 +82,12 @@ module _ (f : FlightSection) where
   unfolding passTime
   time-second p l = rw (le-ltb p (f .blocks) l)
 
+  pub second-time : (i : ℕ) → passTime f (f .blocks + i) ≡ getD (f .second) i 0
+  second-time i = time-second (f .blocks + i) (omega arith) ∙ ap (λ (x : ℕ). getD (f .second) x 0) back
+    where
+      back : f .blocks + i - f .blocks ≡ i
+      back = omega arith
+
   -- a pass takes at least a second
   pub time-some : FlightSound f → (p : ℕ) → p < 2 * f .blocks → 1 ≤ passTime f p
   time-some sound p l = go (decLt p (f .blocks))
@@ -127,14 +133,8 @@ module _ (f : FlightSection) (ps : List Passes) where
     block-follows i l = record {
       known = l;
       exact-delay = law .exact-delay i l;
-      within = omega (arith, law .within (f .blocks + i) (omega arith), end-is (f .blocks + i), second-start i, time);
+      within = omega (arith, law .within (f .blocks + i) (omega arith), end-is (f .blocks + i), second-start i, second-time f i);
     }
-      where
-        back : f .blocks + i - f .blocks ≡ i
-        back = omega arith
-
-        time : passTime f (f .blocks + i) ≡ getD (f .second) i 0
-        time = time-second f (f .blocks + i) (omega arith) ∙ ap (λ (x : ℕ). getD (f .second) x 0) back
 
     pub lawful-runs : FlightRuns f w ps
     lawful-runs = record {
