@@ -10,9 +10,8 @@ use native.Mathlib.Omega.{arith}
 use borrow.Author.Tests.{le-leb, lt-leb}
 use lib.Dec.{leb}
 use lib.ListN.{length, set, replicate, length-set}
-use lib.Seq.{set-getD}
 use Rattle.difference.specs.System.{System, Solves, Inside, value, raised, relax, relaxed, rounds, holds, leastValues, solvable}
-use Rattle.difference.specs.Round.{relaxed-bound, relaxed-still, relaxed-length, rounds-length, rounds-bound, rounds-solve}
+use Rattle.difference.specs.Round.{relax-still, relaxed-bound, relaxed-still, relaxed-length, rounds-length, rounds-bound, rounds-solve}
 use Rattle.difference.specs.Least.{holds-true, true-holds, false-holds, rounds-still}
 use Rattle.difference.specs.Rows.{systemOf, Fit, Ready, RoundDone, SolveDone, InRound, RoundTurn, InRounds}
 
@@ -27,17 +26,14 @@ module _ (S : System) (t₀ t : List ℕ) (held : Bool) (k : ℕ) (inv : InRound
   untouched e = inv .values ∙ relaxed-still S k t₀ (holds-true S t₀ k e)
 
   pub constraint-held : value t (S .from k) + S .up k ≤ value t (S .to k) + S .down k → InRound S t₀ t held (k + 1)
-  unfolding relaxed relax holds
+  unfolding relaxed holds
   constraint-held h = record {
     within = omega arith;
     same-length = inv .same-length;
-    values = rw (add-one k, ← inv .values) (sym (ap (set t (S .to k)) e ∙ set-getD t (S .to k) 0));
+    values = rw (add-one k, ← inv .values) (sym (relax-still S k t h));
     result = rw (add-one k) (inv .result ∙ go (holds S k t₀) refl);
   }
     where
-      e : raised S k t ≡ value t (S .to k)
-      e = omega arith
-
       go : (b : Bool) → holds S k t₀ ≡ b → b ≡ b && leb (value t₀ (S .from k) + S .up k) (value t₀ (S .to k) + S .down k)
       go true q = sym (le-leb _ _ (rw (untouched q) at h))
       go false q = refl

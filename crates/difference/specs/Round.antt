@@ -82,14 +82,18 @@ module _ (S : System) where
   relaxed-bound (suc n) t b c u h j =
       omega (arith, suc-mul n c, relax-bound n (relaxed S n t) (b + n * c) c (u n (omega arith)) (relaxed-bound n t b c (λ k l. u k (omega arith)) h) j)
 
-  -- Where the first k constraints hold, the values stay.
-  pub relaxed-still : (k : ℕ) (t : List ℕ) → ((j : ℕ) → j < k → value t (S .from j) + S .up j ≤ value t (S .to j) + S .down j) → relaxed S k t ≡ t
-  unfolding relaxed relax
-  relaxed-still zero t s = refl
-  relaxed-still (suc k) t s = rw (relaxed-still k t (λ j l. s j (omega arith))) (ap (set t (S .to k)) same-value ∙ set-getD t (S .to k) 0)
+  -- Where a constraint holds, the values stay; and where the first k constraints hold.
+  pub relax-still : (k : ℕ) (t : List ℕ) → value t (S .from k) + S .up k ≤ value t (S .to k) + S .down k → relax S k t ≡ t
+  unfolding relax
+  relax-still k t h = ap (set t (S .to k)) same-value ∙ set-getD t (S .to k) 0
     where
       same-value : raised S k t ≡ value t (S .to k)
-      same-value = omega (arith, s k (omega arith))
+      same-value = omega arith
+
+  pub relaxed-still : (k : ℕ) (t : List ℕ) → ((j : ℕ) → j < k → value t (S .from j) + S .up j ≤ value t (S .to j) + S .down j) → relaxed S k t ≡ t
+  unfolding relaxed
+  relaxed-still zero t s = refl
+  relaxed-still (suc k) t s = rw (relaxed-still k t (λ j l. s j (omega arith))) (relax-still k t (s k (omega arith)))
 
   pub rounds-length : (r : ℕ) → length (rounds S r) ≡ S .variables
   unfolding rounds

@@ -1,6 +1,6 @@
 -- Some order is always possible: each block's two passes one after the other, 1010 .. 10. Its beginnings of 2 i passes are those of i blocks,
 -- and block i starts when all blocks before it have taken their passes and delays.
-use mathlib.Core.Path.{_≡_, sym, ap, _∙_}
+use mathlib.Core.Path.{_≡_, sym, _∙_}
 use mathlib.Core.Bool.{true, cond}
 use Prim.Native.Nat.{ℕ, zero, suc, _+_, _-_, _*_, _/_, _%_, _^_, _≤_, _<_}
 use native.Mathlib.Decide.{decLt, ℕ-discrete}
@@ -19,7 +19,8 @@ use Rattle.rules.specs.Sums.{sumOver}
 use Rattle.flight_order.specs.Constraints.{passOf, timeOf, exactFlight, possibleIn}
 use Rattle.flight_order.specs.Schedule.{Schedule}
 use Rattle.flight_order.specs.Good.{pass-first, pass-second}
-use Rattle.flight_order.specs.Timetable.{time-is, time-first, time-second}
+use Rattle.flight_order.specs.Timetable.{time-is}
+use Rattle.rules_laws.specs.FlightRunning.{time-first, second-time}
 use Rattle.flight_order.specs.Planned.{schedule-possible, empty-possible}
 
 -- The order of i blocks one after the other.
@@ -152,11 +153,8 @@ module _ (f : FlightSection) where
   first-time : (i : ℕ) → i < f .blocks → timeOf (f .blocks) (f .first) (f .second) i ≡ getD (f .first) i 0
   first-time i l = sym (time-is f i) ∙ time-first f i l
 
-  second-time : (i : ℕ) → timeOf (f .blocks) (f .first) (f .second) (f .blocks + i) ≡ getD (f .second) i 0
-  second-time i = sym (time-is f (f .blocks + i)) ∙ time-second f (f .blocks + i) (omega arith) ∙ ap (λ (j : ℕ). getD (f .second) j 0) back
-    where
-      back : f .blocks + i - f .blocks ≡ i
-      back = omega arith
+  time-after : (i : ℕ) → timeOf (f .blocks) (f .first) (f .second) (f .blocks + i) ≡ getD (f .second) i 0
+  time-after i = sym (time-is f (f .blocks + i)) ∙ second-time f i
 
   order-step : (j : ℕ) → j + 1 < 2 * f .blocks
       → starts (passOf (f .blocks) (alternate (f .blocks)) j)
@@ -186,7 +184,7 @@ module _ (f : FlightSection) where
             even-pass (f .blocks) (i + 1) q,
             starts-first (i + 1) q,
             starts-second i,
-            second-time i,
+            time-after i,
             sum-more i,
           )
           (omega arith)

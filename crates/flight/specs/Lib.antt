@@ -4,4 +4,4 @@ pub mod Alternate
 pub mod Contracts
 pub mod Chosen
 pub mod Theorems
-pub mod Worked
+pub mod Determined

@@ -9,7 +9,7 @@ use Rattle.sheet.specs.Sound.{FlightSound}
 use Rattle.sheet.specs.declared.FlightSection.{FlightSection}
 use Rattle.rules.specs.Flight.{passesAt, passEnd, FlightLawful, Keeps, OrderAllowed, flightFigure}
 use Rattle.rules.specs.declared.Passes.{Passes}
-use Rattle.flight_order.specs.Timetable.{start-first, start-second}
+use Rattle.rules_laws.specs.FlightRunning.{start-first, second-start}
 use Rattle.flight_order.specs.Planned.{possible-lawful, possible-keeps, kept-possible, least-earliest, least-figure, figure-below, least-ends}
 use Rattle.flight.specs.Choice.{chosenOrder, isPossible, leastFigure, chosenPasses}
 use Rattle.flight.specs.Chosen.{chosen-proper, chosen-allowed, chosen-least, allowed-possible, free-possible}
@@ -44,12 +44,9 @@ module _ (f : FlightSection) (sound : FlightSound f) where
   unfolding chosenPasses
   flight-earliest ps law keeps i l = (
     rw (start-first f (chosenPasses f) i l, start-first f ps i l) at (least-earliest f (chosenOrder f) sound (chosen-proper f sound) ps law keeps i (omega arith)),
-    rw (start-second f (chosenPasses f) (f .blocks + i) (omega arith), start-second f ps (f .blocks + i) (omega arith), back)
+    rw (second-start f (chosenPasses f) i, second-start f ps i)
         at (least-earliest f (chosenOrder f) sound (chosen-proper f sound) ps law keeps (f .blocks + i) (omega arith)),
   )
-    where
-      back : f .blocks + i - f .blocks ≡ i
-      back = omega arith
 
   -- The plan is not possible exactly where no timetable keeps an allowed order.
   pub flight-impossible : (isPossible f ≡ false → (w : ℕ) (ps : List Passes) → FlightLawful f ps → Keeps f w ps → OrderAllowed f w → ⊥)

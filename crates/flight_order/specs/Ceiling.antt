@@ -17,10 +17,11 @@ use Rattle.difference.specs.Span.{span}
 use Rattle.sheet.specs.Sound.{FlightSound}
 use Rattle.sheet.specs.declared.FlightSection.{FlightSection}
 use Rattle.rules.specs.Flight.{passTime}
+use Rattle.rules_laws.specs.FlightRunning.{time-first, time-second}
 use Rattle.flight_order.specs.Constraints.{passOf, constraintOf, systemFor, exactFlight, leastStarts, possibleIn}
 use Rattle.flight_order.specs.Schedule.{constraint-least, constraint-most, constraint-order}
 use Rattle.flight_order.specs.Good.{Good, inside}
-use Rattle.flight_order.specs.Timetable.{time-is, time-first, time-second}
+use Rattle.flight_order.specs.Timetable.{time-is}
 
 -- A sound flight is what the code asks for.
 pub sound-good : (f : FlightSection) (w : ℕ) → FlightSound f → 0 < f .blocks → Proper (f .blocks) w → Good (exactFlight f w)

@@ -8,3 +8,4 @@ pub mod Timetable
 pub mod Lawful
 pub mod Ceiling
 pub mod Planned
+pub mod Determined

@@ -15,10 +15,12 @@ use Rattle.sheet.specs.Sound.{FlightSound}
 use Rattle.sheet.specs.declared.FlightSection.{FlightSection}
 use Rattle.rules.specs.Flight.{passStart, passTime, passEnd, FlightLawful, Keeps, flightFigure}
 use Rattle.rules.specs.declared.Passes.{Passes}
+use Rattle.rules_laws.specs.Sums.{greatest-most}
+use Rattle.rules_laws.specs.FlightRunning.{time-second}
 use Rattle.flight_order.specs.Constraints.{exactFlight, systemFor, leastStarts, possibleIn, orderFigure}
 use Rattle.flight_order.specs.Schedule.{Schedule, schedule-solves, solves-schedule}
 use Rattle.flight_order.specs.Good.{inside}
-use Rattle.flight_order.specs.Timetable.{passesFrom, leastPasses, passes-length, start-from, time-second, greatest-most}
+use Rattle.flight_order.specs.Timetable.{passesFrom, leastPasses, passes-length, start-from}
 use Rattle.flight_order.specs.Lawful.{lawful-schedule, schedule-keeps, schedule-lawful, figure-last}
 use Rattle.flight_order.specs.Ceiling.{sound-good, least-end}
 
@@ -67,7 +69,7 @@ module _ (f : FlightSection) (w : ℕ) (sound : FlightSound f) (proper : Proper 
     where
       go : Dec (0 < f .blocks) → FlightLawful f (passesFrom (f .blocks) (value (leastStarts f w)))
       go (yes some) =
-          schedule-lawful f w proper (value (leastStarts f w)) (least-schedule some e) sound
+          schedule-lawful f w proper (value (leastStarts f w)) (least-schedule some e)
           (λ p l. omega (arith, least-end f sound w some proper e p l))
       go (no none) = record {
         every-block = passes-length (f .blocks) (value (leastStarts f w));
@@ -104,7 +106,7 @@ module _ (f : FlightSection) (w : ℕ) (sound : FlightSound f) (proper : Proper 
 
   empty-figure : (0 < f .blocks → ⊥) → (ps : List Passes) → flightFigure f ps ≡ 0
   unfolding flightFigure
-  empty-figure none ps = omega (arith, greatest-most (2 * f .blocks) (λ p. passEnd f ps p) 0 (λ p l. absurd (omega (arith, none))))
+  empty-figure none ps = omega (arith, greatest-most (2 * f .blocks) 0 (λ p. passEnd f ps p) (λ p l. absurd (omega (arith, none))))
 
   pub least-figure : possibleIn f w ≡ true → flightFigure f (leastPasses f w) ≡ orderFigure f w
   unfolding passEnd

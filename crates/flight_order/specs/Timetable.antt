@@ -1,17 +1,15 @@
 -- Lists of passes, and the starts and times of the rules by the number of the pass.
 use mathlib.Core.Path.{_≡_, refl, ap, _∙_}
 use mathlib.Core.List.{List, [], _∷_}
-use Prim.Native.Nat.{ℕ, zero, suc, _+_, _-_, _*_, _≤_, _<_, max}
-use native.Mathlib.Decide.{decLt, ℕ-discrete}
+use Prim.Native.Nat.{ℕ, zero, suc, _+_, _-_, _*_, _<_}
+use native.Mathlib.Decide.{decLt}
 use native.Mathlib.Omega.{arith}
 use lib.ListN.{length, getD}
-use borrow.Author.Tests.{lt-ltb, le-ltb}
 use Rattle.difference.specs.System.{value}
 use Rattle.sheet.specs.declared.FlightSection.{FlightSection}
-use Rattle.sheet.specs.Sound.{FlightSound}
-use Rattle.rules.specs.Sums.{greatestOver}
 use Rattle.rules.specs.Flight.{passesAt, passStart, passTime, passAt, noPasses}
 use Rattle.rules.specs.declared.Passes.{Passes}
+use Rattle.rules_laws.specs.FlightRunning.{start-first, start-second}
 use Rattle.flight_order.specs.Constraints.{passOf, timeOf, leastStarts}
 
 -- The list g 0, g 1, .. g (n - 1).
@@ -54,20 +52,12 @@ module _ (n : ℕ) (y : ℕ → ℕ) where
   passes-second i l = ap (λ (q : Passes). q .second) (passes-at i l)
 
 module _ (f : FlightSection) where
-  pub start-first : (ps : List Passes) (p : ℕ) → p < f .blocks → passStart f ps p ≡ passesAt ps p .first
-  unfolding passStart
-  start-first ps p l = rw (lt-ltb p (f .blocks) l)
-
-  pub start-second : (ps : List Passes) (p : ℕ) → f .blocks ≤ p → passStart f ps p ≡ passesAt ps (p - f .blocks) .second
-  unfolding passStart
-  start-second ps p l = rw (le-ltb p (f .blocks) l)
-
   pub start-from : (y : ℕ → ℕ) (p : ℕ) → p < 2 * f .blocks → passStart f (passesFrom (f .blocks) y) p ≡ y p
   start-from y p l = go (decLt p (f .blocks))
     where
       go : Dec (p < f .blocks) → passStart f (passesFrom (f .blocks) y) p ≡ y p
-      go (yes q) = start-first (passesFrom (f .blocks) y) p q ∙ passes-first (f .blocks) y p q
-      go (no q) = start-second (passesFrom (f .blocks) y) p (omega arith) ∙ passes-second (f .blocks) y (p - f .blocks) (omega arith) ∙ ap y back
+      go (yes q) = start-first f (passesFrom (f .blocks) y) p q ∙ passes-first (f .blocks) y p q
+      go (no q) = start-second f (passesFrom (f .blocks) y) p (omega arith) ∙ passes-second (f .blocks) y (p - f .blocks) (omega arith) ∙ ap y back
         where
           back : f .blocks + (p - f .blocks) ≡ p
           back = omega arith
@@ -79,33 +69,3 @@ module _ (f : FlightSection) where
   pub pass-is : (w k : ℕ) → passAt f w k ≡ passOf (f .blocks) w k
   unfolding passAt passOf
   pass-is w k = refl
-
-  pub time-first : (p : ℕ) → p < f .blocks → passTime f p ≡ getD (f .first) p 0
-  unfolding passTime
-  time-first p l = rw (lt-ltb p (f .blocks) l)
-
-  pub time-second : (p : ℕ) → f .blocks ≤ p → passTime f p ≡ getD (f .second) (p - f .blocks) 0
-  unfolding passTime
-  time-second p l = rw (le-ltb p (f .blocks) l)
-
-  pub time-some : FlightSound f → (p : ℕ) → p < 2 * f .blocks → 1 ≤ passTime f p
-  time-some s p l = go (decLt p (f .blocks))
-    where
-      go : Dec (p < f .blocks) → 1 ≤ passTime f p
-      go (yes q) = omega (arith, time-first p q, s .least-first p q)
-      go (no q) = omega (arith, time-second p (omega arith), s .least-second (p - f .blocks) (omega arith))
-
--- Greatest values.
-pub greatest-most : (m : ℕ) (g : ℕ → ℕ) (b : ℕ) → ((p : ℕ) → p < m → g p ≤ b) → greatestOver m g ≤ b
-unfolding greatestOver
-greatest-most zero g b h = omega arith
-greatest-most (suc m) g b h = omega (arith, h m (omega arith), greatest-most m g b (λ p l. h p (omega arith)))
-
-pub greatest-part : (m : ℕ) (g : ℕ → ℕ) (p : ℕ) → p < m → g p ≤ greatestOver m g
-unfolding greatestOver
-greatest-part zero g p l = absurd (omega arith)
-greatest-part (suc m) g p l = go (ℕ-discrete p m) (greatest-part m g p)
-  where
-    go : Dec (p ≡ m) → (p < m → g p ≤ greatestOver m g) → g p ≤ max (greatestOver m g) (g m)
-    go (yes e) ih = rw e (omega arith)
-    go (no ne) ih = omega (arith, ih (omega arith))

@@ -2,23 +2,26 @@
 use mathlib.Core.Path.{_≡_, refl, _∙_, sym}
 use mathlib.Core.List.{List, [], _∷_, _++_, append-assoc, append-nil}
 use Prim.Native.Nat.{ℕ, zero, suc, _+_, _*_, _-_, _≤_, _<_, _^_, max}
+use native.Mathlib.Nat.{mul-le-mul}
 use native.Mathlib.Numerals.{add-one}
+use native.Mathlib.Decide.{decLt}
 use native.Mathlib.Omega.{arith}
-use lib.ListN.{length, getD, set, length-set}
+use lib.ListN.{length, getD, set, length-set, replicate, length-replicate, getD-replicate, List·getD-eq-default}
 use lib.Seq.{getD-set-same, getD-set-other}
-use Rattle.mosaic.specs.Least.{mountStart, benchStart, finishOf}
-use Rattle.mosaic.specs.Chosen.{batchOf}
-use Rattle.mosaic.specs.Index.{leastAt, closedAt, chosenAt}
-use Rattle.mosaic.specs.Plan.{batchesIn, batchesOf}
-use Rattle.mosaic.specs.Tables.{instanceIn, RowIs, BlockPre, FromPre, First, Sized, AddPre, Added, BatchesPre, BatchesTaken}
-use Rattle.mosaic.specs.Laws.Recursion.{least-end, chosen-end}
+use Rattle.batching.specs.Least.{mountStart, benchStart, finishOf}
+use Rattle.batching.specs.Chosen.{batchOf}
+use Rattle.batching.specs.Index.{leastAt, closedAt, chosenAt}
+use Rattle.mosaic.specs.Plan.{batchesIn, batchesOf, NoMore}
+use Rattle.batching.specs.Tables.{instanceIn, FirstPre, First}
+use Rattle.mosaic.specs.Tables.{Sized, AddPre, Added, BatchesPre, BatchesTaken}
+use Rattle.batching.specs.Recursion.{least-end, chosen-end}
 use Rattle.mosaic.specs.declared.MosaicPlan.{MosaicPlan}
-use Rattle.mosaic.proofs.CandidateLaws.{least-most}
+use Rattle.batching.specs.Bounds.{least-most}
 
 -- the strips up to i are in the plan's batches, and the machine is free at `free`
-pub record PlanSoFar (rs sums row₀ row : List ℕ) (s n : ℕ) (plan : MosaicPlan) (i free : ℕ) : Type 0 where
-  pub row-len : length row ≡ length row₀
+pub record PlanSoFar (rs sums : List ℕ) (s n : ℕ) (plan : MosaicPlan) (i free : ℕ) : Type 0 where
   pub sized : Sized plan
+  pub no-more : NoMore plan
   pub few : plan .batches ≤ i
   pub to : i ≤ n
   pub most-free : free ≤ 2 ^ 39 + i * 2 ^ 32 + getD sums i 0
@@ -63,15 +66,25 @@ plan-added {plan} {count} {finish} P last start = record {
   one-more = refl;
   batches = added (plan .last) (plan .start) (plan .finish) (plan .batches) last start finish
       (omega (arith, P .few, P .sized .last)) (omega (arith, P .few, P .sized .start)) (omega (arith, P .few, P .sized .finish));
+  no-more = λ N. record {
+    last = λ k h. getD-set-other (plan .last) (plan .batches) k last 0 (omega arith) ∙ N .last k (omega arith);
+    start = λ k h. getD-set-other (plan .start) (plan .batches) k start 0 (omega arith) ∙ N .start k (omega arith);
+    finish = λ k h. getD-set-other (plan .finish) (plan .batches) k finish 0 (omega arith) ∙ N .finish k (omega arith);
+  };
 }
 
-module _ {rs sums late row₀ : List ℕ} {s n : ℕ} (P : BatchesPre rs sums late row₀ s n) where
-  pub plan-start : (last start finish : List ℕ) → length last ≡ 40 → length start ≡ 40 → length finish ≡ 40
-      → PlanSoFar rs sums row₀ row₀ s n (record { figure = 0; batches = 0; last = last; start = start; finish = finish }) 0 0
+zeros-at : (n k : ℕ) → getD {A = ℕ} (replicate n 0) k 0 ≡ 0
+zeros-at n k = elim (decLt k n) [
+  | yes h ↦ getD-replicate n k 0 0 h
+  | no h ↦ List·getD-eq-default {A = ℕ} (replicate n 0) 0 {n = k} (omega (arith, length-replicate {A = ℕ} n 0))
+]
+
+module _ {rs sums late : List ℕ} {s n : ℕ} (P : BatchesPre rs sums late s n) where
+  pub plan-start : PlanSoFar rs sums s n (record { figure = 0; batches = 0; last = replicate 40 0; start = replicate 40 0; finish = replicate 40 0 }) 0 0
   unfolding batchesOf batchesIn
-  plan-start last start finish l₁ l₂ l₃ = record {
-    row-len = refl;
-    sized = record { last = l₁; start = l₂; finish = l₃ };
+  plan-start = record {
+    sized = record { last = length-replicate {A = ℕ} 40 0; start = length-replicate {A = ℕ} 40 0; finish = length-replicate {A = ℕ} 40 0 };
+    no-more = record { last = λ k h. zeros-at 40 k; start = λ k h. zeros-at 40 k; finish = λ k h. zeros-at 40 k };
     few = omega arith;
     to = omega arith;
     most-free = omega arith;
@@ -79,31 +92,16 @@ module _ {rs sums late row₀ : List ℕ} {s n : ℕ} (P : BatchesPre rs sums la
     batches = refl;
   }
 
-  module _ {row : List ℕ} {plan : MosaicPlan} {i free : ℕ} (M : PlanSoFar rs sums row₀ row s n plan i free) (h : i < n) where
+  module _ {plan : MosaicPlan} {i free : ℕ} (M : PlanSoFar rs sums s n plan i free) (h : i < n) where
     free-most : free + s ≤ 2 ^ 41
     free-most = omega (arith, M .most-free, P .input .most-strips, P .input .most-mount, P .input .most-sum i (omega arith))
 
-    pub plan-begin : free + s < 2 ^ 64
-    plan-begin = omega (arith, free-most)
-
-    pub plan-block : BlockPre rs sums late row s n (free + s) i (i + 1)
-    plan-block = record {
+    pub plan-first : FirstPre rs sums late s n free i
+    plan-first = record {
       input = P .input;
       later = record { at = λ j q g k l. P .all .at j q (omega arith) k l };
       late-long = P .late-long;
-      row-long = omega (arith, P .row-long, M .row-len);
-      from = omega arith;
-      inside = omega arith;
-      most-begin = free-most;
-    }
-
-    pub plan-from : {row₁ : List ℕ} → RowIs rs sums row₁ s n (free + s) i (i + 1) → length row₁ ≡ length row → FromPre rs sums late row₁ s n free i
-    plan-from R l = record {
-      input = P .input;
-      ahead = record { row-at = λ p g k. R .at p (omega arith) k; late-at = λ q g k. P .all .at i q (omega arith) g k };
-      late-long = P .late-long;
-      row-long = omega (arith, P .row-long, M .row-len);
-      most-free = omega (arith, free-most);
+      most-free = free-most;
       inside = h;
     }
 
@@ -111,9 +109,10 @@ module _ {rs sums late row₀ : List ℕ} {s n : ℕ} (P : BatchesPre rs sums la
       pub plan-sub : getD sums i 0 ≤ getD sums q 0
       plan-sub = P .input .rise i q (omega (arith, C .first)) (C .last)
 
-      module _ {start : ℕ} (e : start ≡ max free (getD rs (q - 1) 0)) where
+      -- a mount that waits for any strip is over early
+      module _ {start : ℕ} (j : ℕ) (e : start ≡ max free (getD rs j 0)) where
         finish-most : start + s + (getD sums q 0 - getD sums i 0) ≤ 2 ^ 39 + q * 2 ^ 32 + getD sums q 0
-        finish-most = omega (arith, plan-sub, M .most-free, C .first, P .input .most-ready (q - 1), P .input .most-mount)
+        finish-most = omega (arith, plan-sub, M .most-free, C .first, P .input .most-ready j, P .input .most-mount)
 
         finish-cap : start + s + (getD sums q 0 - getD sums i 0) ≤ 2 ^ 42
         finish-cap = omega (arith, finish-most, C .last, P .input .most-strips, P .input .most-sum q (C .last))
@@ -124,17 +123,21 @@ module _ {rs sums late row₀ : List ℕ} {s n : ℕ} (P : BatchesPre rs sums la
         pub plan-finish : start + s + (getD sums q 0 - getD sums i 0) < 2 ^ 64
         plan-finish = omega (arith, finish-cap)
 
-        least-is : leastAt (instanceIn rs sums s n) i free
-            ≡ (q - i) * (start + s + (getD sums q 0 - getD sums i 0)) + leastAt (instanceIn rs sums s n) q (start + s + (getD sums q 0 - getD sums i 0))
-        unfolding closedAt benchStart mountStart
-        least-is = rw e (sym (C .figure) ∙ C .closed)
+        product-most : (q - i) * (start + s + (getD sums q 0 - getD sums i 0)) ≤ 40 * 2 ^ 42
+        product-most = mul-le-mul {n₂ = 40} {m₂ = 2 ^ 42} (omega (arith, C .last, P .input .most-strips)) finish-cap
 
         pub plan-add : AddPre plan (q - i) (start + s + (getD sums q 0 - getD sums i 0))
         plan-add = record {
           sized = M .sized;
           few = omega (arith, M .few, P .input .most-strips);
-          fits = omega (arith, M .figure-is, least-is, least-most (P .input) 0 0 (omega arith));
+          fits = omega (arith, M .figure-is, product-most, least-most (P .input) 0 0 (omega arith));
         }
+
+      module _ {start : ℕ} (e : start ≡ max free (getD rs (q - 1) 0)) where
+        least-is : leastAt (instanceIn rs sums s n) i free
+            ≡ (q - i) * (start + s + (getD sums q 0 - getD sums i 0)) + leastAt (instanceIn rs sums s n) q (start + s + (getD sums q 0 - getD sums i 0))
+        unfolding closedAt benchStart mountStart
+        least-is = rw e (sym (C .figure) ∙ C .closed)
 
         finish-is : finishOf (instanceIn rs sums s n) free i q ≡ start + s + (getD sums q 0 - getD sums i 0)
         unfolding finishOf benchStart mountStart
@@ -144,20 +147,21 @@ module _ {rs sums late row₀ : List ℕ} {s n : ℕ} (P : BatchesPre rs sums la
         unfolding batchOf mountStart
         batch-is = rw (finish-is, ← e)
 
-        pub plan-step : {more : MosaicPlan} {row₁ : List ℕ} → Added plan (q - i) q start (start + s + (getD sums q 0 - getD sums i 0)) more → length row₁ ≡ length row
-            → PlanSoFar rs sums row₀ row₁ s n more q (start + s + (getD sums q 0 - getD sums i 0))
-        plan-step A l = record {
-          row-len = l ∙ M .row-len;
+        pub plan-step : {more : MosaicPlan} → Added plan (q - i) q start (start + s + (getD sums q 0 - getD sums i 0)) more
+            → PlanSoFar rs sums s n more q (start + s + (getD sums q 0 - getD sums i 0))
+        plan-step A = record {
           sized = A .sized;
+          no-more = A .no-more (M .no-more);
           few = omega (arith, M .few, C .first, A .one-more);
           to = C .last;
-          most-free = finish-most;
+          most-free = finish-most (q - 1) e;
           figure-is = omega (arith, M .figure-is, least-is, A .figure);
           batches = rw (A .batches, append-assoc) (rw (← batch-is) (rw (C .taken, finish-is) at (M .batches)));
         }
 
-  pub plan-end : {row : List ℕ} {plan : MosaicPlan} {i free : ℕ} → PlanSoFar rs sums row₀ row s n plan i free → n ≤ i → BatchesTaken rs sums s n plan
+  pub plan-end : {plan : MosaicPlan} {i free : ℕ} → PlanSoFar rs sums s n plan i free → n ≤ i → BatchesTaken rs sums s n plan
   plan-end {plan = plan} {i} {free} M h = record {
     figure = omega (arith, M .figure-is, least-end (instanceIn rs sums s n) i free h);
     batches = sym (append-nil (batchesOf plan)) ∙ rw (chosen-end (instanceIn rs sums s n) i free h) at (M .batches);
+    no-more = M .no-more;
   }

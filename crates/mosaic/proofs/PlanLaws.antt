@@ -1,32 +1,24 @@
 -- The whole planner: the times read from a sound section are an input of the tables, and the instance that they give agrees with the section's.
 use mathlib.Core.Path.{_≡_, refl, ap, _∙_, sym}
-use mathlib.Core.List.{List, [], _∷_}
-use Prim.Native.Nat.{ℕ, zero, suc, _+_, _-_, _≤_, _^_}
+use mathlib.Core.List.{List}
+use Prim.Native.Nat.{ℕ, _+_, _-_, _≤_, _^_}
 use native.Mathlib.Decide.{decLt}
 use native.Mathlib.Omega.{arith}
-use lib.ListN.{length, getD, length-append, List·getD-eq-default}
+use lib.ListN.{length, getD, replicate, length-replicate, List·getD-eq-default}
 use Rattle.sheet.specs.Sound.{MosaicSound}
 use Rattle.sheet.specs.declared.MosaicSection.{MosaicSection}
 use Rattle.rules.specs.Mosaic.{ready, benchSum}
 use Rattle.mosaic.specs.Least.{instanceOf}
 use Rattle.mosaic.specs.Chosen.{chosenBatches}
-use Rattle.mosaic.specs.Plan.{batchesIn, batchesOf, Planned}
-use Rattle.mosaic.specs.Tables.{instanceIn, Input, LateFrom, LatePre, BatchesPre, BatchesTaken, ReadyTimes, BenchSums}
+use Rattle.mosaic.specs.Plan.{batchesOf, Planned}
+use Rattle.batching.specs.Tables.{lateLength, instanceIn, Input, LatePre, LateFilled}
+use Rattle.mosaic.specs.Tables.{BatchesPre, BatchesTaken, ReadyTimes, BenchSums}
 use Rattle.mosaic.specs.Laws.Rules.{bench-upto, bench-most, ready-most, weight-count}
-use Rattle.mosaic.specs.Laws.Alike.{Alike, least-same, chosen-same}
+use Rattle.batching.specs.Alike.{Alike, least-same, chosen-same}
 use Rattle.mosaic.specs.Laws.Whole.{least-is, chosen-is}
 use Rattle.mosaic.specs.Theorems.{mosaic-count}
+use Rattle.mosaic.specs.Determined.{count-is}
 use Rattle.mosaic.specs.declared.MosaicPlan.{MosaicPlan}
-
-count-is : (n : ℕ) (last start finish : List ℕ) → length (batchesIn n last start finish) ≡ n
-unfolding batchesIn
-count-is zero last start finish = refl
-count-is (suc n) last start finish =
-    omega (
-      arith,
-      count-is n last start finish,
-      length-append (batchesIn n last start finish) (record { last = getD last n 0; start = getD start n 0; finish = getD finish n 0 } ∷ []),
-    )
 
 module _ {m : MosaicSection} (S : MosaicSound m) {rs sums : List ℕ} (R : ReadyTimes m rs) (B : BenchSums m sums) where
   most-ready : (j : ℕ) → getD rs j 0 ≤ 2 ^ 39
@@ -64,20 +56,21 @@ module _ {m : MosaicSection} (S : MosaicSound m) {rs sums : List ℕ} (R : Ready
     weight = λ i q h k. weight-count m i (q - i);
   }
 
-  pub late-pre : {late row : List ℕ} → length late ≡ 1640 → length row ≡ 41 → LatePre rs sums late row (m .mount) (m .strips)
-  late-pre l r = record { input = input-is; late-long = omega arith; row-long = omega (arith, S .most-strips) }
+  -- `late` holds zeros before it is filled
+  pub late-pre : LatePre rs sums (replicate lateLength 0) (m .mount) (m .strips)
+  late-pre = record { input = input-is; late-long = omega (arith, length-replicate {A = ℕ} lateLength 0) }
 
-  pub batches-pre : {late row : List ℕ} → LateFrom rs sums late (m .mount) (m .strips) 0 → length late ≡ 1640 → length row ≡ 41
-      → BatchesPre rs sums late row (m .mount) (m .strips)
-  batches-pre L l r = record { input = input-is; all = L; late-long = omega arith; row-long = omega (arith, S .most-strips) }
+  pub batches-pre : {late : List ℕ} → LateFilled rs sums (replicate lateLength 0) late (m .mount) (m .strips) → BatchesPre rs sums late (m .mount) (m .strips)
+  batches-pre L = record { input = input-is; all = L .all; late-long = omega (arith, L .len, length-replicate {A = ℕ} lateLength 0) }
 
   pub planned : {p : MosaicPlan} → BatchesTaken rs sums (m .mount) (m .strips) p → Planned m p
   unfolding batchesOf
   planned {p} T =
       let e = T .batches ∙ sym (chosen-is m ∙ chosen-same alike 0 0) in
-      let c : p .batches ≡ length (chosenBatches m) = sym (count-is (p .batches) (p .last) (p .start) (p .finish)) ∙ ap length e in record {
+      let c : p .batches ≡ length (chosenBatches m) = sym (count-is (p .last) (p .start) (p .finish) (p .batches)) ∙ ap length e in record {
         figure = T .figure ∙ sym (least-is m ∙ least-same alike 0 0);
         batches = e;
         count = c;
         few = omega (arith, c, mosaic-count m S, S .most-strips);
+        no-more = T .no-more;
       }

@@ -13,7 +13,7 @@ use Rattle.sheet.specs.declared.MosaicSection.{MosaicSection}
 use Rattle.rules.specs.Sums.{sumOver, greatestOver}
 use Rattle.rules.specs.Mosaic.{stationSum, ready, benchSum}
 use Rattle.mosaic.specs.Tables.{ReadyTimes, BenchSums}
-use Rattle.mosaic.specs.Laws.Sums.{greatest-same}
+use Rattle.rules_laws.specs.Sums.{greatest-same}
 
 pub greatest-four : (a b c d ab abc abcd : ℕ) → ab ≡ max a b → abc ≡ max ab c → abcd ≡ max abc d → abcd ≡ max (max (max (max 0 a) b) c) d
 greatest-four a b c d ab abc abcd e f g = rw (g, f, e, zero-max a)

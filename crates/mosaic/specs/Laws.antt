@@ -1,12 +1,6 @@
--- Laws behind the theorems and the tables.
-pub mod Recursion
-pub mod Sums
+-- Laws behind the theorems.
 pub mod Rules
-pub mod Structure
-pub mod Figure
 pub mod LowerBound
 pub mod Attained
 pub mod Earliest
-pub mod Alike
 pub mod Whole
-pub mod Present

@@ -1,41 +1,9 @@
--- The least figure of the mosaic, by recursion: at each strip the open batch is closed or extended.
--- Strips are numbered from 1. A batch is the strips after strip i, up to and with strip q.
-use Prim.Native.Nat.{ℕ, zero, suc, _+_, _*_, _-_, min, max}
+-- The least figure of a mosaic: that of the recursion over its batchings (crate `batching`).
+use Prim.Native.Nat.{ℕ, _+_, _-_}
 use Rattle.sheet.specs.declared.MosaicSection.{MosaicSection}
 use Rattle.rules.specs.Sums.{sumOver}
 use Rattle.rules.specs.Mosaic.{ready, benchSum}
-
--- what the recursion reads: the number of strips, the mount time, when strip q is ready, the bench times and the weights of the strips after i up to q
-pub record Instance : Type 0 where
-  pub strips : ℕ
-  pub mount : ℕ
-  pub ready : ℕ → ℕ
-  pub bench : ℕ → ℕ → ℕ
-  pub weight : ℕ → ℕ → ℕ
-
--- "A mount starts no earlier than the last strip of its batch is ready and the batch before has finished": the earliest start of a mount
-unfoldable pub mountStart : ℕ → ℕ → ℕ
-mountStart free ready = max free ready
-
--- "Finish = start + s + the batch's bench times": when the bench work of a batch begins, and when the batch i, q finishes
-unfoldable pub benchStart : ℕ → ℕ → ℕ → ℕ
-benchStart mount free ready = mountStart free ready + mount
-
-unfoldable pub finishOf : Instance → ℕ → ℕ → ℕ → ℕ
-finishOf x free i q = benchStart (x .mount) free (x .ready q) + x .bench i q
-
--- the least figure of the strips after i, where the machine is free at `free`, the open batch has the strips after i up to q, and `left` strips follow it
-unfoldable pub leastOpen : Instance → ℕ → ℕ → ℕ → ℕ → ℕ
-leastOpen x zero i q free = x .weight i q * finishOf x free i q
-leastOpen x (suc left) i q free =
-    min
-    (x .weight i q * finishOf x free i q + leastOpen x left q (q + 1) (finishOf x free i q))
-    (leastOpen x left i (q + 1) free)
-
--- the same, with no batch open
-unfoldable pub leastFrom : Instance → ℕ → ℕ → ℕ → ℕ
-leastFrom x zero i free = 0
-leastFrom x (suc left) i free = leastOpen x left i (i + 1) free
+use Rattle.batching.specs.Least.{Instance, leastFrom}
 
 -- a strip's weight in the figure: "the sum of completions over strips"
 unfoldable pub weightOf : MosaicSection → ℕ → ℕ

@@ -23,9 +23,16 @@ batchesIn (suc n) last start finish = batchesIn n last start finish ++ (record {
 unfoldable pub batchesOf : MosaicPlan → List Batch
 batchesOf p = batchesIn (p .batches) (p .last) (p .start) (p .finish)
 
+-- zeros after the batches
+pub record NoMore (p : MosaicPlan) : Type 0 where
+  pub last : (k : ℕ) → p .batches ≤ k → getD (p .last) k 0 ≡ 0
+  pub start : (k : ℕ) → p .batches ≤ k → getD (p .start) k 0 ≡ 0
+  pub finish : (k : ℕ) → p .batches ≤ k → getD (p .finish) k 0 ≡ 0
+
 -- what `plan_mosaic` promises of a sound section
 pub record Planned (m : MosaicSection) (p : MosaicPlan) : Type 0 where
   pub figure : p .figure ≡ leastFigure m
   pub batches : batchesOf p ≡ chosenBatches m
   pub count : p .batches ≡ length (chosenBatches m)
   pub few : p .batches ≤ mostStrips
+  pub no-more : NoMore p

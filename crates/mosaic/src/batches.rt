@@ -1,9 +1,8 @@
 // The batches taken, read out of the tables from the first strip on.
 ghost use Rattle.mosaic.specs.Tables.{AddPre, Added, BatchesPre, BatchesTaken};
 use crate::MosaicPlan;
-use crate::ready::later;
-use crate::tables::choose_batch;
-use crate::tables::fill_block;
+use batching::first_batch;
+use rules::mosaic::greater;
 
 // The plan with one batch more, of `count` strips.
 fn add_batch(plan: MosaicPlan, count: u64, last: u64, start: u64, finish: u64) -> MosaicPlan
@@ -21,15 +20,8 @@ fn add_batch(plan: MosaicPlan, count: u64, last: u64, start: u64, finish: u64) -
 }
 
 // The batches taken, each mount as early as can be, and the sum of completions.
-pub fn choose_batches(
-    rs: &[u64],
-    sums: &[u64],
-    late: &[u64],
-    row: &mut [u64],
-    s: u64,
-    n: usize,
-) -> MosaicPlan
-    requires { ⌜ BatchesPre (now rs) (now sums) (now late) (now row) s n ⌝ }
+pub fn choose_batches(rs: &[u64], sums: &[u64], late: &[u64], s: u64, n: usize) -> MosaicPlan
+    requires { ⌜ BatchesPre (now rs) (now sums) (now late) s n ⌝ }
     ensures { λ plan. ⌜ BatchesTaken (now (rs .entry)) (now (sums .entry)) s n plan ⌝ }
 {
     let mut plan = MosaicPlan {
@@ -42,10 +34,9 @@ pub fn choose_batches(
     let mut i = 0;
     let mut free = 0;
     while i < n {
-        fill_block(rs, sums, late, row, s, n, free + s, i, i + 1);
-        let choice = choose_batch(rs, sums, late, &*row, s, n, free, i);
+        let choice = first_batch(rs, sums, late, s, n, free, i);
         let q = choice.last;
-        let start = later(free, rs[q - 1]);
+        let start = greater(free, rs[q - 1]);
         let finish = start + s + (sums[q] - sums[i]);
         plan = add_batch(plan, (q - i) as u64, q as u64, start, finish);
         i = q;

@@ -4,25 +4,16 @@ ghost use Rattle.mosaic.specs.Plan.{Planned};
 
 mod batches;
 mod ready;
-mod tables;
 
 use sheet::MosaicSection;
-use tables::LATE_LENGTH;
-use tables::WIDTH;
 
-// A plan of the mosaic: its figure, and last strip, mount start and finish of each batch, in the first `batches` entries.
+// A plan of the mosaic: its figure, and last strip, mount start and finish of each batch, in the first `batches` entries, with zeros after them.
 pub struct MosaicPlan {
     pub figure: u64,
     pub batches: usize,
     pub last: [u64; 40],
     pub start: [u64; 40],
     pub finish: [u64; 40],
-}
-
-// A batch that is taken: its last strip, and the least figure of the strips from its first one on.
-struct Choice {
-    last: usize,
-    figure: u64,
 }
 
 // A plan of the least figure.
@@ -34,8 +25,7 @@ pub fn plan_mosaic(m: MosaicSection) -> MosaicPlan
     let s = m.mount;
     let rs = ready::ready_times(m);
     let sums = ready::bench_sums(m);
-    let mut late = [0u64; LATE_LENGTH];
-    let mut row = [0u64; WIDTH];
-    tables::fill_late(&rs, &sums, &mut late, &mut row, s, n);
-    batches::choose_batches(&rs, &sums, &late, &mut row, s, n)
+    let mut late = [0u64; batching::LATE_LENGTH];
+    batching::fill_late(&rs, &sums, &mut late, s, n);
+    batches::choose_batches(&rs, &sums, &late, s, n)
 }

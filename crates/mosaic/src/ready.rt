@@ -1,20 +1,14 @@
 // The times that the planner reads: when each strip is ready, and the bench times added up.
 ghost use mathlib.Core.Path.{_≡_};
 ghost use mathlib.Core.List.{[], _∷_};
-ghost use Prim.Native.Nat.{_≤_, max};
+ghost use Prim.Native.Nat.{_≤_};
 ghost use lib.ListN.{getD};
 ghost use Rattle.sheet.specs.Sound.{MosaicSound};
 ghost use Rattle.rules.specs.Sums.{greatestOver};
 ghost use Rattle.mosaic.specs.Tables.{ReadyTimes, BenchSums};
+use rules::mosaic::greater;
 use sheet::MosaicSection;
 use sheet::limits::MOST_STRIPS;
-
-// The later of two times.
-pub fn later(a: u64, b: u64) -> u64
-    ensures { λ r. ⌜ r ≡ max a b ⌝ }
-{
-    if a < b { b } else { a }
-}
 
 // The greatest of the first `stations` of four sums.
 fn greatest(stations: usize, a: u64, b: u64, c: u64, d: u64) -> u64
@@ -27,15 +21,15 @@ fn greatest(stations: usize, a: u64, b: u64, c: u64, d: u64) -> u64
     if stations == 1 {
         return a;
     }
-    let ab = later(a, b);
+    let ab = greater(a, b);
     if stations == 2 {
         return ab;
     }
-    let abc = later(ab, c);
+    let abc = greater(ab, c);
     if stations == 3 {
         return abc;
     }
-    later(abc, d)
+    greater(abc, d)
 }
 
 // Entry j is when strip j + 1 is ready.

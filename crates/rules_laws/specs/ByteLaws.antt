@@ -22,10 +22,6 @@ number-suc : (s : List ℕ) (at width : ℕ) → numberAt s at (suc width) ≡ g
 unfolding numberAt
 number-suc s at width = refl
 
-bytes-suc : (width value : ℕ) → bytesOf (suc width) value ≡ value % 256 ∷ bytesOf width (value / 256)
-unfolding bytesOf
-bytes-suc width value = refl
-
 pow-byte : (width : ℕ) → 2 ^ (8 * suc width) ≡ 256 * 2 ^ (8 * width)
 pow-byte width = ap (λ k. 2 ^ k) eight ∙ pow-add 2 8 (8 * width)
   where

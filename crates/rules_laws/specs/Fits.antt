@@ -1,6 +1,6 @@
 -- Lawful timetables of sound sections fit their bytes: members have small numbers and times up to the ceiling, there are no more of them than strips or blocks,
 -- and the figures are at most so many times the ceiling, and at least 1 where the section has a member.
-use mathlib.Core.Path.{_≡_, refl, sym, ap, _∙_}
+use mathlib.Core.Path.{_≡_, refl, sym, _∙_}
 use mathlib.Core.Bool.{Bool, true, false, cond}
 use mathlib.Core.List.{List, [], _∷_}
 use Prim.Native.Nat.{ℕ, zero, suc, _+_, _-_, _*_, _^_, _≤_, _<_}
@@ -18,7 +18,7 @@ use Rattle.sheet.specs.declared.FlightSection.{FlightSection}
 use Rattle.rules.specs.Sums.{sumOver}
 use Rattle.rules.specs.Mosaic.{benchSum, noBatch, batchAt, batchBefore, MosaicLawful, completion, mosaicFigure}
 use Rattle.rules.specs.Sorting.{stripsOf, slot, deskTime, scanEnd, deskFinish, jobAt, jobsOf, SortingLawful, sortingFigure}
-use Rattle.rules.specs.Flight.{passesAt, passStart, passEnd, FlightLawful, OrderAllowed, flightFigure}
+use Rattle.rules.specs.Flight.{passesAt, passEnd, FlightLawful, OrderAllowed, flightFigure}
 use Rattle.rules.specs.Running.{BatchFollows, MosaicRuns, none, more}
 use Rattle.rules.specs.declared.Batch.{Batch}
 use Rattle.rules.specs.declared.Job.{Job}
@@ -27,7 +27,7 @@ use Rattle.rules_laws.specs.Sums.{sum-most, sum-least, greatest-most, gr
 use Rattle.rules_laws.specs.MosaicRunning.{count-within, follows-at, runningFigure}
 use Rattle.rules_laws.specs.Equivalent.{mosaic-runs, mosaic-figure}
 use Rattle.rules_laws.specs.SortingRunning.{jobs-same, jobs-other, number-known}
-use Rattle.rules_laws.specs.FlightRunning.{start-second, end-is, time-some}
+use Rattle.rules_laws.specs.FlightRunning.{second-start, end-is, time-some}
 use Rattle.rules_laws.specs.RoundTrip.{BatchFits, JobFits, PassesFits}
 
 -- The mosaic.
@@ -171,13 +171,7 @@ module _ (f : FlightSection) (ps : List Passes) (sound : FlightSound f) (L : Fli
       omega (arith, greatest-part (2 * f .blocks) (λ p. passEnd f ps p) 0 (omega arith), end-is f ps 0, time-some f sound 0 (omega arith))
 
   pub passes-second : (i : ℕ) → i < length ps → passesAt ps i .second ≤ ceiling
-  passes-second i l = omega (arith, L .within (f .blocks + i) (omega (arith, L .every-block)), end-is f ps (f .blocks + i), there)
-    where
-      back : f .blocks + i - f .blocks ≡ i
-      back = omega arith
-
-      there : passStart f ps (f .blocks + i) ≡ passesAt ps i .second
-      there = start-second f ps (f .blocks + i) (omega arith) ∙ ap (λ (x : ℕ). passesAt ps x .second) back
+  passes-second i l = omega (arith, L .within (f .blocks + i) (omega (arith, L .every-block)), end-is f ps (f .blocks + i), second-start f ps i)
 
   pub passes-first : (i : ℕ) → i < length ps → passesAt ps i .first ≤ ceiling
   passes-first i l = omega (arith, L .exact-delay i (omega (arith, L .every-block)), passes-second i l)

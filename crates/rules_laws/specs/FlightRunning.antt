@@ -82,6 +82,12 @@ module _ (f : FlightSection) where
   unfolding passTime
   time-second p l = rw (le-ltb p (f .blocks) l)
 
+  pub second-time : (i : ℕ) → passTime f (f .blocks + i) ≡ getD (f .second) i 0
+  second-time i = time-second (f .blocks + i) (omega arith) ∙ ap (λ (x : ℕ). getD (f .second) x 0) back
+    where
+      back : f .blocks + i - f .blocks ≡ i
+      back = omega arith
+
   -- a pass takes at least a second
   pub time-some : FlightSound f → (p : ℕ) → p < 2 * f .blocks → 1 ≤ passTime f p
   time-some sound p l = go (decLt p (f .blocks))
@@ -99,58 +105,57 @@ module _ (f : FlightSection) (ps : List Passes) where
   unfolding passStart
   start-second p l = rw (le-ltb p (f .blocks) l)
 
+  pub second-start : (i : ℕ) → passStart f ps (f .blocks + i) ≡ passesAt ps i .second
+  second-start i = start-second (f .blocks + i) (omega arith) ∙ ap (λ (x : ℕ). passesAt ps x .second) back
+    where
+      back : f .blocks + i - f .blocks ≡ i
+      back = omega arith
+
   pub end-is : (p : ℕ) → passEnd f ps p ≡ passStart f ps p + passTime f p
   unfolding passEnd
   end-is p = refl
 
   -- From the rules to the run.
+  pub next-apart : (w : ℕ) → FlightLawful f ps → Keeps f w ps → Proper (f .blocks) w
+      → (k : ℕ) → k + 1 < 2 * f .blocks → passEnd f ps (passAt f w k) ≤ passStart f ps (passAt f w (k + 1))
+  next-apart w law keeps proper k l =
+      ⊎-elim (λ h. h) (λ h. absurd (omega (arith, h, later, end-is (passAt f w (k + 1)))))
+      (law .apart (passAt f w k) (passAt f w (k + 1)) (pass-known f w proper k (omega arith)) (pass-known f w proper (k + 1) l) differ)
+    where
+      later : passStart f ps (passAt f w k) < passStart f ps (passAt f w (k + 1))
+      later = keeps .by-start k (k + 1) (omega arith) l
+
+      differ : passAt f w k ≡ passAt f w (k + 1) → ⊥
+      differ e = omega (arith, later, ap (passStart f ps) e)
+
   module _ (w : ℕ) (law : FlightLawful f ps) (keeps : Keeps f w ps) (allowed : OrderAllowed f w) where
     block-follows : (i : ℕ) → i < f .blocks → BlockFollows f i (passesAt ps i)
     block-follows i l = record {
       known = l;
       exact-delay = law .exact-delay i l;
-      within = omega (arith, law .within (f .blocks + i) (omega arith), end-is (f .blocks + i), there, time);
+      within = omega (arith, law .within (f .blocks + i) (omega arith), end-is (f .blocks + i), second-start i, second-time f i);
     }
-      where
-        back : f .blocks + i - f .blocks ≡ i
-        back = omega arith
-
-        there : passStart f ps (f .blocks + i) ≡ passesAt ps i .second
-        there = start-second (f .blocks + i) (omega arith) ∙ ap (λ (x : ℕ). passesAt ps x .second) back
-
-        time : passTime f (f .blocks + i) ≡ getD (f .second) i 0
-        time = time-second f (f .blocks + i) (omega arith) ∙ ap (λ (x : ℕ). getD (f .second) x 0) back
-
-    next-apart : (k : ℕ) → k + 1 < 2 * f .blocks → passEnd f ps (passAt f w k) ≤ passStart f ps (passAt f w (k + 1))
-    next-apart k l =
-        ⊎-elim (λ h. h) (λ h. absurd (omega (arith, h, later, end-is (passAt f w (k + 1)))))
-        (law .apart (passAt f w k) (passAt f w (k + 1)) (pass-known f w (allowed .proper) k (omega arith)) (pass-known f w (allowed .proper) (k + 1) l) differ)
-      where
-        later : passStart f ps (passAt f w k) < passStart f ps (passAt f w (k + 1))
-        later = keeps .by-start k (k + 1) (omega arith) l
-
-        differ : passAt f w k ≡ passAt f w (k + 1) → ⊥
-        differ e = omega (arith, later, ap (passStart f ps) e)
 
     pub lawful-runs : FlightRuns f w ps
     lawful-runs = record {
       members = λ i l. block-follows i (omega (arith, law .every-block));
-      head = record { every-block = law .every-block; proper = allowed .proper; as-given = allowed .as-given; in-order = next-apart };
+      head = record { every-block = law .every-block; proper = allowed .proper; as-given = allowed .as-given; in-order = next-apart w law keeps (allowed .proper) };
     }
 
-  -- From the run to the rules.
-  module _ (w : ℕ) (R : FlightRuns f w ps) where
+  -- Where each pass ends before the next one in a proper order starts, it ends before every later one, and any two passes are apart.
+  module _ (w : ℕ) (proper : Proper (f .blocks) w)
+      (next : (k : ℕ) → k + 1 < 2 * f .blocks → passEnd f ps (passAt f w k) ≤ passStart f ps (passAt f w (k + 1))) where
     chain : (j d : ℕ) → j + 1 + d < 2 * f .blocks → passEnd f ps (passAt f w j) ≤ passStart f ps (passAt f w (j + 1 + d))
-    chain j zero l = rw (add-zero (j + 1)) (R .head .in-order j (omega arith))
+    chain j zero l = rw (add-zero (j + 1)) (next j (omega arith))
     chain j (suc d) l =
-        subst (λ (k : ℕ). passEnd f ps (passAt f w j) ≤ passStart f ps (passAt f w k)) next
-        (omega (arith, chain j d (omega arith), end-is (passAt f w (j + 1 + d)), R .head .in-order (j + 1 + d) (omega arith)))
+        subst (λ (k : ℕ). passEnd f ps (passAt f w j) ≤ passStart f ps (passAt f w k)) there
+        (omega (arith, chain j d (omega arith), end-is (passAt f w (j + 1 + d)), next (j + 1 + d) (omega arith)))
       where
-        next : j + 1 + d + 1 ≡ j + 1 + suc d
-        next = omega arith
+        there : j + 1 + d + 1 ≡ j + 1 + suc d
+        there = omega arith
 
-    apart-before : (j k : ℕ) → j < k → k < 2 * f .blocks → passEnd f ps (passAt f w j) ≤ passStart f ps (passAt f w k)
-    apart-before j k h l = subst (λ (i : ℕ). passEnd f ps (passAt f w j) ≤ passStart f ps (passAt f w i)) there (chain j (k - (j + 1)) (omega arith))
+    pub before-later : (j k : ℕ) → j < k → k < 2 * f .blocks → passEnd f ps (passAt f w j) ≤ passStart f ps (passAt f w k)
+    before-later j k h l = subst (λ (i : ℕ). passEnd f ps (passAt f w j) ≤ passStart f ps (passAt f w i)) there (chain j (k - (j + 1)) (omega arith))
       where
         there : j + 1 + (k - (j + 1)) ≡ k
         there = omega arith
@@ -160,17 +165,24 @@ module _ (f : FlightSection) (ps : List Passes) where
     apart-at j k lj lk ne = go (decLt j k) (ℕ-discrete j k)
       where
         go : Dec (j < k) → Dec (j ≡ k) → (passEnd f ps (passAt f w j) ≤ passStart f ps (passAt f w k)) ⊎ (passEnd f ps (passAt f w k) ≤ passStart f ps (passAt f w j))
-        go (yes h) e = inl (apart-before j k h lk)
+        go (yes h) e = inl (before-later j k h lk)
         go (no h) (yes e) = absurd (ne (ap (passAt f w) e))
-        go (no h) (no e) = inr (apart-before k j (omega arith) lj)
+        go (no h) (no e) = inr (before-later k j (omega arith) lj)
 
-    apart : (p q : ℕ) → p < 2 * f .blocks → q < 2 * f .blocks → (p ≡ q → ⊥) → (passEnd f ps p ≤ passStart f ps q) ⊎ (passEnd f ps q ≤ passStart f ps p)
-    apart p q lp lq ne = go (position f w (R .head .proper) p lp) (position f w (R .head .proper) q lq)
+    pub all-apart : (p q : ℕ) → p < 2 * f .blocks → q < 2 * f .blocks → (p ≡ q → ⊥) → (passEnd f ps p ≤ passStart f ps q) ⊎ (passEnd f ps q ≤ passStart f ps p)
+    all-apart p q lp lq ne = go (position f w proper p lp) (position f w proper q lq)
       where
         go : (j : ℕ) × (j < 2 * f .blocks) × (passAt f w j ≡ p) → (k : ℕ) × (k < 2 * f .blocks) × (passAt f w k ≡ q)
             → (passEnd f ps p ≤ passStart f ps q) ⊎ (passEnd f ps q ≤ passStart f ps p)
         go a b = rw (← a .2, ← b .2) (apart-at (a .0) (b .0) (a .1) (b .1) (λ e. ne (sym (a .2) ∙ e ∙ b .2)))
 
+    pub order-kept : FlightSound f → Keeps f w ps
+    order-kept sound = record {
+      by-start = λ j k h l. omega (arith, before-later j k h l, end-is (passAt f w j), time-some f sound (passAt f w j) (pass-known f w proper j (omega arith)));
+    }
+
+  -- From the run to the rules.
+  module _ (w : ℕ) (R : FlightRuns f w ps) where
     within : (p : ℕ) → p < 2 * f .blocks → passEnd f ps p ≤ ceiling
     within p l = go (decLt p (f .blocks))
       where
@@ -186,14 +198,12 @@ module _ (f : FlightSection) (ps : List Passes) where
     runs-lawful = record {
       every-block = R .head .every-block;
       exact-delay = λ i l. R .members i (omega (arith, R .head .every-block)) .exact-delay;
-      apart = apart;
+      apart = all-apart w (R .head .proper) (R .head .in-order);
       within = within;
     }
 
     pub runs-keeps : FlightSound f → Keeps f w ps
-    runs-keeps sound = record {
-      by-start = λ j k h l. omega (arith, apart-before j k h l, end-is (passAt f w j), time-some f sound (passAt f w j) (pass-known f w (R .head .proper) j (omega arith)));
-    }
+    runs-keeps = order-kept w (R .head .proper) (R .head .in-order)
 
     pub runs-allowed : OrderAllowed f w
     runs-allowed = record { proper = R .head .proper; as-given = R .head .as-given }

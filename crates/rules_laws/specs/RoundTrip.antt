@@ -19,7 +19,7 @@ use Rattle.rules.specs.declared.Batch.{Batch}
 use Rattle.rules.specs.declared.Job.{Job}
 use Rattle.rules.specs.declared.Passes.{Passes}
 use Rattle.rules_laws.specs.ByteLaws.{AreBytes, number-append, number-back, bytes-number, number-then, field-stands, field-written}
-use Rattle.rules_laws.specs.Members.{Kind, length-members, members-back, members-found, members-stand}
+use Rattle.rules_laws.specs.Members.{Kind, members-back, members-found, members-stand}
 
 -- members whose values fit their bytes
 pub record BatchFits (b : Batch) : Type 0 where
@@ -163,10 +163,6 @@ passesKind = record {
 
 -- The batches of a mosaic.
 module _ (bs : List Batch) where
-  pub length-batches : length (membersBytes batchBytes bs) ≡ 12 * length bs
-  unfolding batchKind
-  length-batches = length-members batchKind bs
-
   pub batches-back : (pre post : List ℕ) → ((i : ℕ) → i < length bs → BatchFits (batchAt bs i)) → membersFrom batchFrom 12 (pre ++ membersBytes batchBytes bs ++ post) (length pre) (length bs) ≡ bs
   unfolding batchKind batchAt
   batches-back pre post h = members-back batchKind bs pre post noBatch h
@@ -181,10 +177,6 @@ batches-stand plan b n at h = members-stand batchKind plan b n at h
 
 -- The jobs of a sorting.
 module _ (js : List Job) where
-  pub length-jobs : length (membersBytes jobBytes js) ≡ 13 * length js
-  unfolding jobKind
-  length-jobs = length-members jobKind js
-
   pub jobs-back : (pre post : List ℕ) → ((i : ℕ) → i < length js → JobFits (jobAt js i)) → membersFrom jobFrom 13 (pre ++ membersBytes jobBytes js ++ post) (length pre) (length js) ≡ js
   unfolding jobKind jobAt
   jobs-back pre post h = members-back jobKind js pre post noJob h
@@ -199,10 +191,6 @@ jobs-stand plan b n at h = members-stand jobKind plan b n at h
 
 -- The blocks of a flight.
 module _ (ps : List Passes) where
-  pub length-passes : length (membersBytes passesBytes ps) ≡ 11 * length ps
-  unfolding passesKind
-  length-passes = length-members passesKind ps
-
   pub blocks-back : (pre post : List ℕ) → ((i : ℕ) → i < length ps → PassesFits (passesAt ps i)) → membersFrom passesFrom 11 (pre ++ membersBytes passesBytes ps ++ post) (length pre) (length ps) ≡ ps
   unfolding passesKind passesAt
   blocks-back pre post h = members-back passesKind ps pre post noPasses h

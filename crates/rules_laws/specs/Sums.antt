@@ -53,3 +53,8 @@ greatest-part (suc n) f k l = go (ℕ-discrete k n) (greatest-part n f k)
     go : Dec (k ≡ n) → (k < n → f k ≤ greatestOver n f) → f k ≤ max (greatestOver n f) (f n)
     go (yes e) ih = rw e (omega arith)
     go (no ne) ih = omega (arith, ih (omega arith))
+
+pub greatest-same : (n : ℕ) (f g : ℕ → ℕ) → ((k : ℕ) → k < n → f k ≡ g k) → greatestOver n f ≡ greatestOver n g
+unfolding greatestOver
+greatest-same zero f g h = refl
+greatest-same (suc n) f g h = omega (arith, greatest-same n f g (λ k l. h k (omega arith)), h n (omega arith))

@@ -1,7 +1,6 @@
 -- The sorting planner: the least figure, the chosen jobs, and the theorems against the rules.
 pub mod Plan
 pub mod Theorems
-pub mod Worked
 pub mod Contracts
 pub mod Writing
 pub mod Listed

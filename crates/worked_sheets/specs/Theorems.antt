@@ -24,8 +24,10 @@ use Rattle.rules.specs.Sums.{sumOver, greatestOver}
 use Rattle.rules.specs.Mosaic.{stationSum, ready, benchSum, noBatch, batchAt, batchBefore, batchSize, completion, mosaicFigure as ruleMosaicFigure}
 use Rattle.rules.specs.Sorting.{stripsOf, slot, scanTime, deskTime, scanEnd, deskFinish, noJob, jobAt, jobsOf, sortingFigure as ruleSortingFigure}
 use Rattle.rules.specs.Flight.{noPasses, passesAt, passStart, passTime, passEnd, passAt, flightFigure as ruleFlightFigure}
-use Rattle.mosaic.specs.Least.{mountStart, benchStart, finishOf, leastOpen, leastFrom, weightOf, weightSum, instanceOf}
-use Rattle.mosaic.specs.Chosen.{batchOf, chosenOpen, chosenFrom, chosenBatches}
+use Rattle.batching.specs.Least.{mountStart, benchStart, finishOf, leastOpen, leastFrom}
+use Rattle.batching.specs.Chosen.{batchOf, chosenOpen, chosenFrom}
+use Rattle.mosaic.specs.Least.{weightOf, weightSum, instanceOf}
+use Rattle.mosaic.specs.Chosen.{chosenBatches}
 use Rattle.sorting.specs.Plan.{instanceOf as sortingInstance, listedDesk, reached, jobOf, listed, jobsOfList, chosenJobs}
 use Rattle.interleaving.specs.Search.{maxOf, stepOf, keep, overDesks, branch, searchFrom, startState, firstBest}
 use Rattle.difference.specs.System.{relax, relaxed, rounds, holds, leastValues, solvable}

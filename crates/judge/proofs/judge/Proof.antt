@@ -1,3 +1,4 @@
+-- `judge` meets its contract: a fault of the sheet is handed on; else the sheet is sound, and the plan is judged by it.
 use Rattle.judge.specs.Loops.{sheet-wrong, sheet-right, sheet-sound}
 use borrow.Author.Needs.{needs}
 use Rattle.judge.proofs.judge.Statement.{statement}

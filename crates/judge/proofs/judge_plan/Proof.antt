@@ -1,3 +1,4 @@
+-- `judge_plan` meets its contract: the layout goes first, then the sections; where neither has a fault, the stated figures are handed out.
 use Rattle.judge.specs.Loops.{stated-mosaic, stated-sorting, stated-flight, layout-wrong, section-wrong, all-right, sorting-at, flight-at}
 use borrow.Author.Needs.{needs}
 use Rattle.judge.proofs.judge_plan.Statement.{statement}

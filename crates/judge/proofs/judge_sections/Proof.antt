@@ -1,3 +1,4 @@
+-- `judge_sections` meets its contract. Outer invariant: no section before this one has a fault. Inner invariant: no member before this one has one.
 use Rattle.judge.specs.Loops.{index-fits}
 use Prim.Native.Nat.{_-_}
 use borrow.Author.Needs.{needs}

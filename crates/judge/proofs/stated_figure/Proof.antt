@@ -1,3 +1,4 @@
+-- `stated_figure` meets its contract: the figure that stands at the section's head, or 0 where the section is absent.
 use Rattle.judge.specs.Loops.{stated-none, stated-here}
 use borrow.Author.Needs.{needs}
 use Rattle.judge.proofs.stated_figure.Statement.{statement}

@@ -1,3 +1,4 @@
+-- `turn_back` meets its contract: it is the definition, field by field.
 use mathlib.Core.Path.{refl}
 use Rattle.judge.specs.Judged.{turnedBack}
 use Rattle.judge.proofs.turn_back.Statement.{statement}

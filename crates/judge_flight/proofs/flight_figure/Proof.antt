@@ -1,3 +1,4 @@
+-- `flight_figure` meets its contract. Invariant: `greatest` is the latest end of the passes before p.
 use Prim.Native.Nat.{_-_, _*_}
 use mathlib.Core.Path.{_≡_, refl}
 use borrow.Author.Needs.{needs}

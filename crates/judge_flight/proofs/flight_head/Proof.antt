@@ -1,3 +1,4 @@
+-- `flight_head` meets its contract: members, order number and passes are tested in the order of the definition.
 use Rattle.judge_flight.specs.Laws.{members-wrong, proper-wrong, order-asked, given-wrong, head-given, head-free}
 use borrow.Author.Needs.{needs}
 use Rattle.judge_flight.proofs.flight_head.Statement.{statement}

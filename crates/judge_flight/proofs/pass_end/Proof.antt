@@ -1,3 +1,4 @@
+-- `pass_end` meets its contract: start and time of a pass are small enough to be added.
 use Rattle.judge_flight.specs.Laws.{end-told}
 use borrow.Author.Needs.{needs}
 use Rattle.judge_flight.proofs.pass_end.Statement.{statement}

@@ -1,3 +1,4 @@
+-- `pass_start` meets its contract: a first pass and a second pass are read from their own place in the member.
 use Rattle.judge_flight.specs.Laws.{first-start, second-start}
 use borrow.Author.Needs.{needs}
 use Rattle.judge_flight.proofs.pass_start.Statement.{statement}

@@ -1,3 +1,4 @@
+-- `passes_in_order` meets its contract. Invariant: the passes at positions up to k come in the order's turn, none before the end of the one before.
 use Prim.Native.Nat.{_-_, _*_}
 use mathlib.Core.Path.{_≡_, refl}
 use borrow.Author.Needs.{needs}

@@ -1,3 +1,4 @@
+-- `flight_part` meets its contract: it is the part behind the sorting's, by the definition.
 use Rattle.judge_layout.specs.Laws.{flight-part-is}
 use borrow.Author.Needs.{needs}
 use Rattle.judge_layout.proofs.flight_part.Statement.{statement}

@@ -1,3 +1,4 @@
+-- `is_field` meets its contract: each way through the match tells whether the due field stands there.
 use Rattle.judge_layout.specs.Laws.{found-none, found-cut, found-other, found-same}
 use borrow.Author.Needs.{needs}
 use Rattle.judge_layout.proofs.is_field.Statement.{statement}

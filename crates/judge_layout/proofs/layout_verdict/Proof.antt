@@ -1,3 +1,4 @@
+-- `layout_verdict` meets its contract: the first part that is not right names the place; then what stands behind the last.
 use Rattle.judge_layout.specs.Laws.{mosaic-wrong, sorting-wrong, flight-wrong, more-behind, layout-right}
 use Rattle.judge_layout.proofs.layout_verdict.Statement.{statement}
 use Rattle.judge_layout.proofs.layout_verdict.Tie as tie

@@ -1,3 +1,4 @@
+-- `mosaic_part` meets its contract: it is the part at the start of the plan, by the definition.
 use Rattle.judge_layout.specs.Laws.{mosaic-part-is}
 use borrow.Author.Needs.{needs}
 use Rattle.judge_layout.proofs.mosaic_part.Statement.{statement}

@@ -1,3 +1,4 @@
+-- `part_from` meets its contract. Invariant: so many members stand behind the head, and `end` is the offset behind them.
 use Rattle.judge_layout.specs.Laws.{counted-fits}
 use Prim.Native.Nat.{_+_, _-_}
 use mathlib.Core.Path.{refl}

@@ -1,3 +1,4 @@
+-- `part_of` meets its contract: an absent section, a wrong head and a right one are the three cases of the definition.
 use Rattle.judge_layout.specs.Laws.{part-absent, part-wrong, part-right, part-asked}
 use borrow.Author.Needs.{needs}
 use Rattle.judge_layout.proofs.part_of.Statement.{statement}

@@ -1,3 +1,4 @@
+-- `sorting_part` meets its contract: it is the part behind the mosaic's, by the definition.
 use Rattle.judge_layout.specs.Laws.{sorting-part-is}
 use borrow.Author.Needs.{needs}
 use Rattle.judge_layout.proofs.sorting_part.Statement.{statement}

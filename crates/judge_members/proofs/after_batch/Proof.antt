@@ -1,3 +1,4 @@
+-- `after_batch` meets its contract: what the batch adds to the figure is small enough to be added.
 use Rattle.judge_members.specs.Laws.{completions-fit, figure-fits, after-batch-is}
 use borrow.Author.Needs.{needs}
 use Rattle.judge_members.proofs.after_batch.Statement.{statement}

@@ -1,3 +1,4 @@
+-- `after_member` meets its contract: one case a section.
 use Rattle.judge_members.specs.Laws.{after-batch-asked, after-strip-asked, after-mosaic, after-sorting, after-flight}
 use borrow.Author.Needs.{needs}
 use Rattle.judge_members.proofs.after_member.Statement.{statement}

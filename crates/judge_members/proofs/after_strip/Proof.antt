@@ -1,3 +1,4 @@
+-- `after_strip` meets its contract: what the strip adds to the figure is small enough to be added.
 use Rattle.judge_members.specs.Laws.{strip-figure-fits, after-strip-is}
 use borrow.Author.Needs.{needs}
 use Rattle.judge_members.proofs.after_strip.Statement.{statement}

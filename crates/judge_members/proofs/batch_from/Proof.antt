@@ -1,3 +1,4 @@
+-- `batch_from` meets its contract: the numbers read are those of the definition.
 use Rattle.judge_members.specs.Laws.{batch-read}
 use borrow.Author.Needs.{needs}
 use Rattle.judge_members.proofs.batch_from.Statement.{statement}

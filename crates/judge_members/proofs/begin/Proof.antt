@@ -1,3 +1,4 @@
+-- `begin` meets its contract: it is the definition, field by field.
 use mathlib.Core.Path.{refl}
 use Rattle.rules.specs.Mosaic.{noBatch}
 use Rattle.rules.specs.Running.{freeDesks}

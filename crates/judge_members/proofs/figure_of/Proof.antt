@@ -1,3 +1,4 @@
+-- `figure_of` meets its contract: one case a section.
 use Rattle.judge_members.specs.Laws.{figure-mosaic, figure-sorting, figure-flight}
 use borrow.Author.Needs.{needs}
 use Rattle.judge_members.proofs.figure_of.Statement.{statement}

@@ -1,3 +1,4 @@
+-- `head_follows` meets its contract: one case a section.
 use Rattle.judge_members.specs.Laws.{head-mosaic, head-sorting, head-flight}
 use borrow.Author.Needs.{needs}
 use Rattle.judge_members.proofs.head_follows.Statement.{statement}

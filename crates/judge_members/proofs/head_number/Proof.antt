@@ -1,3 +1,4 @@
+-- `head_number` meets its contract: 13 where the head does not follow, then 14 where the stated figure is not the true one.
 use Rattle.judge_members.specs.Laws.{head-wrong, figure-asked, figure-wrong, head-right}
 use borrow.Author.Needs.{needs}
 use Rattle.judge_members.proofs.head_number.Statement.{statement}

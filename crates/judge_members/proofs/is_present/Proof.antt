@@ -1,3 +1,4 @@
+-- `is_present` meets its contract: one case a section.
 use Rattle.judge_members.specs.Laws.{present-mosaic, present-sorting, present-flight}
 use borrow.Author.Needs.{needs}
 use Rattle.judge_members.proofs.is_present.Statement.{statement}

@@ -1,3 +1,4 @@
+-- `job_from` meets its contract: the numbers read are those of the definition.
 use Rattle.judge_members.specs.Laws.{job-read}
 use borrow.Author.Needs.{needs}
 use Rattle.judge_members.proofs.job_from.Statement.{statement}

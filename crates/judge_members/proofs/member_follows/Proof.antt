@@ -1,3 +1,4 @@
+-- `member_follows` meets its contract: one case a section; the member is read and tested against what came before.
 use Rattle.judge_members.specs.Laws.{member-batch, member-job, member-block, batch-asked, job-asked, block-asked}
 use borrow.Author.Needs.{needs}
 use Rattle.judge_members.proofs.member_follows.Statement.{statement}

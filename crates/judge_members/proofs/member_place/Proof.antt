@@ -1,3 +1,4 @@
+-- `member_place` meets its contract: one case a section: members of a section have one size.
 use Rattle.judge_members.specs.Laws.{place-mosaic, place-sorting, place-flight}
 use borrow.Author.Needs.{needs}
 use Rattle.judge_members.proofs.member_place.Statement.{statement}

@@ -1,3 +1,4 @@
+-- `passes_from` meets its contract: the numbers read are those of the definition.
 use Rattle.judge_members.specs.Laws.{passes-read}
 use borrow.Author.Needs.{needs}
 use Rattle.judge_members.proofs.passes_from.Statement.{statement}

@@ -1,3 +1,4 @@
+-- `after_job` meets its contract: it is the definition, field by field.
 use Rattle.judge_rules.specs.Laws.{after-is}
 use borrow.Author.Needs.{needs}
 use Rattle.judge_rules.proofs.after_job.Statement.{statement}

@@ -1,3 +1,4 @@
+-- `all_done` meets its contract. Invariant: the desks before d have had all their strips.
 use Prim.Native.Nat.{_-_}
 use borrow.Author.Needs.{needs}
 use Rattle.judge_rules.specs.Laws.{DoneSoFar, done-none, done-more, done-wrong, done-all}

@@ -1,3 +1,4 @@
+-- `batch_follows` meets its contract: a batch that rises has a ready time and bench times to compare with; one that does not is refused first.
 use Rattle.judge_rules.specs.Laws.{batch-wrong, batch-ready, batch-rises, batch-bench, batch-right}
 use borrow.Author.Needs.{needs}
 use Rattle.judge_rules.proofs.batch_follows.Statement.{statement}

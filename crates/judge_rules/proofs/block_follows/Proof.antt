@@ -1,3 +1,4 @@
+-- `block_follows` meets its contract: a block past the last is refused first; else its due start is small enough to be added up.
 use Rattle.judge_rules.specs.Laws.{block-past, block-due, flown-fits, second-fits, end-fits}
 use borrow.Author.Needs.{needs}
 use Rattle.judge_rules.proofs.block_follows.Statement.{statement}

@@ -1,3 +1,4 @@
+-- `job_follows` meets its contract: a strip that is in turn has times to compare with; one that is not is refused first.
 use Rattle.judge_rules.specs.Laws.{done-few, job-wrong, job-slot, job-right}
 use borrow.Author.Needs.{needs}
 use Rattle.judge_rules.proofs.job_follows.Statement.{statement}

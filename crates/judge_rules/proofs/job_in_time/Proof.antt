@@ -1,3 +1,4 @@
+-- `job_in_time` meets its contract: each way through its tests is one through the definition.
 use Rattle.field.specs.Branch.{branches}
 use Rattle.judge_rules.specs.Follows.{jobInTime}
 use Rattle.judge_rules.proofs.job_in_time.Statement.{statement}

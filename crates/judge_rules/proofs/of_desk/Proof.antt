@@ -1,3 +1,4 @@
+-- `of_desk` meets its contract: the value of a desk that there is, and 0 of any other.
 use Rattle.judge_rules.specs.Laws.{desk-there, desk-none}
 use borrow.Author.Needs.{needs}
 use Rattle.judge_rules.proofs.of_desk.Statement.{statement}

@@ -1,5 +1,4 @@
 -- `plan_mosaic` meets its contract: the tables are filled and read with the times of the section, and the instance that these give agrees with the section's.
-use mathlib.Core.Path.{refl}
 use Rattle.mosaic.proofs.PlanLaws.{late-pre, batches-pre, planned}
 use borrow.Author.Needs.{needs}
 use Rattle.mosaic.proofs.plan_mosaic.Statement.{statement}
@@ -20,11 +19,8 @@ slice-aggregate-fill-late-2 c = search needs
 slice-aggregate-fill-late-3 : tie.Need-slice-aggregate-fill-late-3
 slice-aggregate-fill-late-3 c = search needs
 
-slice-aggregate-fill-late-4 : tie.Need-slice-aggregate-fill-late-4
-slice-aggregate-fill-late-4 c = search needs
-
 fill-late-requires : tie.Need-fill-late-requires
-fill-late-requires c κs = late-pre (c .before .before .before .before .before .before .pre) (c .before .before .before .before .before .ready-times .ensures) (c .before .before .before .before .bench-sums .ensures) refl refl
+fill-late-requires c κs = search late-pre
 
 slice-aggregate-choose-batches : tie.Need-slice-aggregate-choose-batches
 slice-aggregate-choose-batches c = search needs
@@ -35,14 +31,11 @@ slice-aggregate-choose-batches-2 c = search needs
 slice-aggregate-choose-batches-3 : tie.Need-slice-aggregate-choose-batches-3
 slice-aggregate-choose-batches-3 c = search needs
 
-slice-aggregate-choose-batches-4 : tie.Need-slice-aggregate-choose-batches-4
-slice-aggregate-choose-batches-4 c = search needs
-
 choose-batches-requires : tie.Need-choose-batches-requires
-choose-batches-requires c κs = batches-pre (c .before .before .before .before .before .before .before .before .before .before .before .before .before .pre) (c .before .before .before .before .before .before .before .before .before .before .before .before .ready-times .ensures) (c .before .before .before .before .before .before .before .before .before .before .before .bench-sums .ensures) (c .before .before .before .before .before .before .fill-late .ensures) (search needs) (search needs)
+choose-batches-requires c κs = search batches-pre
 
 returns : tie.Need-returns
-returns c = planned (c .before .before .before .before .before .before .before .before .before .before .before .before .before .before .before .pre) (c .before .before .before .before .before .before .before .before .before .before .before .before .before .before .ready-times .ensures) (c .before .before .before .before .before .before .before .before .before .before .before .before .before .bench-sums .ensures) (c .before .choose-batches .ensures)
+returns c = search planned
 
 pub plan-mosaic-spec : {M : Type 1} → statement M
 plan-mosaic-spec =
@@ -53,11 +46,9 @@ plan-mosaic-spec =
     slice-aggregate-fill-late
     slice-aggregate-fill-late-2
     slice-aggregate-fill-late-3
-    slice-aggregate-fill-late-4
     fill-late-requires
     slice-aggregate-choose-batches
     slice-aggregate-choose-batches-2
     slice-aggregate-choose-batches-3
-    slice-aggregate-choose-batches-4
     choose-batches-requires
     returns)

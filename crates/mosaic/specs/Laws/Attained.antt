@@ -11,13 +11,14 @@ use Rattle.sheet.specs.Sound.{MosaicSound}
 use Rattle.sheet.specs.declared.MosaicSection.{MosaicSection}
 use Rattle.rules.specs.declared.Batch.{Batch}
 use Rattle.rules.specs.Mosaic.{ready}
-use Rattle.mosaic.specs.Least.{mountStart, benchStart, finishOf, instanceOf}
-use Rattle.mosaic.specs.Chosen.{batchOf}
-use Rattle.mosaic.specs.Index.{leastAt, openAt, closedAt, chosenAt, chosenOpenAt}
-use Rattle.mosaic.specs.Laws.Recursion.{least-end, least-one, least-open, open-last, open-more, chosen-end, chosen-open, chosen-last, chosen-close, chosen-extend}
+use Rattle.rules.specs.Running.{BatchFollows, MosaicRuns, none, more}
+use Rattle.rules_laws.specs.MosaicRunning.{runningFigure}
+use Rattle.batching.specs.Least.{mountStart, benchStart, finishOf}
+use Rattle.mosaic.specs.Least.{instanceOf}
+use Rattle.batching.specs.Chosen.{batchOf}
+use Rattle.batching.specs.Index.{leastAt, openAt, closedAt, chosenAt, chosenOpenAt}
+use Rattle.batching.specs.Recursion.{least-end, least-one, least-open, open-last, open-more, chosen-end, chosen-open, chosen-last, chosen-close, chosen-extend}
 use Rattle.mosaic.specs.Laws.Rules.{weight-count, bench-most, ready-most}
-use Rattle.mosaic.specs.Laws.Structure.{BatchLawful, LawfulAfter}
-use Rattle.mosaic.specs.Laws.Figure.{restFigure, rest-cons, rest-end}
 
 -- each mount starts when the machine is free and the batch's last strip is ready
 unfoldable pub AsEarly : MosaicSection → ℕ → List Batch → Type 0
@@ -34,17 +35,17 @@ latest i = mostStrips * mostTime + i * (2 * mostTime)
 
 -- the batches of the strips after i, the machine free at `free`
 pub record Attains (m : MosaicSection) (i free figure : ℕ) (bs : List Batch) : Type 0 where
-  pub lawful : (p : Batch) → p .last ≡ i → p .finish ≡ free → LawfulAfter m p bs
-  pub figure-is : restFigure m i bs ≡ figure
+  pub lawful : (p : Batch) → p .last ≡ i → p .finish ≡ free → MosaicRuns m p bs
+  pub figure-is : (p : Batch) → p .last ≡ i → runningFigure p bs ≡ figure
   pub early : AsEarly m free bs
   pub finishes : FinishBy (latest (m .strips)) bs
 
 module _ {m : MosaicSection} (S : MosaicSound m) where
   attains-none : (i free : ℕ) → i ≡ m .strips → Attains m i free 0 []
-  unfolding LawfulAfter AsEarly FinishBy
+  unfolding runningFigure AsEarly FinishBy
   attains-none i free h = record {
-    lawful = λ p e f. omega arith;
-    figure-is = rest-end m i [] (omega arith);
+    lawful = λ p e f. none {before = p} (omega arith);
+    figure-is = λ p e. refl;
     early = tt;
     finishes = tt;
   }
@@ -57,16 +58,19 @@ module _ {m : MosaicSection} (S : MosaicSound m) where
 
     pub attains-batch : (figure : ℕ) (bs : List Batch) → Attains m q (finishOf (instanceOf m) free i q) figure bs
         → Attains m i free ((q - i) * finishOf (instanceOf m) free i q + figure) (batchOf (instanceOf m) free i q ∷ bs)
-    unfolding LawfulAfter AsEarly FinishBy batchOf instanceOf
+    unfolding runningFigure AsEarly FinishBy batchOf instanceOf
     attains-batch figure bs A = record {
-      lawful = λ p e f. (lawful-batch p e f, A .lawful (batchOf (instanceOf m) free i q) refl refl);
-      figure-is = rest-cons m i (batchOf (instanceOf m) free i q) bs (omega arith) k ∙ ap (λ (n : ℕ). (q - i) * finishOf (instanceOf m) free i q + n) (A .figure-is);
+      lawful = λ p e f. more (follows p e f) (A .lawful (batchOf (instanceOf m) free i q) refl refl);
+      figure-is = λ p e.
+          ap (λ (j : ℕ). (q - j) * finishOf (instanceOf m) free i q + runningFigure (batchOf (instanceOf m) free i q) bs) e
+          ∙ ap (λ (n : ℕ). (q - i) * finishOf (instanceOf m) free i q + n) (A .figure-is (batchOf (instanceOf m) free i q) refl);
       early = (refl, A .early);
       finishes = (omega (arith, finish-most), A .finishes);
     } where
-      lawful-batch : (p : Batch) → p .last ≡ i → p .finish ≡ free → BatchLawful m p (batchOf (instanceOf m) free i q)
-      lawful-batch p e f = unfold batchOf instanceOf finishOf benchStart mountStart in record {
-        runs = omega arith;
+      follows : (p : Batch) → p .last ≡ i → p .finish ≡ free → BatchFollows m p (batchOf (instanceOf m) free i q)
+      follows p e f = unfold batchOf instanceOf finishOf benchStart mountStart in record {
+        rises = omega arith;
+        known = k;
         waits-strip = omega arith;
         waits-batch = omega arith;
         finishes = rw e refl;

@@ -7,30 +7,29 @@ use lib.ListN.{length, getD, drop}
 use Rattle.sheet.specs.declared.MosaicSection.{MosaicSection}
 use Rattle.rules.specs.declared.Batch.{Batch}
 use Rattle.rules.specs.Mosaic.{ready, benchSum, noBatch}
-use Rattle.mosaic.specs.Least.{mountStart}
+use Rattle.rules.specs.Running.{BatchFollows, MosaicRuns, more}
+use Rattle.batching.specs.Least.{mountStart}
 use Rattle.mosaic.specs.Plan.{lasts}
-use Rattle.mosaic.specs.Laws.Structure.{BatchLawful, LawfulAfter}
 use Rattle.mosaic.specs.Laws.Attained.{AsEarly}
 
 module _ (m : MosaicSection) where
   -- two batches with the same last strip, the first as early as can be, after p and after r
-  first-start : (p r c b : Batch) → c .start ≡ mountStart (p .finish) (ready m (c .last)) → BatchLawful m r b → c .last ≡ b .last → p .finish ≤ r .finish → c .start ≤ b .start
+  first-start : (p r c b : Batch) → c .start ≡ mountStart (p .finish) (ready m (c .last)) → BatchFollows m r b → c .last ≡ b .last → p .finish ≤ r .finish → c .start ≤ b .start
   unfolding mountStart
   first-start p r c b e B l f = omega (arith, B .waits-strip, B .waits-batch, ap (ready m) l)
 
-  first-finish : (p r c b : Batch) → BatchLawful m p c → BatchLawful m r b → p .last ≡ r .last → c .last ≡ b .last → c .start ≤ b .start → c .finish ≤ b .finish
+  first-finish : (p r c b : Batch) → BatchFollows m p c → BatchFollows m r b → p .last ≡ r .last → c .last ≡ b .last → c .start ≤ b .start → c .finish ≤ b .finish
   first-finish p r c b C B e l s =
       let w : benchSum m (p .last) (c .last - p .last) ≡ benchSum m (r .last) (b .last - r .last) = cc in
       omega (arith, C .finishes, B .finishes)
 
-  pub earliest : (cs bs : List Batch) (p r : Batch) → AsEarly m (p .finish) cs → LawfulAfter m p cs → LawfulAfter m r bs → p .last ≡ r .last → p .finish ≤ r .finish
+  pub earliest : (cs bs : List Batch) (p r : Batch) → AsEarly m (p .finish) cs → MosaicRuns m p cs → MosaicRuns m r bs → p .last ≡ r .last → p .finish ≤ r .finish
       → lasts bs ≡ lasts cs → (i : ℕ) → i < length bs → getD cs i noBatch .start ≤ getD bs i noBatch .start
-  unfolding AsEarly LawfulAfter lasts
+  unfolding AsEarly lasts
   earliest cs [] p r E C B l f e i h = absurd (omega arith)
   earliest [] (b ∷ bs) p r E C B l f e i h = let z : _≡_ {A = ℕ} 0 1 = cc in absurd (omega arith)
-  earliest (c ∷ cs) (b ∷ bs) p r E C B l f e zero h =
-      first-start p r c b (E .0) (B .0) (sym (ap (λ (n : List ℕ). getD n 0 0) e)) f
-  earliest (c ∷ cs) (b ∷ bs) p r E C B l f e (suc i) h =
+  earliest (c ∷ cs) (b ∷ bs) p r E (more F C) (more G B) l f e zero h = first-start p r c b (E .0) G (sym (ap (λ (n : List ℕ). getD n 0 0) e)) f
+  earliest (c ∷ cs) (b ∷ bs) p r E (more F C) (more G B) l f e (suc i) h =
       let same : c .last ≡ b .last = sym (ap (λ (n : List ℕ). getD n 0 0) e) in
-      let late : c .finish ≤ b .finish = first-finish p r c b (C .0) (B .0) l same (first-start p r c b (E .0) (B .0) same f) in
-      earliest cs bs c b (E .1) (C .1) (B .1) same late (ap (λ (n : List ℕ). drop 1 n) e) i (omega arith)
+      let late : c .finish ≤ b .finish = first-finish p r c b F G l same (first-start p r c b (E .0) G same f) in
+      earliest cs bs c b (E .1) C B same late (ap (λ (n : List ℕ). drop 1 n) e) i (omega arith)

@@ -7,13 +7,13 @@ use native.Mathlib.Decide.{decLt}
 use native.Mathlib.Omega.{arith}
 use Rattle.sheet.specs.declared.MosaicSection.{MosaicSection}
 use Rattle.rules.specs.declared.Batch.{Batch}
-use Rattle.rules.specs.Mosaic.{ready}
-use Rattle.mosaic.specs.Least.{Instance, mountStart, benchStart, finishOf, instanceOf}
-use Rattle.mosaic.specs.Index.{leastAt, openAt, closedAt}
-use Rattle.mosaic.specs.Laws.Recursion.{least-mono, least-end, least-open, open-last, open-more}
+use Rattle.rules.specs.Running.{BatchFollows, MosaicRuns, none, more}
+use Rattle.rules_laws.specs.MosaicRunning.{runningFigure}
+use Rattle.batching.specs.Least.{Instance, mountStart, benchStart, finishOf}
+use Rattle.mosaic.specs.Least.{instanceOf}
+use Rattle.batching.specs.Index.{leastAt, openAt, closedAt}
+use Rattle.batching.specs.Recursion.{least-mono, least-end, least-open, open-last, open-more}
 use Rattle.mosaic.specs.Laws.Rules.{weight-count}
-use Rattle.mosaic.specs.Laws.Structure.{BatchLawful, LawfulAfter, last-within}
-use Rattle.mosaic.specs.Laws.Figure.{restFigure, rest-cons}
 
 -- to close the open batch at strip q, or d strips further on, is a choice; F is a finish that is no earlier
 module _ (x : Instance) where
@@ -41,17 +41,15 @@ module _ (x : Instance) where
       rw (least-open x i t (omega arith)) (rw e at (close-after (q - (i + 1)) i (i + 1) t F (omega arith) (rw e f)))
 
 module _ (m : MosaicSection) where
-  batch-cost : (p b : Batch) → BatchLawful m p b → b .last ≤ m .strips
+  batch-cost : (p b : Batch) → BatchFollows m p b
       → leastAt (instanceOf m) (p .last) (p .finish) ≤ (b .last - p .last) * b .finish + leastAt (instanceOf m) (b .last) (b .finish)
   unfolding instanceOf finishOf benchStart mountStart
-  batch-cost p b B h =
-      let c = close-at (instanceOf m) (p .last) (b .last) (p .finish) (b .finish) (B .runs) h
+  batch-cost p b B =
+      let c = close-at (instanceOf m) (p .last) (b .last) (p .finish) (b .finish) (B .rises) (B .known)
       (omega (arith, B .waits-strip, B .waits-batch, B .finishes)) in
       rw (weight-count m (p .last) (b .last - p .last)) at c
 
-  pub lower-after : (bs : List Batch) (p : Batch) → LawfulAfter m p bs → leastAt (instanceOf m) (p .last) (p .finish) ≤ restFigure m (p .last) bs
-  unfolding LawfulAfter instanceOf
-  lower-after [] p L = omega (arith, least-end (instanceOf m) (p .last) (p .finish) (omega arith))
-  lower-after (b ∷ bs) p L =
-      let w : b .last ≤ m .strips = last-within m b bs (L .1) in
-      omega (arith, batch-cost p b (L .0) w, lower-after bs b (L .1), rest-cons m (p .last) b bs (omega (arith, L .0 .runs)) w)
+  pub lower-after : (bs : List Batch) (p : Batch) → MosaicRuns m p bs → leastAt (instanceOf m) (p .last) (p .finish) ≤ runningFigure p bs
+  unfolding runningFigure instanceOf
+  lower-after [] p (none e) = omega (arith, least-end (instanceOf m) (p .last) (p .finish) (omega arith))
+  lower-after (b ∷ bs) p (more f r) = omega (arith, batch-cost p b f, lower-after bs b r)

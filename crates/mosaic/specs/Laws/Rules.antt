@@ -9,7 +9,7 @@ use Rattle.sheet.specs.Sound.{MosaicSound}
 use Rattle.sheet.specs.declared.MosaicSection.{MosaicSection}
 use Rattle.rules.specs.Mosaic.{stationSum, ready, benchSum}
 use Rattle.mosaic.specs.Least.{weightOf, weightSum}
-use Rattle.mosaic.specs.Laws.Sums.{sum-split, sum-same, sum-const, sum-most, greatest-most}
+use Rattle.rules_laws.specs.Sums.{sum-split, sum-same, sum-const, sum-most, greatest-most}
 
 pub bench-split : (m : MosaicSection) (i a c : ℕ) → benchSum m i (a + c) ≡ benchSum m i a + benchSum m (i + a) c
 unfolding benchSum
@@ -31,13 +31,13 @@ weight-count m i count = omega (arith, sum-const count 1 (λ k. 1) (λ k h. refl
 module _ {m : MosaicSection} (S : MosaicSound m) where
   pub bench-most : (i count : ℕ) → benchSum m i count ≤ count * mostTime
   unfolding benchSum
-  bench-most i count = sum-most count mostTime (λ k. getD (m .bench) (i + k) 0) (λ k. S .most-bench (i + k))
+  bench-most i count = sum-most count mostTime (λ k. getD (m .bench) (i + k) 0) (λ k l. S .most-bench (i + k))
 
   station-most : (k q : ℕ) → q ≤ mostStrips → stationSum m k q ≤ mostStrips * mostTime
   unfolding stationSum
   station-most k q h =
-      omega (arith, sum-most q mostTime (λ i. getD (m .station) (4 * i + k) 0) (λ i. S .most-station (4 * i + k)))
+      omega (arith, sum-most q mostTime (λ i. getD (m .station) (4 * i + k) 0) (λ i l. S .most-station (4 * i + k)))
 
   pub ready-most : (q : ℕ) → q ≤ mostStrips → ready m q ≤ mostStrips * mostTime
   unfolding ready
-  ready-most q h = greatest-most (m .stations) (mostStrips * mostTime) (λ k. stationSum m k q) (λ k. station-most k q h)
+  ready-most q h = greatest-most (m .stations) (mostStrips * mostTime) (λ k. stationSum m k q) (λ k l. station-most k q h)

@@ -8,9 +8,11 @@ use Rattle.sheet.specs.Sound.{MosaicSound}
 use Rattle.sheet.specs.declared.MosaicSection.{MosaicSection}
 use Rattle.rules.specs.declared.Batch.{Batch}
 use Rattle.rules.specs.Mosaic.{noBatch}
-use Rattle.mosaic.specs.Least.{leastFigure, instanceOf, leastFrom}
-use Rattle.mosaic.specs.Chosen.{chosenBatches, chosenFrom}
-use Rattle.mosaic.specs.Index.{leastAt, chosenAt}
+use Rattle.batching.specs.Least.{leastFrom}
+use Rattle.mosaic.specs.Least.{leastFigure, instanceOf}
+use Rattle.batching.specs.Chosen.{chosenFrom}
+use Rattle.mosaic.specs.Chosen.{chosenBatches}
+use Rattle.batching.specs.Index.{leastAt, chosenAt}
 use Rattle.mosaic.specs.Laws.Attained.{Attains, FinishBy, attains-at}
 
 pub least-is : (m : MosaicSection) → leastFigure m ≡ leastAt (instanceOf m) 0 0

@@ -1,47 +1,36 @@
 -- `choose_batches` meets its contract. Invariant: the batches written, with those that the recursion takes after them, are all that it takes.
-use mathlib.Core.Path.{refl}
 use Prim.Native.Nat.{_-_}
-use native.Mathlib.Omega.{arith}
 use borrow.Author.Needs.{needs}
-use Rattle.mosaic.proofs.BatchLaws.{PlanSoFar, plan-start, plan-begin, plan-block, plan-from, plan-mounted, plan-sub, plan-finish, plan-add, plan-step, plan-end}
+use Rattle.mosaic.proofs.BatchLaws.{PlanSoFar, plan-start, plan-first, plan-mounted, plan-sub, plan-finish, plan-add, plan-step, plan-end}
 use Rattle.mosaic.proofs.batches.choose_batches.Statement.{statement}
 use Rattle.mosaic.proofs.batches.choose_batches.Tie as tie
 
 abbrev Inv-loop : tie.InvT-loop
-Inv-loop rs sums late row₀ s n plan₀ i₀ free₀ row plan i free = PlanSoFar rs sums row₀ row s n plan i free
+Inv-loop rs sums late s n plan₀ i₀ free₀ plan i free = PlanSoFar rs sums s n plan i free
 
 abbrev μ-loop : tie.MeasureT-loop
-μ-loop rs sums late row₀ s n plan₀ i₀ free₀ row plan i free = n - i
+μ-loop rs sums late s n plan₀ i₀ free₀ plan i free = n - i
 
 loop-holds : tie.Need-loop-holds Inv-loop μ-loop
-loop-holds c = plan-start (c .before .before .before .before .pre) _ _ _ refl refl refl
+loop-holds c = search plan-start
 
-add-fill-block : tie.Need-add-fill-block Inv-loop μ-loop
-add-fill-block c = search plan-begin
+first-batch-requires : tie.Need-first-batch-requires Inv-loop μ-loop
+first-batch-requires c κs = search plan-first
 
-add-fill-block-2 : tie.Need-add-fill-block-2 Inv-loop μ-loop
-add-fill-block-2 c = search needs
+sub-greater : tie.Need-sub-greater Inv-loop μ-loop
+sub-greater c = search needs
 
-fill-block-requires : tie.Need-fill-block-requires Inv-loop μ-loop
-fill-block-requires c κs = search plan-block
+mul-greater : tie.Need-mul-greater Inv-loop μ-loop
+mul-greater c = search needs
 
-choose-batch-requires : tie.Need-choose-batch-requires Inv-loop μ-loop
-choose-batch-requires c κs = search plan-from
+shared-slice-read-greater : tie.Need-shared-slice-read-greater Inv-loop μ-loop
+shared-slice-read-greater c = search needs
 
-sub-later : tie.Need-sub-later Inv-loop μ-loop
-sub-later c = search needs
-
-mul-later : tie.Need-mul-later Inv-loop μ-loop
-mul-later c = search needs
-
-shared-slice-read-later : tie.Need-shared-slice-read-later Inv-loop μ-loop
-shared-slice-read-later c = search needs
-
-later-requires : tie.Need-later-requires Inv-loop μ-loop
-later-requires c κs = search needs
+greater-requires : tie.Need-greater-requires Inv-loop μ-loop
+greater-requires c κs = search needs
 
 add-finish : tie.Need-add-finish Inv-loop μ-loop
-add-finish c = omega (arith, plan-mounted (c .before .before .before .before .before .before .before .before .before .before .before .before .before .before .pre) (c .before .before .before .before .before .before .before .before .before .loop .inv) (c .before .before .before .before .before .before .before .before .loop-test .taken) (c .before .before .choose-batch .ensures) (c .later .ensures))
+add-finish c = search plan-mounted
 
 mul-finish : tie.Need-mul-finish Inv-loop μ-loop
 mul-finish c = search needs
@@ -56,25 +45,22 @@ shared-slice-read-finish-2 : tie.Need-shared-slice-read-finish-2 Inv-loop μ-loo
 shared-slice-read-finish-2 c = search needs
 
 sub-finish : tie.Need-sub-finish Inv-loop μ-loop
-sub-finish c = plan-sub (c .before .before .before .before .before .before .before .before .before .before .before .before .before .before .before .before .pre) (c .before .before .before .before .before .before .before .before .before .before .before .loop .inv) (c .before .before .before .before .before .before .before .before .before .before .loop-test .taken) (c .before .before .before .before .choose-batch .ensures)
+sub-finish c = search plan-sub
 
 add-finish-2 : tie.Need-add-finish-2 Inv-loop μ-loop
-add-finish-2 c = omega (arith, plan-finish (c .before .before .before .before .before .before .before .before .before .before .before .before .before .before .before .before .pre) (c .before .before .before .before .before .before .before .before .before .before .before .loop .inv) (c .before .before .before .before .before .before .before .before .before .before .loop-test .taken) (c .before .before .before .before .choose-batch .ensures) (c .before .before .later .ensures))
+add-finish-2 c = search plan-finish
 
 sub-add-batch : tie.Need-sub-add-batch Inv-loop μ-loop
 sub-add-batch c = search needs
 
 add-batch-requires : tie.Need-add-batch-requires Inv-loop μ-loop
-add-batch-requires c κs = plan-add (c .before .before .before .before .before .before .before .before .before .before .before .before .before .before .before .before .pre) (c .before .before .before .before .before .before .before .before .before .before .before .loop .inv) (c .before .before .before .before .before .before .before .before .before .before .loop-test .taken) (c .before .before .before .before .choose-batch .ensures) (c .before .before .later .ensures)
+add-batch-requires c κs = search plan-add
 
 loop-less : tie.Need-loop-less Inv-loop μ-loop
 loop-less c = search needs
 
 loop-again : tie.Need-loop-again Inv-loop μ-loop
-loop-again c = search (plan-step (c .before .before .before .before .before .before .before .before .before .before .before .before .before .before .before .before .before .pre) (c .before .before .before .before .before .before .before .before .before .before .before .before .loop .inv) (c .before .before .before .before .before .before .before .before .before .before .before .loop-test .taken) (c .before .before .before .before .before .choose-batch .ensures) (c .before .before .before .later .ensures))
-
-same-length : tie.Need-same-length Inv-loop μ-loop
-same-length c = search needs
+loop-again c = search plan-step
 
 returns : tie.Need-returns Inv-loop μ-loop
 returns c = search plan-end
@@ -86,14 +72,11 @@ choose-batches-spec =
     Inv-loop
     μ-loop
     loop-holds
-    add-fill-block
-    add-fill-block-2
-    fill-block-requires
-    choose-batch-requires
-    sub-later
-    mul-later
-    shared-slice-read-later
-    later-requires
+    first-batch-requires
+    sub-greater
+    mul-greater
+    shared-slice-read-greater
+    greater-requires
     add-finish
     mul-finish
     shared-slice-read-finish
@@ -105,5 +88,4 @@ choose-batches-spec =
     add-batch-requires
     loop-less
     loop-again
-    same-length
     returns)

@@ -16,22 +16,22 @@ returns-2 : tie.Need-returns-2
 unfolding greatestOver
 returns-2 c = rw (c .if2 .taken) (omega arith)
 
-later-requires : tie.Need-later-requires
-later-requires c κs = search needs
+greater-requires : tie.Need-greater-requires
+greater-requires c κs = search needs
 
 returns-3 : tie.Need-returns-3
 unfolding greatestOver
 returns-3 c = rw (c .if3 .taken) (omega arith)
 
-later-requires-2 : tie.Need-later-requires-2
-later-requires-2 c κs = search needs
+greater-requires-2 : tie.Need-greater-requires-2
+greater-requires-2 c κs = search needs
 
 returns-4 : tie.Need-returns-4
 unfolding greatestOver
 returns-4 c = rw (c .if4 .taken) (omega arith)
 
-later-requires-3 : tie.Need-later-requires-3
-later-requires-3 c κs = search needs
+greater-requires-3 : tie.Need-greater-requires-3
+greater-requires-3 c κs = search needs
 
 returns-5 : tie.Need-returns-5
 unfolding greatestOver
@@ -43,9 +43,9 @@ greatest-spec =
     (tie.spec
     returns
     returns-2
-    later-requires
+    greater-requires
     returns-3
-    later-requires-2
+    greater-requires-2
     returns-4
-    later-requires-3
+    greater-requires-3
     returns-5)

@@ -1,0 +1,127 @@
+-- `fill_late_after` meets its contract. Invariant: the batches of the strips after i up to q are done.
+use Prim.Native.Nat.{_-_}
+use borrow.Author.Needs.{needs}
+use Rattle.batching.proofs.LateLaws.{LateSoFar, after-start, after-ready, after-block, after-sub, after-finish, after-product, after-sum, after-step, after-end}
+use Rattle.batching.proofs.fill_late_after.Statement.{statement}
+use Rattle.batching.proofs.fill_late_after.Tie as tie
+
+abbrev Inv-loop : tie.InvT-loop
+Inv-loop rs sums late₀ row₀ s n i q₀ late row q = LateSoFar rs sums late₀ row₀ late row s n i q
+
+abbrev μ-loop : tie.MeasureT-loop
+μ-loop rs sums late₀ row₀ s n i q₀ late row q = n - q
+
+loop-holds : tie.Need-loop-holds Inv-loop μ-loop
+loop-holds c = search after-start
+
+add-q : tie.Need-add-q Inv-loop μ-loop
+add-q c = search needs
+
+sub-late-start : tie.Need-sub-late-start Inv-loop μ-loop
+sub-late-start c = search needs
+
+mul-late-start : tie.Need-mul-late-start Inv-loop μ-loop
+mul-late-start c = search needs
+
+shared-slice-read-late-start : tie.Need-shared-slice-read-late-start Inv-loop μ-loop
+shared-slice-read-late-start c = search needs
+
+late-start-requires : tie.Need-late-start-requires Inv-loop μ-loop
+late-start-requires c κs = search after-ready
+
+fill-block-requires : tie.Need-fill-block-requires Inv-loop μ-loop
+fill-block-requires c κs = search after-block
+
+mul-finish : tie.Need-mul-finish Inv-loop μ-loop
+mul-finish c = search needs
+
+shared-slice-read-finish : tie.Need-shared-slice-read-finish Inv-loop μ-loop
+shared-slice-read-finish c = search needs
+
+mul-finish-2 : tie.Need-mul-finish-2 Inv-loop μ-loop
+mul-finish-2 c = search needs
+
+shared-slice-read-finish-2 : tie.Need-shared-slice-read-finish-2 Inv-loop μ-loop
+shared-slice-read-finish-2 c = search needs
+
+sub-finish : tie.Need-sub-finish Inv-loop μ-loop
+sub-finish c = search after-sub
+
+add-finish : tie.Need-add-finish Inv-loop μ-loop
+add-finish c = search after-finish
+
+sub-count : tie.Need-sub-count Inv-loop μ-loop
+sub-count c = search needs
+
+mul-late : tie.Need-mul-late Inv-loop μ-loop
+mul-late c = search after-product
+
+mul-late-2 : tie.Need-mul-late-2 Inv-loop μ-loop
+mul-late-2 c = search needs
+
+slice-read-late : tie.Need-slice-read-late Inv-loop μ-loop
+slice-read-late c = search needs
+
+add-late : tie.Need-add-late Inv-loop μ-loop
+add-late c = search after-sum
+
+mul-late-3 : tie.Need-mul-late-3 Inv-loop μ-loop
+mul-late-3 c = search needs
+
+add-late-2 : tie.Need-add-late-2 Inv-loop μ-loop
+add-late-2 c = search needs
+
+mul-late-4 : tie.Need-mul-late-4 Inv-loop μ-loop
+mul-late-4 c = search needs
+
+slice-write-late : tie.Need-slice-write-late Inv-loop μ-loop
+slice-write-late c = search needs
+
+loop-less : tie.Need-loop-less Inv-loop μ-loop
+loop-less c = search needs
+
+loop-again : tie.Need-loop-again Inv-loop μ-loop
+loop-again c = search after-step
+
+same-length : tie.Need-same-length Inv-loop μ-loop
+same-length c = search needs
+
+same-length-2 : tie.Need-same-length-2 Inv-loop μ-loop
+same-length-2 c = search needs
+
+returns : tie.Need-returns Inv-loop μ-loop
+returns c = search after-end
+
+pub fill-late-after-spec : {M : Type 1} → statement M
+fill-late-after-spec =
+    tie.close
+    (tie.spec
+    Inv-loop
+    μ-loop
+    loop-holds
+    add-q
+    sub-late-start
+    mul-late-start
+    shared-slice-read-late-start
+    late-start-requires
+    fill-block-requires
+    mul-finish
+    shared-slice-read-finish
+    mul-finish-2
+    shared-slice-read-finish-2
+    sub-finish
+    add-finish
+    sub-count
+    mul-late
+    mul-late-2
+    slice-read-late
+    add-late
+    mul-late-3
+    add-late-2
+    mul-late-4
+    slice-write-late
+    loop-less
+    loop-again
+    same-length
+    same-length-2
+    returns)

@@ -1,0 +1,9 @@
+-- Batches of neighbouring strips on one machine: the least figure by recursion, the batching that has it, and what the tables hold.
+pub mod Least
+pub mod Chosen
+pub mod Index
+pub mod Tables
+pub mod Recursion
+pub mod Bounds
+pub mod Alike
+pub mod Determined

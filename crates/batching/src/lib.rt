@@ -1,0 +1,193 @@
+// Batches of neighbouring strips on one machine: the tables of least figures. A block is a run of batches with no pause: its first batch waits for its last
+// strip, and none of the others waits. `row` holds the least figures after each strip for one block; `late` those that begin with a batch that waits.
+ghost use mathlib.Core.Path.{_≡_};
+ghost use Prim.Native.Nat.{_+_, _-_, _<_, _^_};
+ghost use lib.ListN.{getD};
+ghost use Rattle.batching.specs.Least.{benchStart};
+ghost use Rattle.batching.specs.Index.{lateStart, closedAt};
+ghost use Rattle.batching.specs.Tables.{instanceIn, InTime, CandidatePre, FromPre, First, RowPre, RowFilled, BlockPre, AfterPre, LateAfter, LatePre, LateFilled, FirstPre};
+
+// The entries of a row, for the strips from 0 to 40, and of `late`, which has a row for each strip from 0 to 39.
+const WIDTH: usize = 41;
+
+pub const LATE_LENGTH: usize = 1_640;
+
+// A batch that is taken: its last strip, and the least figure of the strips from its first one on.
+pub struct Choice {
+    pub last: usize,
+    pub figure: u64,
+}
+
+// Whether a batch whose last strip is ready at `ready` need not wait for it, the machine free at `free`.
+fn in_time(s: u64, free: u64, ready: u64) -> bool
+    ensures { λ answer. ⌜ InTime s free ready answer ⌝ }
+{
+    ready <= free
+}
+
+// When the bench work of a batch begins that waits for its last strip.
+fn late_start(s: u64, ready: u64) -> u64
+    requires { ⌜ ready + s < 2 ^ 64 ⌝ }
+    ensures { λ r. ⌜ r ≡ lateStart s ready ⌝ }
+{
+    ready + s
+}
+
+// The least figure of the strips after i where the machine is free at `free` and the first batch ends with strip q.
+fn candidate(
+    rs: &[u64],
+    sums: &[u64],
+    late: &[u64],
+    row: &[u64],
+    s: u64,
+    n: usize,
+    free: u64,
+    i: usize,
+    q: usize,
+) -> u64
+    requires { ⌜ CandidatePre (now rs) (now sums) (now late) (now row) s n free i q ⌝ }
+    ensures { λ r. ⌜ r ≡ closedAt (instanceIn (now (rs .entry)) (now (sums .entry)) s n) (benchStart s free (getD (now (rs .entry)) (q - 1) 0)) i q ⌝ }
+{
+    if in_time(s, free, rs[q - 1]) {
+        let finish = free + s + (sums[q] - sums[i]);
+        let count = (q - i) as u64;
+        count * finish + row[q]
+    } else {
+        late[WIDTH * i + q]
+    }
+}
+
+// The first batch taken after strip i where the machine is free at `free`, with the least figure of the strips after i.
+fn choose_batch(
+    rs: &[u64],
+    sums: &[u64],
+    late: &[u64],
+    row: &[u64],
+    s: u64,
+    n: usize,
+    free: u64,
+    i: usize,
+) -> Choice
+    requires { ⌜ FromPre (now rs) (now sums) (now late) (now row) s n free i ⌝ }
+    ensures { λ choice. ⌜ First (now (rs .entry)) (now (sums .entry)) s n free i (choice .last) (choice .figure) ⌝ }
+{
+    let mut q = n;
+    let mut last = q;
+    let mut least = candidate(rs, sums, late, row, s, n, free, i, q);
+    while i + 1 < q {
+        q -= 1;
+        let figure = candidate(rs, sums, late, row, s, n, free, i, q);
+        if figure < least {
+            least = figure;
+            last = q;
+        }
+    }
+    Choice {
+        last,
+        figure: least,
+    }
+}
+
+// Turns the row of the block with one batch more into that of this one, in place: entries lo and up.
+fn fill_row(
+    rs: &[u64],
+    sums: &[u64],
+    late: &[u64],
+    row: &mut [u64],
+    s: u64,
+    n: usize,
+    begin: u64,
+    i: usize,
+    lo: usize,
+)
+    requires { ⌜ RowPre (now rs) (now sums) (now late) (now row) s n begin i lo ⌝ }
+    ensures { λ _. ⌜ RowFilled (now (rs .entry)) (now (sums .entry)) (now (row .entry)) (now (row .exit)) s n begin i lo ⌝ }
+{
+    let mut p = lo;
+    while p < n {
+        let free = begin + (sums[p] - sums[i]);
+        let choice = choose_batch(rs, sums, late, &*row, s, n, free, p);
+        row[p] = choice.figure;
+        p += 1;
+    }
+}
+
+// The row of the block whose bench work begins at `begin` with the strip after i: entries lo and up.
+fn fill_block(
+    rs: &[u64],
+    sums: &[u64],
+    late: &[u64],
+    row: &mut [u64],
+    s: u64,
+    n: usize,
+    begin: u64,
+    i: usize,
+    lo: usize,
+)
+    requires { ⌜ BlockPre (now rs) (now sums) (now late) (now row) s n begin i lo ⌝ }
+    ensures { λ _. ⌜ RowFilled (now (rs .entry)) (now (sums .entry)) (now (row .entry)) (now (row .exit)) s n begin i lo ⌝ }
+{
+    let mut p = n;
+    let mut at = begin + ((n - lo) as u64) * s;
+    row[n] = 0;
+    while lo < p {
+        p -= 1;
+        at -= s;
+        fill_row(rs, sums, late, row, s, n, at, i, p);
+    }
+}
+
+// The entries of `late` for the batches of the strips after i.
+fn fill_late_after(
+    rs: &[u64],
+    sums: &[u64],
+    late: &mut [u64],
+    row: &mut [u64],
+    s: u64,
+    n: usize,
+    i: usize,
+)
+    requires { ⌜ AfterPre (now rs) (now sums) (now late) (now row) s n i ⌝ }
+    ensures { λ _. ⌜ LateAfter (now (rs .entry)) (now (sums .entry)) (now (late .entry)) (now (late .exit)) s n i ⌝ }
+{
+    let mut q = i;
+    while q < n {
+        q += 1;
+        let begin = late_start(s, rs[q - 1]);
+        fill_block(rs, sums, &*late, row, s, n, begin, i, q);
+        let finish = begin + (sums[q] - sums[i]);
+        let count = (q - i) as u64;
+        late[WIDTH * i + q] = count * finish + row[q];
+    }
+}
+
+// The entries of `late` for all batches.
+pub fn fill_late(rs: &[u64], sums: &[u64], late: &mut [u64], s: u64, n: usize)
+    requires { ⌜ LatePre (now rs) (now sums) (now late) s n ⌝ }
+    ensures { λ _. ⌜ LateFilled (now (rs .entry)) (now (sums .entry)) (now (late .entry)) (now (late .exit)) s n ⌝ }
+{
+    let mut row = [0u64; WIDTH];
+    let mut i = n;
+    while 0 < i {
+        i -= 1;
+        fill_late_after(rs, sums, late, &mut row, s, n, i);
+    }
+}
+
+// The first batch taken after strip i where the machine is free at `free`, out of `late` filled for the strips after i.
+pub fn first_batch(
+    rs: &[u64],
+    sums: &[u64],
+    late: &[u64],
+    s: u64,
+    n: usize,
+    free: u64,
+    i: usize,
+) -> Choice
+    requires { ⌜ FirstPre (now rs) (now sums) (now late) s n free i ⌝ }
+    ensures { λ choice. ⌜ First (now (rs .entry)) (now (sums .entry)) s n free i (choice .last) (choice .figure) ⌝ }
+{
+    let mut row = [0u64; WIDTH];
+    fill_block(rs, sums, late, &mut row, s, n, free + s, i, i + 1);
+    choose_batch(rs, sums, late, &row, s, n, free, i)
+}
