@@ -1,6 +1,6 @@
 -- Laws of the field at an offset: which tests tell what stands there, and that a whole field lies within the row.
 use Prim.Native.Nat.{ℕ, _+_, _-_, _≤_, _<_}
-use mathlib.Core.Path.{_≡_, refl, sym, ap, _∙_}
+use mathlib.Core.Path.{_≡_, refl, sym}
 use mathlib.Core.Bool.{Bool, true, false, cond}
 use mathlib.Core.List.{List}
 use native.Mathlib.Omega.{arith}
@@ -9,7 +9,6 @@ use lib.Dec.{ltb, leb}
 use borrow.Author.Tests.{le-leb, lt-leb, lt-ltb, le-ltb, leb-true, leb-false, ltb-false}
 use Rattle.field.specs.Bytes.{numberAt, NumberRead}
 use Rattle.field.specs.Field.{fieldAt}
-use Rattle.field.specs.declared.Field.{Field}
 use Rattle.field.specs.declared.Field.the-variants.{End, Cut, Whole}
 
 module _ (s : List ℕ) (at : ℕ) where
@@ -49,18 +48,3 @@ whole-at s at tag len e =
     let h2 = ltb-false (length s - at) 3 (h .1) in
     let h3 = leb-true (numberAt s (at + 1) 2) (length s - at - 3) (h .2) in
     record { within = omega (arith, h .4); tag-is = sym (h .3); length-is = sym (h .4) }
-
--- the same of a field that was found
-pub found-within : (s : List ℕ) (at tag len : ℕ) (f : Field) → f ≡ fieldAt s at → f ≡ Whole tag len → at + 3 + len ≤ length s
-found-within s at tag len f e h = whole-at s at tag len (sym e ∙ h) .within
-
-end-cases : (b1 b2 b3 : Bool) (tag len : ℕ) → cond b1 End (cond b2 Cut (cond b3 (Whole tag len) Cut)) ≡ End → b1 ≡ true
-end-cases true b2 b3 tag len e = refl
-end-cases false true b3 tag len e = let z : _≡_ {A = ℕ} 0 1 = cc in absurd (omega arith)
-end-cases false false false tag len e = let z : _≡_ {A = ℕ} 0 1 = cc in absurd (omega arith)
-end-cases false false true tag len e = let z : _≡_ {A = ℕ} 0 1 = cc in absurd (omega arith)
-
--- no field is left only at the end
-pub end-at : (s : List ℕ) (at : ℕ) → fieldAt s at ≡ End → length s ≤ at
-unfolding fieldAt
-end-at s at e = leb-true (length s) at (end-cases (leb (length s) at) (ltb (length s - at) 3) (leb (numberAt s (at + 1) 2) (length s - at - 3)) (getD s at 0) (numberAt s (at + 1) 2) e)

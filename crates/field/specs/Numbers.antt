@@ -2,12 +2,10 @@
 -- and that what is written is read back.
 use Prim.Native.Nat.{ℕ, zero, suc, _+_, _-_, _*_, _/_, _%_, _^_, _≤_, _<_}
 use mathlib.Core.Path.{_≡_, refl, sym, ap, _∙_}
-use mathlib.Core.List.{List, [], _∷_, _++_, append-assoc}
-use native.Mathlib.Nat.{add-zero}
+use mathlib.Core.List.{List}
 use native.Mathlib.Numerals.{add-one}
 use native.Mathlib.Omega.{arith}
-use lib.ListN.{length, getD, set, List·getD-eq-default, length-append, length-set}
-use lib.Seq.{getD-append-seam}
+use lib.ListN.{length, getD, set, List·getD-eq-default, length-set}
 use lib.Pow.{pow-add, pow-pos, pow-mono}
 use Rattle.field.specs.Bytes.{numberAt, bytesOf, NumberRead}
 use Rattle.field.specs.Put.{put}
@@ -29,11 +27,11 @@ number-one s at = omega arith
 pub byte-read : (s : List ℕ) (at b : ℕ) → b ≡ getD s at 0 → b < 256 → NumberRead s at 1 b
 byte-read s at b e h = record { is = e ∙ sym (number-one s at); fits = h }
 
-number-suc : (s : List ℕ) (at width : ℕ) → numberAt s at (suc width) ≡ getD s at 0 + 256 * numberAt s (at + 1) width
+pub number-suc : (s : List ℕ) (at width : ℕ) → numberAt s at (suc width) ≡ getD s at 0 + 256 * numberAt s (at + 1) width
 unfolding numberAt
 number-suc s at width = refl
 
-pow-byte : (width : ℕ) → 2 ^ (8 * suc width) ≡ 256 * 2 ^ (8 * width)
+pub pow-byte : (width : ℕ) → 2 ^ (8 * suc width) ≡ 256 * 2 ^ (8 * width)
 pow-byte width = ap (λ k. 2 ^ k) eight ∙ pow-add 2 8 (8 * width)
   where
     eight : 8 * suc width ≡ 8 + 8 * width

@@ -1,7 +1,7 @@
 -- Bytes stored from an offset on: what a writer leaves in its buffer.
 -- Stores one after another are one store of the joined bytes (put-more); a store from the start leaves the bytes and what stood behind them (put-whole).
-use Prim.Native.Nat.{ℕ, zero, suc, _+_, _≤_, _<_}
-use mathlib.Core.Path.{_≡_, refl, sym, ap, _∙_}
+use Prim.Native.Nat.{ℕ, suc, _+_, _≤_}
+use mathlib.Core.Path.{_≡_, refl, ap, _∙_}
 use mathlib.Core.List.{List, [], _∷_, _++_}
 use native.Mathlib.Nat.{add-zero}
 use native.Mathlib.Omega.{arith}

@@ -1,7 +1,6 @@
 // Bytes of a lent slice as numbers and fields, and numbers written into one. The readers are total: a byte past the end counts as 0.
 ghost use mathlib.Core.Path.{_≡_};
-ghost use mathlib.Core.List.{List};
-ghost use Prim.Native.Nat.{ℕ, _+_, _≤_};
+ghost use Prim.Native.Nat.{_+_, _≤_};
 ghost use lib.ListN.{length};
 ghost use Rattle.field.specs.Bytes.{NumberRead, bytesOf};
 ghost use Rattle.field.specs.Field.{fieldAt};

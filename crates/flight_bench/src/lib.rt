@@ -1,5 +1,4 @@
 // The flight planner for C, so that bench/ can time it by itself.
-ghost use mathlib.Core.Path.{_≡_};
 ghost use Rattle.sheet.specs.Sound.{FlightSound};
 ghost use Rattle.flight_bench.specs.Answered.{sectionOf, Answered};
 use sheet::FlightSection;

@@ -16,10 +16,9 @@ use sheet::Sheet;
 use sheet::numbers::RULE_BROKEN;
 use sheet_reader::read;
 ghost use mathlib.Core.Path.{_≡_};
-ghost use Prim.Native.Nat.{ℕ, _+_, _*_, _≤_, _<_, _^_};
-ghost use lib.ListN.{length};
+ghost use Prim.Native.Nat.{_+_, _<_};
 ghost use Rattle.sheet.specs.Sound.{SheetSound};
-ghost use Rattle.judge.specs.Judged.{pickPart, sectionsFrom, statedFigure, turnedBack, found, judgedPlan, judged};
+ghost use Rattle.judge.specs.Judged.{pickPart, sectionsFrom, statedFigure, turnedBack, judgedPlan, judged};
 ghost use Rattle.judge.specs.Loops.{PartsAsked, StatedAsked};
 
 // What the judge answers: number 0, place 0 and the figure of each section, 0 for an absent one; or the number and place of a fault and no figure.

@@ -6,7 +6,7 @@ use rules::flight::pass_time;
 use rules::mosaic::greater;
 use sheet::FlightSection;
 ghost use mathlib.Core.Path.{_≡_};
-ghost use Prim.Native.Nat.{ℕ, _+_, _-_, _*_, _≤_, _<_, _^_};
+ghost use Prim.Native.Nat.{_+_, _-_, _*_, _<_};
 ghost use Rattle.rules.specs.Flight.{flightFigure};
 ghost use Rattle.judge_rules.specs.Follows.{passesInOrder, flightHead};
 ghost use Rattle.judge_flight.specs.Starts.{StartAsked, StartTold, PassesAsked, OrderAsked, FigureTold, HeadAsked, startOf, endOf, passesOf};

@@ -11,7 +11,7 @@ use sheet::tags::PLAN_SORTING;
 use sheet::tags::PLAN_STRIP;
 use sheet_checks::strips_in_all;
 ghost use mathlib.Core.Path.{_≡_};
-ghost use Prim.Native.Nat.{ℕ, _+_, _*_, _≤_, _<_};
+ghost use Prim.Native.Nat.{_+_, _≤_, _<_};
 ghost use lib.ListN.{length};
 ghost use Rattle.field.specs.Field.{fieldAt};
 ghost use Rattle.judge_layout.specs.Layout.{isField, partFrom, partOf, mosaicPart, sortingPart, flightPart, layoutVerdict};

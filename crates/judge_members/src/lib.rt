@@ -19,11 +19,9 @@ use sheet::numbers::FIGURE_UNTRUE;
 use sheet::numbers::RULE_BROKEN;
 use sheet_checks::strips_in_all;
 ghost use mathlib.Core.Path.{_≡_};
-ghost use mathlib.Core.Bool.{true};
-ghost use Prim.Native.Nat.{ℕ, _+_, _*_, _≤_, _<_, _^_};
-ghost use lib.ListN.{length};
+ghost use Prim.Native.Nat.{_+_, _*_, _<_, _^_};
 ghost use Rattle.sheet.specs.Sound.{SheetSound};
-ghost use Rattle.judge_members.specs.Members.{present, headBytes, memberBytes, memberPlace, begun, memberFollows, afterBatch, afterStrip, afterMember, headFollows, figureOf, headNumber};
+ghost use Rattle.judge_members.specs.Members.{present, memberPlace, begun, memberFollows, afterBatch, afterStrip, afterMember, headFollows, figureOf, headNumber};
 ghost use Rattle.judge_members.specs.Laws.{BatchRead, JobRead, PassesRead, PlaceAsked, MemberAsked, AfterAsked, AfterBatchAsked, AfterStripAsked, HeadAsked, FigureAsked};
 
 // How far the members of a section have been judged: the batch before, the desks, the figure so far.

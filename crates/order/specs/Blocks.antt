@@ -4,14 +4,11 @@ use mathlib.Core.Path.{_≡_}
 use Prim.Native.Nat.{ℕ, _+_, _*_, _≤_, _<_}
 use native.Mathlib.Omega.{arith}
 use Rattle.order.specs.Order.{bit, seconds, firsts, Proper}
-use Rattle.order.specs.Seconds.{seconds-more, seconds-mono, firsts-seconds, firsts-more, firsts-mono}
+use Rattle.order.specs.Seconds.{seconds-more, firsts-seconds, firsts-more, firsts-mono}
 
 module _ {n w : ℕ} (p : Proper n w) (k : ℕ) where
   pub proper-firsts : k ≤ 2 * n → firsts w k ≤ n
   proper-firsts l = omega (arith, firsts-mono w k (2 * n) l, firsts-seconds w (2 * n), p .exactly)
-
-  pub proper-seconds : k ≤ 2 * n → seconds w k ≤ n
-  proper-seconds l = omega (arith, seconds-mono w k (2 * n) l, p .exactly)
 
   pub proper-first : k < 2 * n → bit w k ≡ 0 → firsts w k < n
   proper-first l z = omega (arith, firsts-more w k, firsts-mono w (k + 1) (2 * n) (omega arith), firsts-seconds w (2 * n), p .exactly)

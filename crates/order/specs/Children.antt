@@ -3,13 +3,12 @@
 use mathlib.Core.Path.{_≡_, sym, ap, _∙_}
 use mathlib.Core.Logic.{_⊎_, inl, inr}
 use Prim.Native.Nat.{ℕ, _+_, _*_, _%_, _^_, _≤_, _<_}
-use native.Mathlib.Nat.{lt-of-lt-of-le, mod-lt, mod-one, mod-eq-of-lt, zero-mul, one-mul}
-use native.Mathlib.Decide.{decLt}
+use native.Mathlib.Nat.{mod-one, mod-eq-of-lt, zero-mul, one-mul}
 use native.Mathlib.Omega.{arith}
-use lib.Pow.{pow-mono, pow-pos}
+use lib.Pow.{pow-pos}
 use Rattle.order.specs.Order.{bit, seconds, firsts, Proper}
 use Rattle.order.specs.Beginning.{Beginning, Extends, Through, by-first, by-second}
-use Rattle.order.specs.Blocks.{proper-firsts, proper-first, proper-second}
+use Rattle.order.specs.Blocks.{proper-first, proper-second}
 use Rattle.order.specs.Seconds.{bit-cases, no-pass, one-pass-more, firsts-seconds, bit-mod, seconds-mod, mod-more, pow-more, mod-shorter, mod-second, seconds-before-second, firsts-before-second, seconds-first, firsts-first, seconds-second, firsts-second}
 
 -- The root of the search.
@@ -43,32 +42,12 @@ module _ {n k x : ℕ} (b : Beginning n k x) where
       before : (j : ℕ) → j ≤ k → seconds (x + 2 ^ k) j ≤ firsts (x + 2 ^ k) j
       before j q = rw (seconds-before-second x k (b .no-higher) j q, firsts-before-second x k (b .no-higher) j q) (b .beginnings j q)
 
-  -- A beginning that is not whole has a child.
-  pub some-child : k < 2 * n → (firsts x k < n) ⊎ (seconds x k < firsts x k)
-  some-child l = go (decLt (firsts x k) n)
-    where
-      go : Dec (firsts x k < n) → (firsts x k < n) ⊎ (seconds x k < firsts x k)
-      go (yes h) = inl h
-      go (no h) = inr (omega (arith, firsts-seconds x k))
-
-  -- A beginning of at most 32 blocks is a 64-bit number.
-  pub beginning-fits : n ≤ 32 → x < 2 ^ 64
-  beginning-fits l = lt-of-lt-of-le (b .no-higher) (pow-mono {i = k} {j = 64} (omega arith))
-
--- A whole beginning is a proper order, and conversely.
+-- A whole beginning is a proper order.
 pub whole-proper : {n x : ℕ} → Beginning n (2 * n) x → Proper n x
 whole-proper {n} {x} b = record {
   exactly = omega (arith, firsts-seconds x (2 * n), b .beginnings (2 * n) (omega arith));
   no-higher = b .no-higher;
   beginnings = b .beginnings;
-}
-
-pub proper-whole : {n x : ℕ} → Proper n x → Beginning n (2 * n) x
-proper-whole {n} {x} p = record {
-  within = omega arith;
-  no-higher = p .no-higher;
-  first-passes = omega (arith, firsts-seconds x (2 * n));
-  beginnings = p .beginnings;
 }
 
 -- The passes of w below k are those of x.
@@ -90,15 +69,6 @@ extends-itself p = record { begins = mod-eq-of-lt (p .no-higher) }
 -- A proper order extends no whole beginning but itself.
 pub extends-whole : {n w x : ℕ} → Proper n w → Extends w (2 * n) x → x ≡ w
 extends-whole p e = sym (e .begins) ∙ mod-eq-of-lt (p .no-higher)
-
--- Each beginning of a proper order is a beginning.
-pub proper-beginning : {n w k x : ℕ} → Proper n w → k ≤ 2 * n → Extends w k x → Beginning n k x
-proper-beginning {n} {w} {k} {x} p l e = record {
-  within = l;
-  no-higher = rw (e .begins) at (mod-lt w (pow-pos k));
-  first-passes = rw (extends-firsts e k (omega arith)) at (proper-firsts p k l);
-  beginnings = λ j q. rw (extends-seconds e j q, extends-firsts e j q) at (p .beginnings j (omega arith));
-}
 
 -- The next pass of w decides which child it extends.
 pub extends-first : {w k x : ℕ} → Extends w k x → bit w k ≡ 0 → Extends w (k + 1) x

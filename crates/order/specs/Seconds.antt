@@ -46,13 +46,6 @@ firsts-seconds x k = omega (arith, seconds-le x k)
 pub firsts-more : (x k : ℕ) → firsts x (k + 1) + bit x k ≡ firsts x k + 1
 firsts-more x k = omega (arith, firsts-seconds x (k + 1), firsts-seconds x k, seconds-more x k)
 
--- No more second than first passes: second passes are at most half.
-pub half-seconds : (x k : ℕ) → seconds x k ≤ firsts x k → 2 * seconds x k ≤ k
-half-seconds x k h = omega (arith, firsts-seconds x k)
-
-pub seconds-half : (x k : ℕ) → 2 * seconds x k ≤ k → seconds x k ≤ firsts x k
-seconds-half x k h = omega (arith, firsts-seconds x k)
-
 -- Beginnings with no more second than first passes: that of no pass, and one pass more.
 pub no-pass : (x j : ℕ) → j < 1 → seconds x j ≤ firsts x j
 no-pass x j l = rw (none, seconds-zero) (omega arith)

@@ -1,6 +1,6 @@
 // The heads of the sections, and the field of a refusal.
 ghost use mathlib.Core.Path.{_≡_};
-ghost use Prim.Native.Nat.{ℕ, _+_, _≤_};
+ghost use Prim.Native.Nat.{_+_, _≤_};
 ghost use lib.ListN.{length};
 ghost use Rattle.field.specs.Put.{put, holding};
 ghost use Rattle.rules.specs.Plan.{refusalBytes};

@@ -1,6 +1,6 @@
 // The members of the sections: one field, and the first n of the lists that a plan keeps them in.
 ghost use mathlib.Core.Path.{_≡_};
-ghost use Prim.Native.Nat.{ℕ, _+_, _≤_};
+ghost use Prim.Native.Nat.{_+_, _≤_};
 ghost use lib.ListN.{length};
 ghost use Rattle.field.specs.Put.{put};
 ghost use Rattle.rules.specs.Plan.{batchBytes, jobBytes, passesBytes};

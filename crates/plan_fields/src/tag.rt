@@ -1,6 +1,6 @@
 // What every field begins with.
 ghost use mathlib.Core.Path.{_≡_};
-ghost use Prim.Native.Nat.{ℕ, _+_, _≤_};
+ghost use Prim.Native.Nat.{_+_, _≤_};
 ghost use lib.ListN.{length};
 ghost use Rattle.field.specs.Put.{put};
 ghost use Rattle.plan_fields.specs.Stored.{headBytes};

@@ -1,22 +1,21 @@
 -- An accepted call has written the plan, and a refused one nothing, so that the field of the refusal is all that is written.
-use Prim.Native.Nat.{ℕ, _+_, _-_, _≤_, _<_}
+use Prim.Native.Nat.{ℕ, _-_, _≤_}
 use mathlib.Core.Path.{_≡_, refl, sym, ap, _∙_}
-use mathlib.Core.Bool.{Bool, true, false, cond}
-use mathlib.Core.List.{List, [], _++_}
+use mathlib.Core.Bool.{Bool, true, false}
+use mathlib.Core.List.{List, []}
 use native.Mathlib.Omega.{arith}
 use lib.ListN.{length, take, drop, length-append}
 use lib.Seq.{length-take-le}
-use lib.Dec.{ltb, eqb}
-use borrow.Author.Tests.{le-ltb, eq-eqb, ne-eqb, eqb-false}
+use lib.Dec.{eqb}
+use borrow.Author.Tests.{le-ltb, eq-eqb, ne-eqb}
 use Rattle.field.specs.Put.{holding, holding-none}
 use Rattle.sheet.specs.Limits.{tableLength, planLength}
 use Rattle.sheet.specs.Read.{readSheet}
-use Rattle.sheet.specs.Refusals.{orderImpossible}
 use Rattle.sheet.specs.declared.Sheet.{Sheet}
-use Rattle.rules.specs.Plan.{refusalBytes, planBytes}
+use Rattle.rules.specs.Plan.{refusalBytes}
 use Rattle.flight.specs.Choice.{isPossible}
 use Rattle.plan_fields.specs.FieldLaws.{length-refusal}
-use Rattle.planner.specs.Call.{Called, answer, chosenPlan, answerOf, plannedBytes, sheetAnswer, sheetPlan}
+use Rattle.planner.specs.Call.{Called, answerOf, plannedBytes, sheetAnswer, sheetPlan}
 use Rattle.planner.specs.declared.Answer.{Answer}
 use Rattle.plan_sheet.specs.Reply.{replyBytes, Asked, Replied}
 
@@ -73,9 +72,6 @@ module _ (sheet out table after tableEnd : List ℕ) (a : Answer) (asked : Asked
   module _ (z : a .number ≡ 0 → ⊥) where
     untouched : after ≡ out
     untouched = plan-is ∙ ap (λ (l : List ℕ). holding l out) (none-of (readSheet sheet) _ _ refl refl (λ e. z (sym number-is ∙ e))) ∙ sym (holding-none out)
-
-    pub refusal-room : 9 ≤ length after
-    refusal-room = rw untouched (omega (arith, asked .room))
 
     pub reply-refused : (end : List ℕ) → end ≡ holding (refusalBytes (a .number) (a .place)) after → Replied sheet out end 9
     reply-refused end e =

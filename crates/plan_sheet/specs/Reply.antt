@@ -10,7 +10,6 @@ use Rattle.sheet.specs.Limits.{tableLength, planLength}
 use Rattle.sheet.specs.Read.{readSheet}
 use Rattle.rules.specs.Plan.{refusalBytes}
 use Rattle.planner.specs.Call.{sheetAnswer, sheetPlan}
-use Rattle.planner.specs.declared.Answer.{Answer}
 
 unfoldable pub replyBytes : List ℕ → List ℕ
 replyBytes sheet =

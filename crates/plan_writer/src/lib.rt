@@ -1,6 +1,5 @@
 // The bytes of a plan, stored into the lent buffer: its sections one behind the other, each a head and its members.
 ghost use mathlib.Core.Path.{_≡_};
-ghost use Prim.Native.Nat.{ℕ};
 ghost use Rattle.field.specs.Put.{put};
 ghost use Rattle.rules.specs.Plan.{membersBytes, batchBytes, jobBytes, passesBytes, mosaicBytes, sortingBytes, flightBytes, ifPresent};
 ghost use Rattle.mosaic.specs.Plan.{batchesOf};

@@ -1,16 +1,15 @@
 -- The laws that the program's proofs cite: what is written is the chosen plan, each way out of a call is its answer, and the table is cleared.
-use Prim.Native.Nat.{ℕ, _+_, _*_, _≤_, _<_}
+use Prim.Native.Nat.{ℕ, _+_, _≤_, _<_}
 use mathlib.Core.Path.{_≡_, refl, sym, ap, _∙_}
-use mathlib.Core.Bool.{Bool, true, false, cond, not}
-use mathlib.Core.List.{List, [], _++_, append-nil}
+use mathlib.Core.Bool.{true, false, not}
+use mathlib.Core.List.{List, _++_, append-nil}
 use native.Mathlib.Omega.{arith}
 use lib.ListN.{length, take, drop, set, replicate, length-append, length-set}
 use lib.Seq.{drop-length, length-take-le}
-use lib.Dec.{ltb, eqb}
 use borrow.Author.Fill.{fill-none, fill-more}
 use borrow.Author.Tests.{lt-ltb, le-ltb, eq-eqb, ne-eqb, not-true, not-false}
-use Rattle.field.specs.Put.{put, put-whole, holding, holding-none}
-use Rattle.sheet.specs.Limits.{tableLength, planLength, mostStrips, mostBlocks}
+use Rattle.field.specs.Put.{put-whole, holding, holding-none}
+use Rattle.sheet.specs.Limits.{tableLength, planLength}
 use Rattle.sheet.specs.Read.{readSheet}
 use Rattle.sheet.specs.Sound.{MosaicSound, FlightSound, SheetSound, stripsInAll}
 use Rattle.sheet.specs.Theorems.{read-sound}

@@ -1,6 +1,6 @@
 -- A sheet is never refused with a number above 10 by its own checks: each cause of the table has its number.
 use Prim.Native.Nat.{ℕ, _≤_}
-use mathlib.Core.Path.{_≡_, ap, _∙_}
+use mathlib.Core.Path.{ap}
 use mathlib.Core.List.{List}
 use native.Mathlib.Omega.{arith}
 use Rattle.sheet.specs.Read.{readSheet, refused, accepted}

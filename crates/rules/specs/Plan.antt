@@ -1,9 +1,8 @@
 -- The plan: its bytes, and when it is allowed (01, "The plan" and "The three sets of rules").
-use Prim.Native.Nat.{ℕ, zero, suc, _+_, _<_}
+use Prim.Native.Nat.{ℕ, _+_}
 use mathlib.Core.Path.{_≡_}
 use mathlib.Core.Bool.{cond}
 use mathlib.Core.List.{List, [], _∷_, _++_}
-use lib.ListN.{length}
 use lib.Dec.{ltb}
 use Rattle.field.specs.Bytes.{bytesOf}
 use Rattle.field.specs.Field.{fieldBytes}

@@ -1,26 +1,10 @@
 -- The members of a plan, read from its bytes: a field's content begins three bytes behind its tag.
-use Prim.Native.Nat.{ℕ, zero, suc, _+_, _*_}
+use Prim.Native.Nat.{ℕ, zero, suc, _+_}
 use mathlib.Core.List.{List, [], _∷_}
 use Rattle.field.specs.Bytes.{numberAt}
 use Rattle.rules.specs.declared.Batch.{Batch}
 use Rattle.rules.specs.declared.Job.{Job}
 use Rattle.rules.specs.declared.Passes.{Passes}
-
--- the bytes that each field takes, tag and length included
-abbrev pub headFieldSize : ℕ
-headFieldSize = 7
-
-abbrev pub flightHeadFieldSize : ℕ
-flightHeadFieldSize = 15
-
-abbrev pub batchFieldSize : ℕ
-batchFieldSize = 12
-
-abbrev pub jobFieldSize : ℕ
-jobFieldSize = 13
-
-abbrev pub passesFieldSize : ℕ
-passesFieldSize = 11
 
 -- the figure that a head at an offset states, and the order number of a flight's head
 unfoldable pub figureFrom : List ℕ → ℕ → ℕ

@@ -1,5 +1,5 @@
 -- The rules of the sorting (01, "The three sets of rules"). Desks, and strips within a desk, are numbered from 1; jobs are listed in scanner order.
-use Prim.Native.Nat.{ℕ, zero, suc, _+_, _-_, _*_, _≤_, _<_}
+use Prim.Native.Nat.{ℕ, _+_, _-_, _*_, _≤_, _<_}
 use mathlib.Core.Path.{_≡_}
 use mathlib.Core.Bool.{cond}
 use mathlib.Core.List.{List}

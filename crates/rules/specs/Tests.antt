@@ -9,6 +9,7 @@ use native.Mathlib.Omega.{arith}
 use lib.ListN.{length, getD}
 use lib.Dec.{ltb, leb, eqb}
 use borrow.Author.Tests.{lt-ltb, le-leb, eq-eqb, ltb-true, leb-true, eqb-true}
+use Rattle.field.specs.Branch.{both}
 use Rattle.order.specs.Order.{isProper, Decides}
 use Rattle.order.specs.Decided.{proper-true, true-proper}
 use Rattle.sheet.specs.Limits.{ceiling}
@@ -26,10 +27,6 @@ use Rattle.rules.specs.declared.Passes.{Passes}
 unfoldable pub allBelow : ℕ → (ℕ → Bool) → Bool
 allBelow zero t = true
 allBelow (suc n) t = allBelow n t && t n
-
-both : (a b : Bool) → a && b ≡ true → (a ≡ true) × (b ≡ true)
-both true b e = (refl, e)
-both false b e = absurd (true≢false (sym e))
 
 join : (a b : Bool) → a ≡ true → b ≡ true → a && b ≡ true
 join a b p q = rw (p, q)

@@ -9,6 +9,7 @@ use mathlib.Core.List.{List, [], _∷_, _++_}
 use lib.ListN.{length, replicate}
 use lib.Dec.{eqb}
 use borrow.Author.Tests.{eqb-true}
+use Rattle.field.specs.Branch.{both}
 use Rattle.order.specs.Order.{seconds, firsts, neverMoreSeconds, isProper, Decides}
 use Rattle.sheet.specs.declared.MosaicSection.{MosaicSection}
 use Rattle.sheet.specs.declared.SortingSection.{SortingSection}
@@ -73,10 +74,6 @@ Says t refused = Lawful t → ⊥
 unfoldable pub test : Timetable → Outcome → Bool
 test t (lawful figure) = isLawful t && eqb (figureOf t) figure
 test t refused = not (isLawful t)
-
-both : (a b : Bool) → a && b ≡ true → (a ≡ true) × (b ≡ true)
-both true b e = (refl, e)
-both false b e = absurd (true≢false (sym e))
 
 none : (a : Bool) → not a ≡ true → a ≡ false
 none true e = absurd (true≢false (sym e))

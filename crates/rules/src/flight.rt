@@ -1,7 +1,7 @@
 // The passes of a flight.
 use sheet::FlightSection;
 ghost use mathlib.Core.Path.{_≡_};
-ghost use Prim.Native.Nat.{ℕ, _≤_, _<_, _+_, _*_};
+ghost use Prim.Native.Nat.{_<_, _+_};
 ghost use Rattle.rules.specs.Flight.{passTime, passAt};
 ghost use Rattle.rules.specs.FunctionLaws.{PassAsked, TimeTold, PositionAsked};
 

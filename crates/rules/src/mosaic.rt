@@ -1,8 +1,7 @@
 // Ready times and bench times of a mosaic.
 use sheet::MosaicSection;
 ghost use mathlib.Core.Path.{_≡_};
-ghost use Prim.Native.Nat.{ℕ, _≤_, _<_, _+_, max};
-ghost use Rattle.sheet.specs.Sound.{MosaicSound};
+ghost use Prim.Native.Nat.{_<_, _+_, max};
 ghost use Rattle.rules.specs.Mosaic.{stationSum, ready, benchSum};
 ghost use Rattle.rules.specs.FunctionLaws.{StationAsked, ReadyAsked, BenchAsked, ReadyTold, BenchTold};
 

@@ -1,8 +1,7 @@
 // The times of a sorting's jobs.
 use crate::Job;
 use sheet::SortingSection;
-ghost use mathlib.Core.Path.{_≡_};
-ghost use Prim.Native.Nat.{ℕ, _≤_, _<_, _+_};
+ghost use Prim.Native.Nat.{_+_};
 ghost use Rattle.rules.specs.Sorting.{scanTime, deskTime};
 ghost use Rattle.rules.specs.FunctionLaws.{SlotAsked, TimeTold};
 

@@ -6,27 +6,16 @@ use native.Mathlib.Nat.{add-zero}
 use native.Mathlib.Numerals.{add-one}
 use native.Mathlib.Omega.{arith}
 use lib.ListN.{length, getD, take, drop, length-append, length-drop}
-use lib.Pow.{pow-add}
 use lib.Seq.{getD-append-add, drop-cons, length-take-le, take-add, drop-drop}
 use Rattle.field.specs.Bytes.{numberAt, bytesOf, NumberRead}
 use Rattle.field.specs.Field.{fieldAt, fieldBytes}
 use Rattle.field.specs.Fields.{WholeAt, whole-at, field-whole}
-use Rattle.field.specs.Numbers.{number-one}
+use Rattle.field.specs.Numbers.{number-one, number-suc, pow-byte}
 use Rattle.field.specs.declared.Field.the-variants.{Whole}
 
 -- a row of bytes
 pub record AreBytes (s : List ℕ) : Type 0 where
   pub byte : (i : ℕ) → getD s i 0 < 256
-
-number-suc : (s : List ℕ) (at width : ℕ) → numberAt s at (suc width) ≡ getD s at 0 + 256 * numberAt s (at + 1) width
-unfolding numberAt
-number-suc s at width = refl
-
-pow-byte : (width : ℕ) → 2 ^ (8 * suc width) ≡ 256 * 2 ^ (8 * width)
-pow-byte width = ap (λ k. 2 ^ k) eight ∙ pow-add 2 8 (8 * width)
-  where
-    eight : 8 * suc width ≡ 8 + 8 * width
-    eight = omega arith
 
 -- a number stands where it stood when bytes are put before it
 pub number-append : (pre s : List ℕ) (at width : ℕ) → numberAt (pre ++ s) (length pre + at) width ≡ numberAt s at width

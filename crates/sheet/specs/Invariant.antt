@@ -1,24 +1,20 @@
 -- What holds wherever a reading stands, and that a field which passes its checks keeps it. The field's tag is one of seven; each is one law.
-use Prim.Native.Nat.{ℕ, zero, suc, _+_, _-_, _*_, _≤_, _<_, _^_}
+use Prim.Native.Nat.{ℕ, _+_, _-_, _≤_, _<_}
 use mathlib.Core.Path.{_≡_, refl, sym, ap, _∙_, subst}
-use mathlib.Core.Bool.{Bool, true, false, cond}
+use mathlib.Core.Bool.{true, false}
 use mathlib.Core.List.{List}
-use native.Mathlib.Decide.{ℕ-discrete}
 use native.Mathlib.Omega.{arith}
-use lib.ListN.{length, getD, set}
-use borrow.Author.Tests.{ltb-true, eqb-true}
-use Rattle.field.specs.Branch.{both}
-use Rattle.field.specs.Bytes.{numberAt}
-use Rattle.sheet.specs.Limits.{mostBlocks, mostDesks, mostStrips, mostStripsOfDesk}
+use lib.ListN.{length}
+use borrow.Author.Tests.{ltb-true}
+use Rattle.sheet.specs.Limits.{mostBlocks, mostStrips}
 use Rattle.sheet.specs.Tags.{mosaicHeadTag, mosaicStripTag, sortingHeadTag, sortingStripTag, flightHeadTag, flightBlockTag, flightOrderTag}
-use Rattle.sheet.specs.Checks.{noSection, inMosaic, inSorting, inFlight, afterOrder, endsSection, permitted, inRange, hasRoom, stripsOfDesk, orderProper, sortingStripInRange}
-use Rattle.sheet.specs.Decode.{zeros, noMosaic, noSorting, noFlight, withMosaicHead, withMosaicStrip, withSortingHead, withStripAt, withSortingStrip, withBlock, withOrder, nextMosaic, nextSorting, nextFlight, nextSection, nextHead, nextMembers, nextReading, startReading}
+use Rattle.sheet.specs.Checks.{noSection, inMosaic, inSorting, inFlight, afterOrder, endsSection, inRange, hasRoom, orderProper}
+use Rattle.sheet.specs.Decode.{noFlight, withMosaicHead, withMosaicStrip, withSortingHead, withBlock, withOrder, nextMosaic, nextSorting, nextFlight, nextSection, nextHead, nextMembers, nextReading, startReading}
 use Rattle.sheet.specs.Sound.{MosaicSound, SortingSound, FlightWithin, stripsInAll}
-use Rattle.sheet.specs.Stores.{zeros-at, set-here, set-there}
-use Rattle.sheet.specs.Passed.{Passed, Next, next-of, is-between}
+use Rattle.sheet.specs.Stores.{zeros-at}
+use Rattle.sheet.specs.Passed.{Passed, Next, next-of}
 use Rattle.sheet.specs.Passed.Next.{mosaic-head, mosaic-strip, sorting-head, sorting-strip, flight-head, flight-block, flight-order}
 use Rattle.sheet.specs.SectionLaws.{no-mosaic-sound, no-sorting-sound, no-flight-sound, mosaic-head-sound, mosaic-strip-sound, sorting-head-sound, sorting-strip-sound, sorting-strip-more, block-sound, order-sound}
-use Rattle.sheet.specs.declared.SortingSection.{SortingSection}
 use Rattle.sheet.specs.declared.Reading.{Reading}
 
 pub record Kept (s : List ℕ) (st : Reading) : Type 0 where

@@ -1,13 +1,13 @@
 -- A field whose number is 0 passes every check, and its tag is one of the seven that may stand next.
 use Prim.Native.Nat.{ℕ, _+_, _≤_, _<_}
-use mathlib.Core.Path.{_≡_, refl, sym, _∙_}
+use mathlib.Core.Path.{_≡_, refl}
 use mathlib.Core.Bool.{Bool, true, false, cond}
 use mathlib.Core.List.{List}
 use mathlib.Core.Logic.{_⊎_, inl, inr, ⊎-elim}
 use native.Mathlib.Omega.{arith}
 use lib.Dec.{leb, eqb}
 use borrow.Author.Tests.{eqb-true, ltb-true, leb-true}
-use Rattle.field.specs.Branch.{check, passed, both}
+use Rattle.field.specs.Branch.{passed, both}
 use Rattle.field.specs.Bytes.{numberAt}
 use Rattle.sheet.specs.Tags.{mosaicHeadTag, mosaicStripTag, sortingHeadTag, sortingStripTag, flightHeadTag, flightBlockTag, flightOrderTag}
 use Rattle.sheet.specs.Checks.{noSection, inMosaic, inSorting, inFlight, sectionFilled, orderGiven, orderPermitted, permitted, lengthDue, between, inRange, hasRoom, stripsOfDesk, orderProper}

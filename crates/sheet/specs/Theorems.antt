@@ -2,9 +2,8 @@
 -- The idea: the reading goes from field to field as the causes are stated; each turn ends in one of the table's rows or in the next field.
 use Prim.Native.Nat.{ℕ, zero, suc, _+_, _-_, _≤_, _<_}
 use mathlib.Core.Path.{_≡_, refl, sym, ap, ap₂, _∙_}
-use mathlib.Core.Bool.{Bool, true, false, cond, not, _||_}
+use mathlib.Core.Bool.{Bool, true, false, not, _||_}
 use mathlib.Core.List.{List}
-use mathlib.Core.Logic.{_⊎_, inl, inr, ⊎-elim}
 use native.Mathlib.Decide.{ℕ-discrete}
 use native.Mathlib.Omega.{arith}
 use lib.ListN.{length}
@@ -18,7 +17,7 @@ use Rattle.field.specs.declared.Field.{Field}
 use Rattle.field.specs.declared.Field.the-variants.{End, Cut, Whole}
 use Rattle.sheet.specs.Limits.{mostBlocksWithoutOrder}
 use Rattle.sheet.specs.Refusals.{fieldCut, noMembers, orderMissing}
-use Rattle.sheet.specs.Checks.{inMosaic, inSorting, inFlight, afterOrder, sectionFilled, orderGiven, fewBlocks, permitted, lengthDue, inRange, hasRoom, stripsOfDesk, orderProper}
+use Rattle.sheet.specs.Checks.{inFlight, afterOrder, sectionFilled, orderGiven, fewBlocks, permitted, lengthDue, inRange, hasRoom, stripsOfDesk, orderProper}
 use Rattle.sheet.specs.Decode.{nextReading, startReading}
 use Rattle.sheet.specs.Read.{contentNumber, fieldNumber, endNumber, placeOf, refused, accepted, atEnd, readFrom, readSheet}
 use Rattle.sheet.specs.Sound.{SheetSound, stripsInAll}

@@ -1,11 +1,11 @@
 -- The chain of checks, one law for each way through it: the number that the code answers is the definition's.
 use Prim.Native.Nat.{ℕ, _+_}
-use mathlib.Core.Path.{_≡_, refl, sym, _∙_}
+use mathlib.Core.Path.{_≡_}
 use mathlib.Core.Bool.{Bool, true, false, not}
 use mathlib.Core.List.{List}
 use borrow.Author.Tests.{eq-eqb, ne-eqb, not-true, not-false}
 use Rattle.field.specs.Branch.{check}
-use Rattle.field.specs.Bytes.{numberAt, NumberRead}
+use Rattle.field.specs.Bytes.{NumberRead}
 use Rattle.sheet.specs.Refusals.{tagNotPermitted, lengthWrong, outOfRange, tooMany, noMembers, orderNotProper, orderMissing}
 use Rattle.sheet.specs.Checks.{sectionFilled, orderGiven, permitted, lengthDue, inRange, hasRoom, stripsOfDesk, orderProper}
 use Rattle.sheet.specs.Read.{contentNumber, fieldNumber}

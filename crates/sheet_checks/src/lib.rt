@@ -27,7 +27,7 @@ use sheet::tags::SORTING_HEAD;
 use sheet::tags::SORTING_STRIP;
 use sheet_ranges::is_in_range;
 ghost use mathlib.Core.Path.{_≡_};
-ghost use Prim.Native.Nat.{ℕ, _-_, _≤_};
+ghost use Prim.Native.Nat.{_-_, _≤_};
 ghost use Rattle.sheet.specs.Checks.{endsSection, sectionFilled, fewBlocks, orderGiven, orderPermitted, permitted, lengthDue, stripsOfDesk, hasRoom, orderProper};
 ghost use Rattle.sheet.specs.Read.{contentNumber, fieldNumber, endNumber, placeOf};
 ghost use Rattle.sheet.specs.Sound.{SortingSound, stripsInAll};

@@ -1,10 +1,8 @@
 -- What a planning call from C answers and leaves: that of a call whose working table is large enough.
-use Prim.Native.Nat.{ℕ, _≤_}
+use Prim.Native.Nat.{ℕ}
 use mathlib.Core.Path.{_≡_}
 use mathlib.Core.List.{List}
 use lib.ListN.{length}
-use lib.Dec.{ltb}
-use borrow.Author.Tests.{le-ltb}
 use Rattle.field.specs.Put.{holding}
 use Rattle.sheet.specs.Limits.{tableLength}
 use Rattle.planner.specs.Call.{Called, answerOf, plannedBytes}

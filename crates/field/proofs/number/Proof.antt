@@ -1,6 +1,5 @@
 -- `number` meets its contract. Invariant: the bytes from the one at `left` on have been added up. So the value fits at every turn.
 use Rattle.field.specs.Numbers.{scaled-fits}
-use Prim.Native.Nat.{_≤_}
 use native.Mathlib.Omega.{arith}
 use borrow.Author.Needs.{needs}
 use Rattle.field.specs.Numbers.{Added, added-none, added-more, added-fits, added-all, past-read}

@@ -1,6 +1,5 @@
 -- `put_number` meets its contract. Invariant: the first `done` bytes are stored, and `rest` is the number without them.
 use Prim.Native.Nat.{_-_}
-use native.Mathlib.Omega.{arith}
 use borrow.Author.Needs.{needs}
 use Rattle.field.specs.Numbers.{Storing, storing-none, storing-more, storing-all}
 use Rattle.field.proofs.put_number.Statement.{statement}

@@ -1,5 +1,5 @@
 -- `report_all` meets its contract. Only that it ends is shown: each turn moves on in the row of cases.
-use Prim.Native.Nat.{_-_, _≤_}
+use Prim.Native.Nat.{_-_}
 use lib.ListN.{length}
 use borrow.Author.Needs.{needs}
 use Rattle.sheet_cases.proofs.report_all.Statement.{statement}

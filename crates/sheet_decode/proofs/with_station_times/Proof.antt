@@ -1,6 +1,5 @@
 -- `with_station_times` meets its contract. Invariant: the first k station times are stored.
 use Prim.Native.Nat.{_-_}
-use native.Mathlib.Omega.{arith}
 use borrow.Author.Needs.{needs}
 use Rattle.sheet_decode.specs.DecodeLaws.{TimesStored, stored-none, stored-more, stored-all}
 use Rattle.sheet_decode.proofs.with_station_times.Statement.{statement}

@@ -1,6 +1,5 @@
 -- `station_times_in_range` meets its contract. Invariant: the first k station times are in range.
 use Prim.Native.Nat.{_-_}
-use native.Mathlib.Omega.{arith}
 use borrow.Author.Needs.{needs}
 use Rattle.sheet_ranges.specs.RangeLaws.{TimesPassed, times-none, times-more, times-wrong, times-all}
 use Rattle.sheet_ranges.proofs.station_times_in_range.Statement.{statement}

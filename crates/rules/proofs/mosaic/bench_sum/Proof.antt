@@ -1,8 +1,7 @@
 -- `bench_sum` meets its contract. Invariant: `sum` is the sum of the first k bench times, each at most the greatest time.
-use Prim.Native.Nat.{ℕ, _+_, _-_, _*_}
+use Prim.Native.Nat.{_+_, _-_}
 use lib.ListN.{getD}
 use native.Mathlib.Omega.{arith}
-use borrow.Author.Needs.{needs}
 use Rattle.rules.specs.FunctionLaws.{Summed, sum-none, bench-more, bench-fits, bench-all}
 use Rattle.sheet.specs.Limits.{mostTime}
 use Rattle.rules.proofs.mosaic.bench_sum.Statement.{statement}

@@ -1,6 +1,5 @@
 -- `ready_time` meets its contract. Invariant: `greatest` is the greatest sum of the first k stations.
 use Prim.Native.Nat.{_-_}
-use native.Mathlib.Omega.{arith}
 use borrow.Author.Needs.{needs}
 use Rattle.rules.specs.FunctionLaws.{Greatest, greatest-none, greatest-more, greatest-all}
 use mathlib.Core.Path.{_≡_, refl}

@@ -1,8 +1,7 @@
 -- `station_sum` meets its contract. Invariant: `sum` is the sum of the first i times of the station, each at most the greatest time.
-use Prim.Native.Nat.{ℕ, _+_, _-_, _*_}
+use Prim.Native.Nat.{_+_, _-_, _*_}
 use lib.ListN.{getD}
 use native.Mathlib.Omega.{arith}
-use borrow.Author.Needs.{needs}
 use Rattle.rules.specs.FunctionLaws.{Summed, sum-none, station-more, station-fits, station-all}
 use Rattle.sheet.specs.Limits.{mostTime}
 use Rattle.rules.proofs.mosaic.station_sum.Statement.{statement}
