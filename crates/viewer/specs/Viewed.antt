@@ -5,12 +5,9 @@ use mathlib.Core.List.{List}
 use lib.ListN.{length}
 use Rattle.field.specs.Put.{holding}
 use Rattle.sheet.specs.Limits.{tableLength}
-use Rattle.planner.specs.Call.{Called, answerOf, plannedBytes}
+use Rattle.planner.specs.Call.{answerOf, plannedBytes}
 use Rattle.planner.specs.declared.Answer.{Answer}
 
 pub record Viewed (sheet plan planAfter : List ℕ) (r : Answer) : Type 0 where
   pub answer : r ≡ answerOf sheet (length plan) tableLength
   pub buffer : planAfter ≡ holding (plannedBytes sheet (length plan) tableLength) plan
-
-pub viewed : (sheet plan working planAfter tableEnd : List ℕ) (r : Answer) → length working ≡ 6400 → Called sheet plan working planAfter tableEnd r → Viewed sheet plan planAfter r
-viewed sheet plan working planAfter tableEnd r e c = record { answer = rw e at (c .answer); buffer = rw e at (c .buffer) }
