@@ -1,37 +1,61 @@
 -- The faults that the judge names, each with its number and its place (01, "Turned back"). "It checks the sheet (3 to 10), then all of 12, then section by section
--- 13 on its members in order, 13 at its head, then 14." Tests.antt ties the tests at a member and at a head to the rules.
+-- 13 on its members in order, 13 at its head, then 14." What a member and a head are judged by are the rules as they run over the members (rules, Running.antt).
 use Prim.Native.Nat.{ℕ, _+_, _≤_, _<_}
 use mathlib.Core.Path.{_≡_}
 use mathlib.Core.Bool.{true, false}
 use mathlib.Core.List.{List}
 use lib.ListN.{length}
+use lib.Dec.{eqb}
 use Rattle.sheet.specs.Refusals.{layoutWrong, ruleBroken, figureUntrue}
 use Rattle.sheet.specs.Read.{readSheet}
 use Rattle.sheet.specs.declared.Sheet.{Sheet}
-use Rattle.rules.specs.PlanRead.{figureFrom}
+use Rattle.rules.specs.PlanRead.{figureFrom, orderFrom, batchFrom, jobFrom, passesFrom}
+use Rattle.rules.specs.Running.{BatchFollows, JobFollows, AllDone, BlockFollows, FlightHead}
+use Rattle.judge_flight.specs.Starts.{passesOf}
 use Rattle.judge_layout.specs.Layout.{mosaicPart, sortingPart, flightPart}
-use Rattle.judge_members.specs.Members.{present, memberPlace, begun, memberFollows, afterMember, headFollows, figureOf}
+use Rattle.judge_layout.specs.declared.Part.{Part}
+use Rattle.judge_members.specs.Members.{present, memberPlace, begun, afterMember, figureOf}
 use Rattle.judge_members.specs.declared.Progress.{Progress}
-use Rattle.judge.specs.Judged.{partAt, sectionVerdict}
+use Rattle.judge.specs.Judged.{partAt}
 use Rattle.judge_laws.specs.Outcomes.{LayoutRight}
+
+-- member k of a section, at a place of the plan, follows what was judged before it
+unfoldable pub MemberFollows : Sheet → List ℕ → ℕ → ℕ → ℕ → Progress → Type 0
+MemberFollows s plan section k place st =
+    elim (eqb section 1) [
+      | true ↦ BatchFollows (s .mosaic) (st .before) (batchFrom plan place)
+      | false ↦
+          elim (eqb section 2)
+          [ true ↦ JobFollows (s .sorting) (st .desks) (jobFrom plan place) | false ↦ BlockFollows (s .flight) k (passesFrom plan place) ]
+    ]
+
+-- what is judged at the head of a section, its members judged: every strip is in a batch; every strip has had its job; every block, the order and the passes
+unfoldable pub HeadFollows : Sheet → List ℕ → ℕ → Part → Progress → Type 0
+HeadFollows s plan section part st =
+    elim (eqb section 1) [
+      | true ↦ st .before .last ≡ s .mosaic .strips
+      | false ↦
+          elim (eqb section 2)
+          [ true ↦ AllDone (s .sorting) (st .desks) | false ↦ FlightHead (s .flight) (orderFrom plan (part .head)) (passesOf plan (part .head + 15) (part .members)) ]
+    ]
 
 -- the judging of a section has come to its member k, and every member before it follows
 pub data Reached (s : Sheet) (plan : List ℕ) (section : ℕ) : ℕ → Progress → Type 0 where
   first : Reached s plan section 0 begun
   next : {k : ℕ} {st : Progress} → Reached s plan section k st → k < partAt s plan section .members
-      → memberFollows s plan section k (memberPlace section (partAt s plan section .head) k) st ≡ true
+      → MemberFollows s plan section k (memberPlace section (partAt s plan section .head) k) st
       → Reached s plan section (k + 1) (afterMember s plan section (memberPlace section (partAt s plan section .head) k) st)
 
 -- 13 at the first member that does not follow; where all follow, 13 at the head that does not hold; where it holds, 14 at the head whose figure is untrue
 pub data SectionFault (s : Sheet) (plan : List ℕ) (section : ℕ) : ℕ → ℕ → Type 0 where
   at-member : {number place : ℕ} (k : ℕ) (st : Progress) → Reached s plan section k st → k < partAt s plan section .members
-      → memberFollows s plan section k (memberPlace section (partAt s plan section .head) k) st ≡ false
+      → (MemberFollows s plan section k (memberPlace section (partAt s plan section .head) k) st → ⊥)
       → number ≡ ruleBroken → place ≡ memberPlace section (partAt s plan section .head) k → SectionFault s plan section number place
   at-head : {number place : ℕ} (st : Progress) → Reached s plan section (partAt s plan section .members) st
-      → headFollows s plan section (partAt s plan section) st ≡ false
+      → (HeadFollows s plan section (partAt s plan section) st → ⊥)
       → number ≡ ruleBroken → place ≡ partAt s plan section .head → SectionFault s plan section number place
   figure-untrue : {number place : ℕ} (st : Progress) → Reached s plan section (partAt s plan section .members) st
-      → headFollows s plan section (partAt s plan section) st ≡ true
+      → HeadFollows s plan section (partAt s plan section) st
       → (figureFrom plan (partAt s plan section .head) ≡ figureOf s plan section (partAt s plan section) st → ⊥)
       → number ≡ figureUntrue → place ≡ partAt s plan section .head → SectionFault s plan section number place
 
@@ -47,5 +71,5 @@ pub data Fault (sheet plan : List ℕ) : ℕ → ℕ → Type 0 where
   in-sheet : {number place : ℕ} → (readSheet sheet .number ≡ 0 → ⊥) → number ≡ readSheet sheet .number → place ≡ readSheet sheet .place → Fault sheet plan number place
   in-layout : {number place : ℕ} → readSheet sheet .number ≡ 0 → LayoutFault (readSheet sheet) plan place → number ≡ layoutWrong → Fault sheet plan number place
   in-section : {number place : ℕ} (section : ℕ) → readSheet sheet .number ≡ 0 → LayoutRight (readSheet sheet) plan → 1 ≤ section → section ≤ 3
-      → ((i : ℕ) → 1 ≤ i → i < section → sectionVerdict (readSheet sheet) plan i .number ≡ 0)
+      → ((i : ℕ) → 1 ≤ i → i < section → present (readSheet sheet) i ≡ true → (n p : ℕ) → SectionFault (readSheet sheet) plan i n p → ⊥)
       → present (readSheet sheet) section ≡ true → SectionFault (readSheet sheet) plan section number place → Fault sheet plan number place

@@ -10,6 +10,7 @@ use lib.ListN.{length}
 use lib.Dec.{eqb}
 use borrow.Author.Tests.{ne-eqb, eqb-false}
 use Rattle.field.specs.Branch.{check}
+use Rattle.order.specs.Order.{Decides}
 use Rattle.sheet.specs.Refusals.{layoutWrong, ruleBroken, figureUntrue}
 use Rattle.sheet.specs.Read.{readSheet}
 use Rattle.sheet.specs.declared.Sheet.{Sheet}
@@ -22,7 +23,8 @@ use Rattle.judge.specs.Judged.{partAt, sectionFrom, sectionVerdict, sectionsFro
 use Rattle.judge.specs.Loops.{section-absent, zero-number, section-here, sections-next, sections-stop, member-next, member-wrong, members-judged, sheet-wrong, sheet-right, layout-wrong, section-wrong}
 use Rattle.judge.specs.declared.Judged.{Judged}
 use Rattle.judge_laws.specs.Outcomes.{LayoutRight, right-layout, layout-right, sections-right, right-judged}
-use Rattle.judge_laws.specs.Fault.{Reached, SectionFault, LayoutFault, Fault}
+use Rattle.judge_laws.specs.Fault.{MemberFollows, HeadFollows, Reached, SectionFault, LayoutFault, Fault}
+use Rattle.judge_laws.specs.Decided.{member-decided, head-decided, decided-true, decided-false}
 
 -- one section
 module _ (s : Sheet) (plan : List ℕ) (section : ℕ) where
@@ -37,8 +39,8 @@ module _ (s : Sheet) (plan : List ℕ) (section : ℕ) where
           → (c : Bool) → eqb (figureFrom plan (partAt s plan section .head)) (figureOf s plan section (partAt s plan section) st) ≡ c
           → (check b ruleBroken (check c figureUntrue 0) ≡ 0 → ⊥)
           → SectionFault s plan section (check b ruleBroken (check c figureUntrue 0)) (partAt s plan section .head)
-      go false p c q n = SectionFault.at-head st r p refl refl
-      go true p false q n = SectionFault.figure-untrue st r p (eqb-false _ _ q) refl refl
+      go false p c q n = SectionFault.at-head st r (head-decided s plan section (partAt s plan section) st .fails p) refl refl
+      go true p false q n = SectionFault.figure-untrue st r (head-decided s plan section (partAt s plan section) st .holds p) (eqb-false _ _ q) refl refl
       go true p true q n = absurd (n refl)
 
   named : (v w : Verdict) → v ≡ w → SectionFault s plan section (v .number) (v .place) → SectionFault s plan section (w .number) (w .place)
@@ -54,6 +56,9 @@ module _ (s : Sheet) (plan : List ℕ) (section : ℕ) where
       named _ _ (sym q) (head-fault st (subst (λ (i : ℕ). Reached s plan section i st) (omega arith) r) (λ z. h (ap (λ v. v .number) q ∙ z)))
   fault-from (suc n) k st r e h = go _ refl (fault-from n (k + 1) (afterMember s plan section (memberPlace section (partAt s plan section .head) k) st))
     where
+      follows : Decides (MemberFollows s plan section k (memberPlace section (partAt s plan section .head) k) st) (memberFollows s plan section k (memberPlace section (partAt s plan section .head) k) st)
+      follows = member-decided s plan section k (memberPlace section (partAt s plan section .head) k) st
+
       rest : Verdict
       rest = sectionFrom n s plan section (partAt s plan section) (k + 1) (afterMember s plan section (memberPlace section (partAt s plan section .head) k) st)
 
@@ -62,8 +67,8 @@ module _ (s : Sheet) (plan : List ℕ) (section : ℕ) where
           → SectionFault s plan section (sectionFrom (suc n) s plan section (partAt s plan section) k st .number) (sectionFrom (suc n) s plan section (partAt s plan section) k st .place)
       go true p ih =
           let q = member-next n s plan section (partAt s plan section) k st p in
-          named _ _ (sym q) (ih (Reached.next r (omega arith) p) (omega arith) (λ z. h (ap (λ v. v .number) q ∙ z)))
-      go false p ih = named _ _ (sym (member-wrong n s plan section (partAt s plan section) k st p)) (SectionFault.at-member k st r (omega arith) p refl refl)
+          named _ _ (sym q) (ih (Reached.next r (omega arith) (follows .holds p)) (omega arith) (λ z. h (ap (λ v. v .number) q ∙ z)))
+      go false p ih = named _ _ (sym (member-wrong n s plan section (partAt s plan section) k st p)) (SectionFault.at-member k st r (omega arith) (follows .fails p) refl refl)
 
   -- the members before are passed
   reached-same : {k : ℕ} {st : Progress} → Reached s plan section k st → (n : ℕ) → k + n ≡ partAt s plan section .members
@@ -71,22 +76,22 @@ module _ (s : Sheet) (plan : List ℕ) (section : ℕ) where
   reached-same Reached.first n e =
       let q : partAt s plan section .members ≡ n = omega arith in
       ap (λ (m : ℕ). sectionFrom m s plan section (partAt s plan section) 0 begun) q
-  reached-same (Reached.next {k} {st} r l h) n e = reached-same r (suc n) (omega arith) ∙ member-next n s plan section (partAt s plan section) k st h
+  reached-same (Reached.next {k} {st} r l h) n e = reached-same r (suc n) (omega arith) ∙ member-next n s plan section (partAt s plan section) k st (decided-true (member-decided s plan section k _ st) h)
 
-  head-broken : (k : ℕ) (st : Progress) → headFollows s plan section (partAt s plan section) st ≡ false
+  head-broken : (k : ℕ) (st : Progress) → (HeadFollows s plan section (partAt s plan section) st → ⊥)
       → sectionFrom 0 s plan section (partAt s plan section) k st ≡ verdict ruleBroken (partAt s plan section .head)
   unfolding headNumber check
-  head-broken k st h = members-judged s plan section (partAt s plan section) k st ∙ rw h
+  head-broken k st h = members-judged s plan section (partAt s plan section) k st ∙ rw (decided-false (head-decided s plan section (partAt s plan section) st) h)
 
-  head-untrue : (k : ℕ) (st : Progress) → headFollows s plan section (partAt s plan section) st ≡ true
+  head-untrue : (k : ℕ) (st : Progress) → HeadFollows s plan section (partAt s plan section) st
       → (figureFrom plan (partAt s plan section .head) ≡ figureOf s plan section (partAt s plan section) st → ⊥)
       → sectionFrom 0 s plan section (partAt s plan section) k st ≡ verdict figureUntrue (partAt s plan section .head)
   unfolding headNumber check
-  head-untrue k st h n = members-judged s plan section (partAt s plan section) k st ∙ rw (h, ne-eqb _ _ n)
+  head-untrue k st h n = members-judged s plan section (partAt s plan section) k st ∙ rw (decided-true (head-decided s plan section (partAt s plan section) st) h, ne-eqb _ _ n)
 
   fault-is : (number place : ℕ) → SectionFault s plan section number place → sectionFrom (partAt s plan section .members) s plan section (partAt s plan section) 0 begun ≡ verdict number place
   fault-is number place (SectionFault.at-member k st r l h en ep) =
-      reached-same r (suc (partAt s plan section .members - suc k)) (omega arith) ∙ member-wrong _ s plan section (partAt s plan section) k st h ∙ sym (ap₂ verdict en ep)
+      reached-same r (suc (partAt s plan section .members - suc k)) (omega arith) ∙ member-wrong _ s plan section (partAt s plan section) k st (decided-false (member-decided s plan section k _ st) h) ∙ sym (ap₂ verdict en ep)
   fault-is number place (SectionFault.at-head st r h en ep) = reached-same r 0 (omega arith) ∙ head-broken _ st h ∙ sym (ap₂ verdict en ep)
   fault-is number place (SectionFault.figure-untrue st r h n en ep) = reached-same r 0 (omega arith) ∙ head-untrue _ st h n ∙ sym (ap₂ verdict en ep)
 
@@ -107,6 +112,18 @@ module _ (s : Sheet) (plan : List ℕ) (section : ℕ) where
           let q = section-here s plan section (partAt s plan section) refl p in
           (p, named _ _ q (fault-from (partAt s plan section .members) 0 begun Reached.first (omega arith) (λ z. h (sym (ap (λ v. v .number) q) ∙ z))))
       go false p = absurd (h (ap (λ v. v .number) (section-absent s plan section p) ∙ zero-number 0))
+
+  -- a section has no fault exactly where its verdict is 0
+  no-fault : sectionVerdict s plan section .number ≡ 0 → present s section ≡ true → (n p : ℕ) → SectionFault s plan section n p → ⊥
+  unfolding verdict
+  no-fault z there n p f = fault-number n p f (sym (ap (λ (v : Verdict). v .number) (section-fault-is n p there f)) ∙ z)
+
+  none-judged : (present s section ≡ true → (n p : ℕ) → SectionFault s plan section n p → ⊥) → sectionVerdict s plan section .number ≡ 0
+  none-judged h = go (ℕ-discrete _ 0)
+    where
+      go : Dec (sectionVerdict s plan section .number ≡ 0) → sectionVerdict s plan section .number ≡ 0
+      go (yes z) = z
+      go (no n) = let f = section-fault n in absurd (h (f .0) _ _ (f .1))
 
 -- the layout
 module _ (s : Sheet) (plan : List ℕ) where
@@ -211,7 +228,7 @@ module _ (sheet plan : List ℕ) where
       go (yes z) (no n) c = let f = layout-fault (readSheet sheet) plan n in turned _ _ (layout-refused z n) (Fault.in-layout z (f .1) (f .0))
       go (yes z) (yes y) (no n) =
           let f = first-fault (readSheet sheet) plan n in
-          turned _ _ (sections-refused z y n) (Fault.in-section (f .section) z (layout-right (readSheet sheet) plan y) (f .low) (f .high) (f .before) (f .there) (f .fault))
+          turned _ _ (sections-refused z y n) (Fault.in-section (f .section) z (layout-right (readSheet sheet) plan y) (f .low) (f .high) (λ i l u. no-fault (readSheet sheet) plan i (f .before i l u)) (f .there) (f .fault))
       go (yes z) (yes y) (yes x) = absurd (h (none-refused z y x))
 
   section-turned-back : (number place : ℕ) → readSheet sheet .number ≡ 0 → LayoutRight (readSheet sheet) plan → sectionsFrom 3 (readSheet sheet) plan 1 ≡ verdict number place → (number ≡ 0 → ⊥) → judged sheet plan ≡ turnedBack number place
@@ -231,4 +248,4 @@ module _ (sheet plan : List ℕ) where
   fault-turned-back number place (Fault.in-section section z l low high before there f) =
       let n = fault-number (readSheet sheet) plan section number place f in
       section-turned-back number place z l
-      (first-fault-is (readSheet sheet) plan number place section low high before (section-fault-is (readSheet sheet) plan section number place there f) n) n
+      (first-fault-is (readSheet sheet) plan number place section low high (λ i p u. none-judged (readSheet sheet) plan i (before i p u)) (section-fault-is (readSheet sheet) plan section number place there f) n) n

@@ -6,5 +6,6 @@ pub mod Outcomes
 pub mod Allows
 pub mod Written
 pub mod Fault
+pub mod Decided
 pub mod Faults
 pub mod Theorems
