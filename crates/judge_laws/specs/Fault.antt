@@ -2,19 +2,22 @@
 -- 13 on its members in order, 13 at its head, then 14." What a member and a head are judged by are the rules as they run over the members (rules, Running.antt).
 use Prim.Native.Nat.{ℕ, _+_, _≤_, _<_}
 use mathlib.Core.Path.{_≡_}
-use mathlib.Core.Bool.{true, false}
+use mathlib.Core.Bool.{true, false, cond}
 use mathlib.Core.List.{List}
 use lib.ListN.{length}
 use lib.Dec.{eqb}
 use Rattle.sheet.specs.Refusals.{layoutWrong, ruleBroken, figureUntrue}
 use Rattle.sheet.specs.Read.{readSheet}
 use Rattle.sheet.specs.declared.Sheet.{Sheet}
-use Rattle.rules.specs.PlanRead.{figureFrom, orderFrom, batchFrom, jobFrom, passesFrom}
+use Rattle.rules.specs.Mosaic.{mosaicFigure}
+use Rattle.rules.specs.Sorting.{sortingFigure}
+use Rattle.rules.specs.Flight.{flightFigure}
+use Rattle.rules.specs.PlanRead.{figureFrom, orderFrom, batchFrom, jobFrom, passesFrom, membersFrom}
 use Rattle.rules.specs.Running.{BatchFollows, JobFollows, AllDone, BlockFollows, FlightHead}
 use Rattle.judge_flight.specs.Starts.{passesOf}
 use Rattle.judge_layout.specs.Layout.{mosaicPart, sortingPart, flightPart}
 use Rattle.judge_layout.specs.declared.Part.{Part}
-use Rattle.judge_members.specs.Members.{present, memberPlace, begun, afterMember, figureOf}
+use Rattle.judge_members.specs.Members.{present, memberPlace, begun, afterMember}
 use Rattle.judge_members.specs.declared.Progress.{Progress}
 use Rattle.judge.specs.Judged.{partAt}
 use Rattle.judge_laws.specs.Outcomes.{LayoutRight}
@@ -39,6 +42,13 @@ HeadFollows s plan section part st =
           [ true ↦ AllDone (s .sorting) (st .desks) | false ↦ FlightHead (s .flight) (orderFrom plan (part .head)) (passesOf plan (part .head + 15) (part .members)) ]
     ]
 
+-- the figure that the rules give the members of a section, as they stand in the plan
+unfoldable pub ruleFigure : Sheet → List ℕ → ℕ → Part → ℕ
+ruleFigure s plan section part =
+    cond (eqb section 1) (mosaicFigure (s .mosaic) (membersFrom batchFrom 12 plan (part .head + 7) (part .members)))
+    (cond (eqb section 2) (sortingFigure (s .sorting) (membersFrom jobFrom 13 plan (part .head + 7) (part .members)))
+    (flightFigure (s .flight) (passesOf plan (part .head + 15) (part .members))))
+
 -- the judging of a section has come to its member k, and every member before it follows
 pub data Reached (s : Sheet) (plan : List ℕ) (section : ℕ) : ℕ → Progress → Type 0 where
   first : Reached s plan section 0 begun
@@ -56,7 +66,7 @@ pub data SectionFault (s : Sheet) (plan : List ℕ) (section : ℕ) : ℕ → �
       → number ≡ ruleBroken → place ≡ partAt s plan section .head → SectionFault s plan section number place
   figure-untrue : {number place : ℕ} (st : Progress) → Reached s plan section (partAt s plan section .members) st
       → HeadFollows s plan section (partAt s plan section) st
-      → (figureFrom plan (partAt s plan section .head) ≡ figureOf s plan section (partAt s plan section) st → ⊥)
+      → (figureFrom plan (partAt s plan section .head) ≡ ruleFigure s plan section (partAt s plan section) → ⊥)
       → number ≡ figureUntrue → place ≡ partAt s plan section .head → SectionFault s plan section number place
 
 -- the first wrong field of the layout: a head that is not the one due, or what stands behind the last section

@@ -24,6 +24,7 @@ use Rattle.judge.specs.Loops.{section-absent, zero-number, section-here, sectio
 use Rattle.judge.specs.declared.Judged.{Judged}
 use Rattle.judge_laws.specs.Outcomes.{LayoutRight, right-layout, layout-right, sections-right, right-judged}
 use Rattle.judge_laws.specs.Fault.{MemberFollows, HeadFollows, Reached, SectionFault, LayoutFault, Fault}
+use Rattle.judge_laws.specs.Figures.{reached-figure}
 use Rattle.judge_laws.specs.Decided.{member-decided, head-decided, decided-true, decided-false}
 
 -- one section
@@ -35,12 +36,15 @@ module _ (s : Sheet) (plan : List ℕ) (section : ℕ) where
   unfolding headNumber check
   head-fault st r h = go _ refl _ refl h
     where
+      follows : Decides (HeadFollows s plan section (partAt s plan section) st) (headFollows s plan section (partAt s plan section) st)
+      follows = head-decided s plan section (partAt s plan section) st
+
       go : (b : Bool) → headFollows s plan section (partAt s plan section) st ≡ b
           → (c : Bool) → eqb (figureFrom plan (partAt s plan section .head)) (figureOf s plan section (partAt s plan section) st) ≡ c
           → (check b ruleBroken (check c figureUntrue 0) ≡ 0 → ⊥)
           → SectionFault s plan section (check b ruleBroken (check c figureUntrue 0)) (partAt s plan section .head)
-      go false p c q n = SectionFault.at-head st r (head-decided s plan section (partAt s plan section) st .fails p) refl refl
-      go true p false q n = SectionFault.figure-untrue st r (head-decided s plan section (partAt s plan section) st .holds p) (eqb-false _ _ q) refl refl
+      go false p c q n = SectionFault.at-head st r (follows .fails p) refl refl
+      go true p false q n = SectionFault.figure-untrue st r (follows .holds p) (λ e. eqb-false _ _ q (e ∙ sym (reached-figure s plan section st r (follows .holds p)))) refl refl
       go true p true q n = absurd (n refl)
 
   named : (v w : Verdict) → v ≡ w → SectionFault s plan section (v .number) (v .place) → SectionFault s plan section (w .number) (w .place)
@@ -93,7 +97,7 @@ module _ (s : Sheet) (plan : List ℕ) (section : ℕ) where
   fault-is number place (SectionFault.at-member k st r l h en ep) =
       reached-same r (suc (partAt s plan section .members - suc k)) (omega arith) ∙ member-wrong _ s plan section (partAt s plan section) k st (decided-false (member-decided s plan section k _ st) h) ∙ sym (ap₂ verdict en ep)
   fault-is number place (SectionFault.at-head st r h en ep) = reached-same r 0 (omega arith) ∙ head-broken _ st h ∙ sym (ap₂ verdict en ep)
-  fault-is number place (SectionFault.figure-untrue st r h n en ep) = reached-same r 0 (omega arith) ∙ head-untrue _ st h n ∙ sym (ap₂ verdict en ep)
+  fault-is number place (SectionFault.figure-untrue st r h n en ep) = reached-same r 0 (omega arith) ∙ head-untrue _ st h (λ e. n (e ∙ reached-figure s plan section st r h)) ∙ sym (ap₂ verdict en ep)
 
   -- a fault of a section has a number above 0
   fault-number : (number place : ℕ) → SectionFault s plan section number place → number ≡ 0 → ⊥

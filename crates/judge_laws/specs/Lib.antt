@@ -7,5 +7,6 @@ pub mod Allows
 pub mod Written
 pub mod Fault
 pub mod Decided
+pub mod Figures
 pub mod Faults
 pub mod Theorems

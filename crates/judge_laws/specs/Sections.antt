@@ -87,7 +87,7 @@ next-place section head k = omega (arith, times-more k (memberBytes section))
     times-more : (n m : ℕ) → (n + 1) * m ≡ n * m + m
     times-more n m = omega arith
 
-regroup : (a b c : ℕ) → a + b + c ≡ a + (b + c)
+pub regroup : (a b c : ℕ) → a + b + c ≡ a + (b + c)
 regroup a b c = omega arith
 
 -- The mosaic.
@@ -97,7 +97,7 @@ module _ (s : Sheet) (plan : List ℕ) (part : Part) where
     pub runs : MosaicRuns (s .mosaic) (st .before) bs
     pub figure : figureFrom plan (part .head) ≡ st .figure + runningFigure (st .before) bs
 
-  batches-more : (n k : ℕ) → membersFrom batchFrom 12 plan (memberPlace 1 (part .head) k) (suc n) ≡ batchFrom plan (memberPlace 1 (part .head) k) ∷ membersFrom batchFrom 12 plan (memberPlace 1 (part .head) (k + 1)) n
+  pub batches-more : (n k : ℕ) → membersFrom batchFrom 12 plan (memberPlace 1 (part .head) k) (suc n) ≡ batchFrom plan (memberPlace 1 (part .head) k) ∷ membersFrom batchFrom 12 plan (memberPlace 1 (part .head) (k + 1)) n
   unfolding membersFrom memberBytes
   batches-more n k = ap (λ at. batchFrom plan (memberPlace 1 (part .head) k) ∷ membersFrom batchFrom 12 plan at n) (sym (next-place 1 (part .head) k))
 
@@ -129,7 +129,7 @@ module _ (s : Sheet) (plan : List ℕ) (part : Part) where
     pub runs : SortingRuns (s .sorting) (st .desks) js
     pub figure : figureFrom plan (part .head) ≡ st .figure + runningFinishes (s .sorting) js
 
-  jobs-more : (n k : ℕ) → membersFrom jobFrom 13 plan (memberPlace 2 (part .head) k) (suc n) ≡ jobFrom plan (memberPlace 2 (part .head) k) ∷ membersFrom jobFrom 13 plan (memberPlace 2 (part .head) (k + 1)) n
+  pub jobs-more : (n k : ℕ) → membersFrom jobFrom 13 plan (memberPlace 2 (part .head) k) (suc n) ≡ jobFrom plan (memberPlace 2 (part .head) k) ∷ membersFrom jobFrom 13 plan (memberPlace 2 (part .head) (k + 1)) n
   unfolding membersFrom memberBytes
   jobs-more n k = ap (λ at. jobFrom plan (memberPlace 2 (part .head) k) ∷ membersFrom jobFrom 13 plan at n) (sym (next-place 2 (part .head) k))
 
