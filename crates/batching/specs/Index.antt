@@ -9,7 +9,7 @@ use Rattle.batching.specs.Chosen.{chosenOpen, chosenFrom}
 unfoldable pub lateStart : ℕ → ℕ → ℕ
 lateStart mount ready = ready + mount
 
--- the least figure of the strips after i, the machine free at `free`: with no batch open; with an open batch up to q
+-- the least figure of the strips after i, the bench free at `free`: with no batch open; with an open batch up to q
 unfoldable pub leastAt : Instance → ℕ → ℕ → ℕ
 leastAt x i free = leastFrom x (x .strips - i) i free
 

@@ -21,7 +21,7 @@ benchStart mount free ready = mountStart free ready + mount
 unfoldable pub finishOf : Instance → ℕ → ℕ → ℕ → ℕ
 finishOf x free i q = benchStart (x .mount) free (x .ready q) + x .bench i q
 
--- the least figure of the strips after i, where the machine is free at `free`, the open batch has the strips after i up to q, and `left` strips follow it
+-- the least figure of the strips after i, where the bench is free at `free`, the open batch has the strips after i up to q, and `left` strips follow it
 unfoldable pub leastOpen : Instance → ℕ → ℕ → ℕ → ℕ → ℕ
 leastOpen x zero i q free = x .weight i q * finishOf x free i q
 leastOpen x (suc left) i q free =

@@ -1,4 +1,4 @@
--- Batches of neighbouring strips on one machine: the least figure by recursion, the batching that has it, and what the tables hold.
+-- Batches of neighbouring strips at one bench: the least figure by recursion, the batching that has it, and what the tables hold.
 pub mod Least
 pub mod Chosen
 pub mod Index

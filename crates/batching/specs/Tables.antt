@@ -43,7 +43,7 @@ pub record InTime (s free ready : ℕ) (answer : Bool) : Type 0 where
   pub yes : answer ≡ true → benchStart s free ready ≡ free + s
   pub no : answer ≡ false → benchStart s free ready ≡ lateStart s ready
 
--- what the tables hold where the machine is free at `free` after strip i
+-- what the tables hold where the bench is free at `free` after strip i
 pub record Ahead (rs sums late row : List ℕ) (s n free i : ℕ) : Type 0 where
   pub row-at : (p : ℕ) → i < p → p ≤ n → getD row p 0 ≡ leastAt (instanceIn rs sums s n) p (free + s + (getD sums p 0 - getD sums i 0))
   pub late-at : (q : ℕ) → i < q → q ≤ n → getD late (width * i + q) 0 ≡ closedAt (instanceIn rs sums s n) (lateStart s (getD rs (q - 1) 0)) i q

@@ -1,4 +1,4 @@
-// Batches of neighbouring strips on one machine: the tables of least figures. A block is a run of batches with no pause: its first batch waits for its last
+// Batches of neighbouring strips at one bench: the tables of least figures. A block is a run of batches with no pause: its first batch waits for its last
 // strip, and none of the others waits. `row` holds the least figures after each strip for one block; `late` those that begin with a batch that waits.
 ghost use mathlib.Core.Path.{_≡_};
 ghost use Prim.Native.Nat.{_+_, _-_, _<_, _^_};
@@ -18,7 +18,7 @@ pub struct Choice {
     pub figure: u64,
 }
 
-// Whether a batch whose last strip is ready at `ready` need not wait for it, the machine free at `free`.
+// Whether a batch whose last strip is ready at `ready` need not wait for it, the bench free at `free`.
 fn in_time(s: u64, free: u64, ready: u64) -> bool
     ensures { λ answer. ⌜ InTime s free ready answer ⌝ }
 {
@@ -33,7 +33,7 @@ fn late_start(s: u64, ready: u64) -> u64
     ready + s
 }
 
-// The least figure of the strips after i where the machine is free at `free` and the first batch ends with strip q.
+// The least figure of the strips after i where the bench is free at `free` and the first batch ends with strip q.
 fn candidate(
     rs: &[u64],
     sums: &[u64],
@@ -57,7 +57,7 @@ fn candidate(
     }
 }
 
-// The first batch taken after strip i where the machine is free at `free`, with the least figure of the strips after i.
+// The first batch taken after strip i where the bench is free at `free`, with the least figure of the strips after i.
 fn choose_batch(
     rs: &[u64],
     sums: &[u64],
@@ -174,7 +174,7 @@ pub fn fill_late(rs: &[u64], sums: &[u64], late: &mut [u64], s: u64, n: usize)
     }
 }
 
-// The first batch taken after strip i where the machine is free at `free`, out of `late` filled for the strips after i.
+// The first batch taken after strip i where the bench is free at `free`, out of `late` filled for the strips after i.
 pub fn first_batch(
     rs: &[u64],
     sums: &[u64],

@@ -18,7 +18,7 @@ use Rattle.batching.specs.Recursion.{least-end, chosen-end}
 use Rattle.mosaic.specs.declared.MosaicPlan.{MosaicPlan}
 use Rattle.batching.specs.Bounds.{least-most}
 
--- the strips up to i are in the plan's batches, and the machine is free at `free`
+-- the strips up to i are in the plan's batches, and the bench is free at `free`
 pub record PlanSoFar (rs sums : List ℕ) (s n : ℕ) (plan : MosaicPlan) (i free : ℕ) : Type 0 where
   pub sized : Sized plan
   pub no-more : NoMore plan

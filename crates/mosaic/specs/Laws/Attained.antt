@@ -20,7 +20,7 @@ use Rattle.batching.specs.Index.{leastAt, openAt, closedAt, chosenAt, chosenOpe
 use Rattle.batching.specs.Recursion.{least-end, least-one, least-open, open-last, open-more, chosen-end, chosen-open, chosen-last, chosen-close, chosen-extend}
 use Rattle.mosaic.specs.Laws.Rules.{weight-count, bench-most, ready-most}
 
--- each mount starts when the machine is free and the batch's last strip is ready
+-- each mount starts when the bench is free and the batch's last strip is ready
 unfoldable pub AsEarly : MosaicSection → ℕ → List Batch → Type 0
 AsEarly m free [] = Unit
 AsEarly m free (b ∷ bs) = (b .start ≡ mountStart free (ready m (b .last))) × AsEarly m (b .finish) bs
@@ -33,7 +33,7 @@ FinishBy c (b ∷ bs) = (b .finish ≤ c) × FinishBy c bs
 abbrev pub latest : ℕ → ℕ
 latest i = mostStrips * mostTime + i * (2 * mostTime)
 
--- the batches of the strips after i, the machine free at `free`
+-- the batches of the strips after i, the bench free at `free`
 pub record Attains (m : MosaicSection) (i free figure : ℕ) (bs : List Batch) : Type 0 where
   pub lawful : (p : Batch) → p .last ≡ i → p .finish ≡ free → MosaicRuns m p bs
   pub figure-is : (p : Batch) → p .last ≡ i → runningFigure p bs ≡ figure

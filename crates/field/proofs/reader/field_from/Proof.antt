@@ -1,5 +1,5 @@
--- `reader::field_from` meets its contract: a walk of its MIR, by hand. A `Reader` that one call returns is held in a local and passed to the next. All that the proof knows of `set-on` and of `next` is that each meets its contract.
--- The machine value that `set-on` returns is stored and passed on as it is. In a local of a body MIR erases the lifetime of the struct's type, so the value is shown to have the type at `erased`: what the struct owns does not say the lifetime's name.
+-- `reader::field_from` meets its contract: a walk of its MIR, by hand. A `Reader` that one call returns is held in a local and passed to the next. All that the proof knows of `set_on` and of `next` is that each meets its contract.
+-- The machine value that `set_on` returns is stored and passed on as it is. In a local of a body MIR erases the lifetime of the struct's type, so the value is shown to have the type at `erased`: what the struct owns does not say the lifetime's name.
 use mathlib.Core.Path.{_≡_, refl, ap, _∙_}
 use Prim.Native.Nat.{ℕ, _<_, _^_}
 use mathlib.Core.List.{List, [], _∷_}
@@ -93,7 +93,7 @@ module _ {M : Type 1} (𝓤 : URA M) (H : Heap 𝓤) (A : Atoms 𝓤) (W : Given
   abbrev Own : Fml
   Own = ShrSlice (named 0) κ u8 .own s (v ∷ [])
 
-  -- the call of `set-on`: what it is passed, what it asks, and what is known of its result
+  -- the call of `set_on`: what it is passed, what it asks, and what is known of its result
   abbrev to-set-on : SetOn 𝓤 H A mem run .Ghost
   to-set-on = (((κ, tt), (q, tt), tt, (s, (n, tt)), at), tt)
 
