@@ -9,11 +9,18 @@ pub struct Reader<'a> {
     pub at: usize,
 }
 
-// A reader set on a sheet, at the offset of a field.
-pub fn set_on<'a>(sheet: &'a [u8], at: usize) -> Reader<'a>
-    ensures { λ r. ⌜ (r .sheet ≡ sheet .entry) × (r .at ≡ at) ⌝ }
+// A reader set on the first field of a sheet.
+pub fn set_on<'a>(sheet: &'a [u8]) -> Reader<'a>
+    ensures { λ r. ⌜ (r .sheet ≡ sheet .entry) × (r .at ≡ 0) ⌝ }
 {
-    Reader { sheet, at }
+    Reader { sheet, at: 0 }
+}
+
+// The reader moved to the field at an offset of the same sheet.
+pub fn moved_to<'a>(r: Reader<'a>, at: usize) -> Reader<'a>
+    ensures { λ q. ⌜ (q .sheet ≡ r .entry .sheet) × (q .at ≡ at) ⌝ }
+{
+    Reader { sheet: r.sheet, at }
 }
 
 // The next field: the one at the reader's offset.
@@ -23,9 +30,9 @@ pub fn next_field<'a>(r: Reader<'a>) -> Field
     super::field_at(r.sheet, r.at)
 }
 
-// The field at an offset, by a reader set there. Its parameters are a slice and a number, so a caller needs no proof about the struct.
+// The field at an offset, by a reader moved there. Its parameters are a slice and a number, so a caller needs no proof about the struct.
 pub fn field_from(sheet: &[u8], at: usize) -> Field
     ensures { λ f. ⌜ f ≡ fieldAt (now (sheet .entry)) at ⌝ }
 {
-    next_field(set_on(sheet, at))
+    next_field(moved_to(set_on(sheet), at))
 }
