@@ -1,6 +1,6 @@
--- The cases of 01, "Sheets worked through", as one table: each case is a section with a timetable, whether that is lawful, and its figure.
--- Each is tested by computing, and a test that holds says the case in the words of the rules (tested). Rows that 01 does not mark say what a rule refuses.
--- That a case is best of all is shown where the planners are.
+-- Timetables of the sheets that 01 works through, tested by the rules alone: whether each is lawful, and its figure; and timetables that a rule refuses.
+-- Each is tested by computing, and a test that holds says the case in the words of the rules (tested). The table of the sheets themselves, and what is best
+-- for each, is crate worked_sheets.
 use Prim.{Unit, tt}
 use Prim.Native.Nat.{ℕ, _-_}
 use mathlib.Core.Path.{_≡_, refl, sym}
