@@ -26,7 +26,8 @@ use Rattle.rules.specs.declared.Job.{Job}
 use Rattle.rules.specs.declared.Passes.{Passes}
 use Rattle.rules.specs.declared.Desks.{Desks}
 use Rattle.judge_rules.specs.Follows.{batchInRun, batchInTime, batchFollows, jobInTurn, jobInTime, jobFollows, blockFollows, allDone, flightHead}
-use Rattle.judge_rules.specs.Asked.{BatchFits, JobFits, PassesFit, DesksFit, BatchAsked, JobAsked, JobTaken, BlockAsked}
+use Rattle.rules_laws.specs.RoundTrip.{BatchFits, JobFits, PassesFits}
+use Rattle.judge_rules.specs.Asked.{DesksFit, BatchAsked, JobAsked, JobTaken, BlockAsked}
 use Rattle.judge_flight.specs.Starts as starts
 use Rattle.judge_flight.specs.Starts.{passesOf, FigureTold}
 use Rattle.judge_layout.specs.declared.Part.{Part}
@@ -44,7 +45,7 @@ pub record JobRead (plan : List ℕ) (at : ℕ) (j : Job) : Type 0 where
 
 pub record PassesRead (plan : List ℕ) (at : ℕ) (p : Passes) : Type 0 where
   pub is : p ≡ passesFrom plan at
-  pub fits : PassesFit p
+  pub fits : PassesFits p
 
 module _ (plan : List ℕ) (at : ℕ) where
   pub batch-read : (last start finish : ℕ) → NumberRead plan (at + 3) 1 last → NumberRead plan (at + 4) 4 start → NumberRead plan (at + 8) 4 finish → BatchRead plan at (record { last = last; start = start; finish = finish })

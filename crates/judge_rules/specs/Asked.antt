@@ -1,5 +1,5 @@
 -- What the tests require of what they are handed: sound sections, and numbers as a plan's fields and earlier members give them.
-use Prim.Native.Nat.{ℕ, _^_, _≤_, _<_}
+use Prim.Native.Nat.{ℕ, _≤_}
 use mathlib.Core.Path.{_≡_}
 use lib.ListN.{length, getD}
 use Rattle.sheet.specs.Limits.{mostDesks, mostStripsOfDesk}
@@ -11,22 +11,7 @@ use Rattle.rules.specs.declared.Batch.{Batch}
 use Rattle.rules.specs.declared.Job.{Job}
 use Rattle.rules.specs.declared.Passes.{Passes}
 use Rattle.rules.specs.declared.Desks.{Desks}
-
--- numbers of one and of four bytes
-pub record BatchFits (b : Batch) : Type 0 where
-  pub last : b .last < 2 ^ 8
-  pub start : b .start < 2 ^ 32
-  pub finish : b .finish < 2 ^ 32
-
-pub record JobFits (j : Job) : Type 0 where
-  pub desk : j .desk < 2 ^ 8
-  pub number : j .number < 2 ^ 8
-  pub scan : j .scan < 2 ^ 32
-  pub start : j .start < 2 ^ 32
-
-pub record PassesFit (p : Passes) : Type 0 where
-  pub first : p .first < 2 ^ 32
-  pub second : p .second < 2 ^ 32
+use Rattle.rules_laws.specs.RoundTrip.{BatchFits, JobFits, PassesFits}
 
 -- the strips of the desks so far
 pub record DesksFit (d : Desks) : Type 0 where
@@ -45,7 +30,7 @@ pub record JobAsked (s : SortingSection) (d : Desks) (j : Job) : Type 0 where
 
 pub record BlockAsked (f : FlightSection) (p : Passes) : Type 0 where
   pub sound : FlightSound f
-  pub fits : PassesFit p
+  pub fits : PassesFits p
 
 -- a job of a known strip, as it is taken
 pub record JobTaken (s : SortingSection) (d : Desks) (j : Job) : Type 0 where

@@ -3,12 +3,13 @@ use Prim.Native.Nat.{ℕ, _≤_}
 use mathlib.Core.Path.{_≡_}
 use mathlib.Core.Bool.{cond}
 use mathlib.Core.List.{List, [], _++_}
-use lib.ListN.{length, drop, replicate}
+use lib.ListN.{length, drop}
 use lib.Dec.{ltb, eqb}
 use Rattle.field.specs.Put.{holding}
 use Rattle.sheet.specs.Limits.{tableLength, planLength}
 use Rattle.sheet.specs.Refusals.{tableTooSmall, bufferTooSmall, orderImpossible}
 use Rattle.sheet.specs.Read.{readSheet}
+use Rattle.sheet.specs.Decode.{zeros}
 use Rattle.sheet.specs.Sound.{SheetSound}
 use Rattle.sheet.specs.declared.Sheet.{Sheet}
 use Rattle.rules.specs.Plan.{Plan, planBytes}
@@ -52,10 +53,7 @@ unfoldable pub plannedBytes : List ℕ → ℕ → ℕ → List ℕ
 plannedBytes sheet planRoom tableRoom =
     cond (ltb tableRoom tableLength) [] (cond (ltb planRoom planLength) [] (sheetPlan (readSheet sheet)))
 
--- n zeros; and a table whose first n numbers are 0, the rest as it was
-unfoldable pub zeros : ℕ → List ℕ
-zeros n = replicate n 0
-
+-- a table whose first n numbers are 0, the rest as it was
 unfoldable pub clearedTo : ℕ → List ℕ → List ℕ
 clearedTo n table = zeros n ++ drop n table
 

@@ -36,7 +36,8 @@ use Rattle.flight.specs.declared.FlightPlan.{FlightPlan}
 use Rattle.plan_writer.specs.Written.{Written, planOf}
 use Rattle.plan_writer.specs.Written as writer
 use Rattle.plan_writer.specs.SectionLaws.{mosaic-long, sorting-long, flight-long}
-use Rattle.planner.specs.Call.{chosenPlan, answer, sheetAnswer, sheetPlan, answerOf, plannedBytes, zeros, clearedTo, tableAfter, Called, WithinAsked, Within, PlanAsked, Planned}
+use Rattle.sheet.specs.Decode.{zeros}
+use Rattle.planner.specs.Call.{chosenPlan, answer, sheetAnswer, sheetPlan, answerOf, plannedBytes, clearedTo, tableAfter, Called, WithinAsked, Within, PlanAsked, Planned}
 use Rattle.planner.specs.declared.Answer.{Answer}
 
 -- Clearing.

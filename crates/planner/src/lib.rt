@@ -1,7 +1,8 @@
 // The planner whole: a sheet read, its sections planned, and the plan written into the lent buffer.
 ghost use mathlib.Core.Path.{_≡_};
 ghost use lib.ListN.{length};
-ghost use Rattle.planner.specs.Call.{Called, PlanAsked, WithinAsked, Within, Planned, zeros};
+ghost use Rattle.sheet.specs.Decode.{zeros};
+ghost use Rattle.planner.specs.Call.{Called, PlanAsked, WithinAsked, Within, Planned};
 use sheet::Sheet;
 use sheet::limits::PLAN_LENGTH;
 use sheet::limits::TABLE_LENGTH;

@@ -59,8 +59,8 @@ unfoldable pub withLabel : List ℕ → ℕ → State → List ℕ
 withLabel M k s = storeLabel M (labelPlace k (costliest M k)) s
 
 -- the table with no label among its first n numbers, the rest as it was
-unfoldable pub clearedTo : ℕ → List ℕ → List ℕ
-clearedTo n M = replicate n noLabel ++ drop n M
+unfoldable pub noLabelsTo : ℕ → List ℕ → List ℕ
+noLabelsTo n M = replicate n noLabel ++ drop n M
 
 -- label_dominates: the four comparisons in turn
 module _ (M : List ℕ) (a : ℕ) (s : State) where
@@ -194,18 +194,18 @@ unfolding withLabel
 stored M N k j s e f = f ∙ ap (λ (x : ℕ). storeLabel M (labelPlace k x) s) (e .0)
 
 -- clear_labels: the loop over the numbers of the labels
-cleared-more : (n : ℕ) (M : List ℕ) → n < length M → set (clearedTo n M) n noLabel ≡ clearedTo (n + 1) M
-unfolding clearedTo
+cleared-more : (n : ℕ) (M : List ℕ) → n < length M → set (noLabelsTo n M) n noLabel ≡ noLabelsTo (n + 1) M
+unfolding noLabelsTo
 cleared-more n M l = fill-more n noLabel M l
 
 pub record Clearing (M₀ M : List ℕ) (i : ℕ) : Type 0 where
   pub within : i ≤ labelsLength
   pub start : length M₀ ≡ tableLength
   pub size : length M ≡ tableLength
-  pub is : M ≡ clearedTo i M₀
+  pub is : M ≡ noLabelsTo i M₀
 
 pub clearing-none : {M : List ℕ} → length M ≡ tableLength → Clearing M M 0
-unfolding clearedTo
+unfolding noLabelsTo
 clearing-none {M} h = record { within = omega arith; start = h; size = h; is = fill-none M noLabel }
 
 pub clearing-more : {M₀ M : List ℕ} {i : ℕ} → Clearing M₀ M i → i < labelsLength → Clearing M₀ (set M i noLabel) (i + 1)
@@ -216,23 +216,23 @@ clearing-more {M₀} {M} {i} c l = record {
   is = ap (λ (x : List ℕ). set x i noLabel) (c .is) ∙ cleared-more i M₀ (omega (arith, c .start));
 }
 
-pub clearing-all : {M₀ M : List ℕ} {i : ℕ} → Clearing M₀ M i → labelsLength ≤ i → M ≡ clearedTo labelsLength M₀
-clearing-all {M₀} {M} {i} c l = c .is ∙ ap (λ (n : ℕ). clearedTo n M₀) (all (c .within) l)
+pub clearing-all : {M₀ M : List ℕ} {i : ℕ} → Clearing M₀ M i → labelsLength ≤ i → M ≡ noLabelsTo labelsLength M₀
+clearing-all {M₀} {M} {i} c l = c .is ∙ ap (λ (n : ℕ). noLabelsTo n M₀) (all (c .within) l)
   where
     all : i ≤ labelsLength → labelsLength ≤ i → i ≡ labelsLength
     all p q = omega arith
 
 -- the cleared table, number by number
-pub cleared-length : (n : ℕ) (M : List ℕ) → n ≤ length M → length (clearedTo n M) ≡ length M
-unfolding clearedTo
+pub cleared-length : (n : ℕ) (M : List ℕ) → n ≤ length M → length (noLabelsTo n M) ≡ length M
+unfolding noLabelsTo
 cleared-length n M l = simp (length-append, length-replicate, length-drop) (omega arith)
 
-pub cleared-label : (n : ℕ) (M : List ℕ) (i : ℕ) → i < n → getD (clearedTo n M) i 0 ≡ noLabel
-unfolding clearedTo
+pub cleared-label : (n : ℕ) (M : List ℕ) (i : ℕ) → i < n → getD (noLabelsTo n M) i 0 ≡ noLabel
+unfolding noLabelsTo
 cleared-label n M i l = List·getD-append (replicate n noLabel) (drop n M) 0 i (omega (arith, length-replicate n noLabel)) ∙ getD-replicate n i noLabel 0 l
 
-pub cleared-rest : (n : ℕ) (M : List ℕ) (i : ℕ) → n ≤ i → getD (clearedTo n M) i 0 ≡ getD M i 0
-unfolding clearedTo
+pub cleared-rest : (n : ℕ) (M : List ℕ) (i : ℕ) → n ≤ i → getD (noLabelsTo n M) i 0 ≡ getD M i 0
+unfolding noLabelsTo
 cleared-rest n M i l = ap (λ (x : ℕ). getD (replicate n noLabel ++ drop n M) x 0) there ∙ getD-append-add (replicate n noLabel) (drop n M) (i - n) 0 ∙ getD-drop n M (i - n) 0 ∙ ap (λ (x : ℕ). getD M x 0) back
   where
     there : i ≡ length (replicate n noLabel) + (i - n)

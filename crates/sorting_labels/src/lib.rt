@@ -4,7 +4,7 @@ ghost use Prim.Native.Nat.{_+_, _<_};
 ghost use lib.ListN.{length};
 ghost use Rattle.interleaving.specs.Instance.{Instance};
 ghost use Rattle.interleaving.specs.Consistent.{Consistent};
-ghost use Rattle.sorting_labels.specs.Labels.{labelDominates, dominatedBy, storeLabel, costliest, withLabel, clearedTo};
+ghost use Rattle.sorting_labels.specs.Labels.{labelDominates, dominatedBy, storeLabel, costliest, withLabel, noLabelsTo};
 ghost use Rattle.sorting_bounds.specs.Layout.{countKey, labelsLength};
 ghost use Rattle.sheet.specs.Limits.{tableLength};
 use interleaving::State;
@@ -97,7 +97,7 @@ pub fn store_label(s: State, k: usize, m: &mut [u64])
 // No label at any count vector.
 pub fn clear_labels(m: &mut [u64])
     requires { ⌜ length (now m) ≡ tableLength ⌝ }
-    ensures { λ _. ⌜ now (m .exit) ≡ clearedTo labelsLength (now (m .entry)) ⌝ }
+    ensures { λ _. ⌜ now (m .exit) ≡ noLabelsTo labelsLength (now (m .entry)) ⌝ }
 {
     let mut i: usize = 0;
     while i < LABELS_LENGTH {

@@ -1,12 +1,9 @@
--- Sheets as bytes, field by field (01, "The sheet"), and the members of timetables, for the table of worked sheets.
+-- Sheets as bytes, field by field (01, "The sheet"), for the table of worked sheets.
 use Prim.Native.Nat.{ℕ}
 use mathlib.Core.List.{List, [], _++_}
 use Rattle.field.specs.Bytes.{bytesOf}
 use Rattle.field.specs.Field.{fieldBytes}
 use Rattle.sheet.specs.Tags.{mosaicHeadTag, mosaicStripTag, sortingHeadTag, sortingStripTag, flightHeadTag, flightBlockTag, flightOrderTag}
-use Rattle.rules.specs.declared.Batch.{Batch}
-use Rattle.rules.specs.declared.Job.{Job}
-use Rattle.rules.specs.declared.Passes.{Passes}
 
 -- fields of a sheet: the heads, a strip of two stations with its bench time, a strip of a desk, a block, a pass order
 abbrev pub mosaicHead : ℕ → ℕ → List ℕ
@@ -29,13 +26,3 @@ block first delay second = fieldBytes flightBlockTag (bytesOf 2 first ++ bytesOf
 
 abbrev pub passOrder : ℕ → List ℕ
 passOrder order = fieldBytes flightOrderTag (bytesOf 8 order)
-
--- members of a timetable
-abbrev pub batch : ℕ → ℕ → ℕ → Batch
-batch last start finish = record { last = last; start = start; finish = finish }
-
-abbrev pub job : ℕ → ℕ → ℕ → ℕ → Job
-job desk number scan start = record { desk = desk; number = number; scan = scan; start = start }
-
-abbrev pub passes : ℕ → ℕ → Passes
-passes first second = record { first = first; second = second }

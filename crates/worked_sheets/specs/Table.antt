@@ -15,7 +15,8 @@ use Rattle.rules.specs.Mosaic.{ready}
 use Rattle.rules.specs.declared.Batch.{Batch}
 use Rattle.rules.specs.declared.Job.{Job}
 use Rattle.rules.specs.declared.Passes.{Passes}
-use Rattle.worked_sheets.specs.Sheets.{mosaicHead, stripOfTwo, sortingHead, stripOfDesk, flightHead, block, passOrder, batch, job, passes}
+use Rattle.plan_fields.specs.Stored.{batch, job, passes}
+use Rattle.worked_sheets.specs.Sheets.{mosaicHead, stripOfTwo, sortingHead, stripOfDesk, flightHead, block, passOrder}
 
 -- the figures of the three sections, 0 for an absent one
 pub record Figures : Type 0 where

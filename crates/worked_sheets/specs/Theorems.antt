@@ -37,7 +37,6 @@ use Rattle.flight_search.specs.Search.{improves, tried, searched}
 use Rattle.flight_search.specs.Orders.{ordersOf}
 use Rattle.flight.specs.Choice.{chosenOrder, isPossible, chosenPasses}
 use Rattle.planner.specs.declared.Answer.{Answer}
-use Rattle.worked_sheets.specs.Sheets.{passes}
 use Rattle.worked_sheets.specs.Table.{Figures, figuresOf, Claim, IsAllowed, NoneBelow, Says, Row, table, All, Ready, FirstCase, planned, best, allowed, impossible}
 
 -- What is computed of a row.
