@@ -8,4 +8,4 @@ pub mod Running
 pub mod PlanRead
 pub mod FunctionLaws
 pub mod Tests
-pub mod Worked
+pub mod Samples

@@ -1,6 +1,5 @@
--- Timetables of the sheets that 01 works through, tested by the rules alone: whether each is lawful, and its figure; and timetables that a rule refuses.
--- Each is tested by computing, and a test that holds says the case in the words of the rules (tested). The table of the sheets themselves, and what is best
--- for each, is crate worked_sheets.
+-- A test of the rules by samples: timetables with idle time that are lawful, with their figures, and timetables that a rule refuses, one for each rule.
+-- Each is tested by computing, and a test that holds says the sample in the words of the rules (tested). The sheets that 01 works through are crate worked_sheets.
 use Prim.{Unit, tt}
 use Prim.Native.Nat.{ℕ, _-_}
 use mathlib.Core.Path.{_≡_, refl, sym}
@@ -56,16 +55,16 @@ lawful-decided (ofMosaic m bs) = mosaic-decided m bs
 lawful-decided (ofSorting s js) = sorting-decided s js
 lawful-decided (ofFlight f order ps) = all-three (flight-decided f ps) (keeps-decided f ps order) (order-decided f order)
 
--- a case: lawful with a figure, or refused
+-- a sample: lawful with a figure, or refused
 pub data Outcome : Type 0 where
   lawful : ℕ → Outcome
   refused : Outcome
 
-pub record Case : Type 0 where
+pub record Sample : Type 0 where
   pub timetable : Timetable
   pub outcome : Outcome
 
--- what a case says
+-- what a sample says
 unfoldable pub Says : Timetable → Outcome → Type 0
 Says t (lawful figure) = Lawful t × (figureOf t ≡ figure)
 Says t refused = Lawful t → ⊥
@@ -79,7 +78,7 @@ none : (a : Bool) → not a ≡ true → a ≡ false
 none true e = absurd (true≢false (sym e))
 none false e = refl
 
--- a test that holds says its case
+-- a test that holds says its sample
 pub tested : (t : Timetable) (o : Outcome) → test t o ≡ true → Says t o
 unfolding Says test
 tested t (lawful figure) e =
@@ -87,7 +86,7 @@ tested t (lawful figure) e =
     (lawful-decided t .holds (w .0), eqb-true _ _ (w .1))
 tested t refused e = lawful-decided t .fails (none (isLawful t) e)
 
--- "m 2, s 1, strips (2,1;1) (1,3;3) (4,2;2) (1,3;1)"
+-- two stations, mount time 1, strips (2,1;1) (1,3;3) (4,2;2) (1,3;1), ready at 2, 4, 7, 9
 abbrev fourStrips : MosaicSection
 fourStrips = record {
   stations = 2;
@@ -128,76 +127,60 @@ blocksOf ordered order first delay second = record {
 abbrev starts : ℕ → ℕ → Passes
 starts first second = record { first = first; second = second }
 
-abbrev row : Timetable → Outcome → Case
+abbrev row : Timetable → Outcome → Sample
 row t o = record { timetable = t; outcome = o }
 
-unfoldable pub table : List Case
-table =
-    -- "Best: four batches, finishing 4, 8, 11, 13; figure 36."
-    row (ofMosaic fourStrips (batch 1 2 4 ∷ batch 2 4 8 ∷ batch 3 8 11 ∷ batch 4 11 13 ∷ [])) (lawful 36)
-    -- "Same, batches 1, 2-3, 4: allowed, 45."
-    ∷ row (ofMosaic fourStrips (batch 1 2 4 ∷ batch 3 7 13 ∷ batch 4 13 15 ∷ [])) (lawful 45)
-    -- "Same, batches 1, 2, 3-4: allowed, 38."
-    ∷ row (ofMosaic fourStrips (batch 1 2 4 ∷ batch 2 4 8 ∷ batch 4 9 13 ∷ [])) (lawful 38)
+unfoldable pub samples : List Sample
+samples =
+    -- batches 1, 2-3, 4, the first two mounted later than they could be
+    row (ofMosaic fourStrips (batch 1 3 5 ∷ batch 3 8 14 ∷ batch 4 14 16 ∷ [])) (lawful 49)
     -- a mount that waits only for the first strip of batch 2-3, ready at 4
     ∷ row (ofMosaic fourStrips (batch 1 2 4 ∷ batch 3 4 10 ∷ batch 4 10 12 ∷ [])) refused
     -- a mount before the batch before has finished
     ∷ row (ofMosaic fourStrips (batch 1 3 5 ∷ batch 2 4 8 ∷ batch 4 9 13 ∷ [])) refused
     -- a strip that no batch has
     ∷ row (ofMosaic fourStrips (batch 1 2 4 ∷ batch 2 4 8 ∷ batch 3 8 11 ∷ [])) refused
-    -- "Sorting, desk 1 (2,5), desk 2 (1,1): 10, desk 2 first. The other order gives 11."
-    ∷ row (ofSorting (twoDesks 2 5 1 1) (strip 2 0 1 ∷ strip 1 1 3 ∷ [])) (lawful 10)
-    ∷ row (ofSorting (twoDesks 2 5 1 1) (strip 1 0 2 ∷ strip 2 2 3 ∷ [])) (lawful 11)
-    -- a desk job before its scan has ended, and two scans at once
+    -- a finish later than the mount and the bench times make it
+    ∷ row (ofMosaic fourStrips (batch 1 2 4 ∷ batch 2 4 9 ∷ batch 4 9 13 ∷ [])) refused
+    -- a scanner that begins late, and a desk that waits
+    ∷ row (ofSorting (twoDesks 2 5 1 1) (strip 1 1 4 ∷ strip 2 3 9 ∷ [])) (lawful 19)
+    -- a desk job before its scan has ended, two scans at once, and a strip without its job
     ∷ row (ofSorting (twoDesks 2 5 1 1) (strip 1 0 1 ∷ strip 2 2 3 ∷ [])) refused
     ∷ row (ofSorting (twoDesks 2 5 1 1) (strip 1 0 2 ∷ strip 2 1 3 ∷ [])) refused
-    -- "Sorting, two desks, (1,1) each: 5 either way."
-    ∷ row (ofSorting (twoDesks 1 1 1 1) (strip 1 0 1 ∷ strip 2 1 2 ∷ [])) (lawful 5)
-    ∷ row (ofSorting (twoDesks 1 1 1 1) (strip 2 0 1 ∷ strip 1 1 2 ∷ [])) (lawful 5)
-    -- "Flight (3,4,1): 8, order number 2."
-    ∷ row (ofFlight (blocksOf false 0 (3 ∷ []) (4 ∷ []) (1 ∷ [])) 2 (starts 0 7 ∷ [])) (lawful 8)
+    ∷ row (ofSorting (twoDesks 2 5 1 1) (strip 1 0 2 ∷ [])) refused
+    -- a second block that is flown later than it could be
+    ∷ row (ofFlight (blocksOf false 0 (1 ∷ 1 ∷ []) (2 ∷ 2 ∷ []) (1 ∷ 1 ∷ [])) 0xA (starts 0 3 ∷ starts 6 9 ∷ [])) (lawful 10)
     -- less than the delay, and more
     ∷ row (ofFlight (blocksOf false 0 (3 ∷ []) (4 ∷ []) (1 ∷ [])) 2 (starts 0 6 ∷ [])) refused
     ∷ row (ofFlight (blocksOf false 0 (3 ∷ []) (4 ∷ []) (1 ∷ [])) 2 (starts 0 8 ∷ [])) refused
-    -- "Flight (1,2,1) (1,2,1), no order: 5, order C."
-    ∷ row (ofFlight (blocksOf false 0 (1 ∷ 1 ∷ []) (2 ∷ 2 ∷ []) (1 ∷ 1 ∷ [])) 0xC (starts 0 3 ∷ starts 1 4 ∷ [])) (lawful 5)
-    -- the same starts are not in order A, whose first passes come as in C
+    -- starts that keep order C do not keep order A, whose first passes come as in C
     ∷ row (ofFlight (blocksOf false 0 (1 ∷ 1 ∷ []) (2 ∷ 2 ∷ []) (1 ∷ 1 ∷ [])) 0xA (starts 0 3 ∷ starts 1 4 ∷ [])) refused
-    -- nor is C kept where A is given
+    -- nor may C be kept where A is given
     ∷ row (ofFlight (blocksOf true 0xA (1 ∷ 1 ∷ []) (2 ∷ 2 ∷ []) (1 ∷ 1 ∷ [])) 0xC (starts 0 3 ∷ starts 1 4 ∷ [])) refused
-    -- "Flight (1,0,1) (1,5,1): .. order A gives 9, second block starting at 2 and 8."
-    ∷ row (ofFlight (blocksOf true 0xA (1 ∷ 1 ∷ []) (0 ∷ 5 ∷ []) (1 ∷ 1 ∷ [])) 0xA (starts 0 1 ∷ starts 2 8 ∷ [])) (lawful 9)
     -- two passes at once
     ∷ row (ofFlight (blocksOf true 0xA (1 ∷ 1 ∷ []) (0 ∷ 5 ∷ []) (1 ∷ 1 ∷ [])) 0xA (starts 0 1 ∷ starts 1 7 ∷ [])) refused
-    -- "000's eight blocks .., order F2C4: first starts 0, 6, 8, 9, 12, 19, 21, 22; figure 30."
-    ∷ row
-    (ofFlight
-    (blocksOf true 0xF2C4 (3 ∷ 1 ∷ 1 ∷ 1 ∷ 2 ∷ 1 ∷ 1 ∷ 1 ∷ []) (4 ∷ 7 ∷ 8 ∷ 10 ∷ 9 ∷ 4 ∷ 5 ∷ 6 ∷ []) (1 ∷ 2 ∷ 1 ∷ 1 ∷ 1 ∷ 3 ∷ 2 ∷ 1 ∷ []))
-    0xF2C4
-    (starts 0 7 ∷ starts 6 14 ∷ starts 8 17 ∷ starts 9 20 ∷ starts 12 23 ∷ starts 19 24 ∷ starts 21 27 ∷ starts 22 29 ∷ []))
-    (lawful 30)
     ∷ []
 
-unfoldable pub allTested : List Case → Bool
+unfoldable pub allTested : List Sample → Bool
 allTested [] = true
 allTested (c ∷ cs) = test (c .timetable) (c .outcome) && allTested cs
 
--- the whole table, computed
-table-tested : allTested table ≡ true
-unfolding table allTested test isLawful figureOf sumOver greatestOver stationSum ready benchSum noBatch batchAt batchBefore batchSize completion mosaicFigure stripsOf slot scanTime deskTime scanEnd deskFinish noJob jobAt jobsOf sortingFigure noPasses passesAt passStart passTime passEnd passAt flightFigure allBelow batchTest isMosaic jobTest jobsTest isSorting blockTest apartTest isFlight startTest keepsOrder mayHaveOrder seconds firsts neverMoreSeconds isProper
-table-tested = refl
+-- all of them, computed
+samples-tested : allTested samples ≡ true
+unfolding samples allTested test isLawful figureOf sumOver greatestOver stationSum ready benchSum noBatch batchAt batchBefore batchSize completion mosaicFigure stripsOf slot scanTime deskTime scanEnd deskFinish noJob jobAt jobsOf sortingFigure noPasses passesAt passStart passTime passEnd passAt flightFigure allBelow batchTest isMosaic jobTest jobsTest isSorting blockTest apartTest isFlight startTest keepsOrder mayHaveOrder seconds firsts neverMoreSeconds isProper
+samples-tested = refl
 
--- Each case in a list, said of all.
-unfoldable pub AllSay : List Case → Type 0
+-- Each sample of a list, said of all.
+unfoldable pub AllSay : List Sample → Type 0
 AllSay [] = Unit
 AllSay (c ∷ cs) = Says (c .timetable) (c .outcome) × AllSay cs
 
-all-tested : (cs : List Case) → allTested cs ≡ true → AllSay cs
+all-tested : (cs : List Sample) → allTested cs ≡ true → AllSay cs
 unfolding allTested AllSay
 all-tested [] e = tt
 all-tested (c ∷ cs) e =
     let w = both (test (c .timetable) (c .outcome)) (allTested cs) e in
     (tested (c .timetable) (c .outcome) (w .0), all-tested cs (w .1))
 
-pub worked : AllSay table
-worked = all-tested table table-tested
+pub samples-hold : AllSay samples
+samples-hold = all-tested samples samples-tested
