@@ -1,12 +1,14 @@
 -- The cases of 01, "Sheets worked through", that are marked *, as one table with a common statement: each sheet is given as its bytes, with what 01 says of it.
 -- The theorem is `worked` in Theorems.antt.
 use Prim.{Unit}
-use Prim.Native.Nat.{ℕ, _≤_}
+use Prim.Native.Nat.{ℕ, zero, suc, _+_, _≤_}
 use mathlib.Core.Path.{_≡_}
 use mathlib.Core.List.{List, [], _∷_, _++_}
+use lib.ListN.{length}
 use Rattle.sheet.specs.Limits.{tableLength, planLength}
 use Rattle.sheet.specs.Refusals.{orderImpossible}
 use Rattle.sheet.specs.Read.{readSheet}
+use Rattle.sheet.specs.declared.MosaicSection.{MosaicSection}
 use Rattle.sheet.specs.declared.Sheet.{Sheet}
 use Rattle.rules.specs.Plan.{Plan, planBytes, AllowedFor}
 use Rattle.planner.specs.Call.{answer, answerOf, plannedBytes}
@@ -27,8 +29,10 @@ pub record Figures : Type 0 where
 unfoldable pub figuresOf : Sheet → Plan → Figures
 figuresOf s p = record { mosaic = figureOfMosaic s p; sorting = figureOfSorting s p; flight = figureOfFlight s p }
 
--- what 01 says of a sheet: what the planner plans, which is best; a plan that is best too; a plan that is allowed; that no timetable keeps its order, whose field stands at a place
+-- what 01 says of a sheet: when the strips of its mosaic are ready, from strip 1 on; what the planner plans, which is best; a plan that is best too; a plan that is
+-- allowed; that no timetable keeps its order, whose field stands at a place
 pub data Claim : Type 0 where
+  ready-at : List ℕ → Claim
   planned : Plan → Figures → Claim
   best : Plan → Figures → Claim
   allowed : Plan → Figures → Claim
@@ -45,8 +49,14 @@ pub record NoneBelow (sheet : List ℕ) (figures : Figures) : Type 0 where
   pub sorting : (q : List ℕ) (a : AllowedFor sheet q) → figures .sorting ≤ figureOfSorting (readSheet sheet) (a .allowed .plan)
   pub flight : (q : List ℕ) (a : AllowedFor sheet q) → figures .flight ≤ figureOfFlight (readSheet sheet) (a .allowed .plan)
 
+-- when so many strips are ready, from strip j on
+unfoldable pub readyTimes : MosaicSection → ℕ → ℕ → List ℕ
+readyTimes m zero j = []
+readyTimes m (suc n) j = ready m j ∷ readyTimes m n (j + 1)
+
 -- the common statement; the planner's call has buffers of the least length
 abbrev pub Says : List ℕ → Claim → Type 0
+Says sheet (ready-at times) = readyTimes (readSheet sheet .mosaic) (length times) 1 ≡ times
 Says sheet (planned p figures) = IsAllowed sheet p figures × NoneBelow sheet figures × (plannedBytes sheet planLength tableLength ≡ planBytes (readSheet sheet) p)
 Says sheet (best p figures) = IsAllowed sheet p figures × NoneBelow sheet figures
 Says sheet (allowed p figures) = IsAllowed sheet p figures
@@ -59,7 +69,7 @@ pub record Row : Type 0 where
 abbrev row : List ℕ → Claim → Row
 row s c = record { sheet = s; claim = c }
 
--- a plan of one section, and its figure
+-- a plan of one section, and its figure with 0 for the absent ones
 abbrev mosaicPlan : List Batch → Plan
 mosaicPlan bs = record { batches = bs; jobs = []; order = 0; passes = [] }
 
@@ -69,14 +79,14 @@ sortingPlan js = record { batches = []; jobs = js; order = 0; passes = [] }
 abbrev flightPlan : ℕ → List Passes → Plan
 flightPlan order ps = record { batches = []; jobs = []; order = order; passes = ps }
 
-abbrev mosaicFigure : ℕ → Figures
-mosaicFigure n = record { mosaic = n; sorting = 0; flight = 0 }
+abbrev mosaicAlone : ℕ → Figures
+mosaicAlone n = record { mosaic = n; sorting = 0; flight = 0 }
 
-abbrev sortingFigure : ℕ → Figures
-sortingFigure n = record { mosaic = 0; sorting = n; flight = 0 }
+abbrev sortingAlone : ℕ → Figures
+sortingAlone n = record { mosaic = 0; sorting = n; flight = 0 }
 
-abbrev flightFigure : ℕ → Figures
-flightFigure n = record { mosaic = 0; sorting = 0; flight = n }
+abbrev flightAlone : ℕ → Figures
+flightAlone n = record { mosaic = 0; sorting = 0; flight = n }
 
 -- "m 2, s 1, strips (2,1;1) (1,3;3) (4,2;2) (1,3;1)"
 abbrev fourStrips : List ℕ
@@ -91,44 +101,39 @@ twoBlocks = flightHead ++ block 1 0 1 ++ block 1 5 1
 
 abbrev pub table : List Row
 table =
+    -- "m 2, s 1, strips (2,1;1) (1,3;3) (4,2;2) (1,3;1): ready 2, 4, 7, 9."
+    row fourStrips (ready-at (2 ∷ 4 ∷ 7 ∷ 9 ∷ []))
     -- "Best: four batches, finishing 4, 8, 11, 13; figure 36."
-    row fourStrips (planned (mosaicPlan (batch 1 2 4 ∷ batch 2 4 8 ∷ batch 3 8 11 ∷ batch 4 11 13 ∷ [])) (mosaicFigure 36))
+    ∷ row fourStrips (planned (mosaicPlan (batch 1 2 4 ∷ batch 2 4 8 ∷ batch 3 8 11 ∷ batch 4 11 13 ∷ [])) (mosaicAlone 36))
     -- "Same, batches 1, 2-3, 4: allowed, 45."
-    ∷ row fourStrips (allowed (mosaicPlan (batch 1 2 4 ∷ batch 3 7 13 ∷ batch 4 13 15 ∷ [])) (mosaicFigure 45))
+    ∷ row fourStrips (allowed (mosaicPlan (batch 1 2 4 ∷ batch 3 7 13 ∷ batch 4 13 15 ∷ [])) (mosaicAlone 45))
     -- "Same, batches 1, 2, 3-4: allowed, 38."
-    ∷ row fourStrips (allowed (mosaicPlan (batch 1 2 4 ∷ batch 2 4 8 ∷ batch 4 9 13 ∷ [])) (mosaicFigure 38))
+    ∷ row fourStrips (allowed (mosaicPlan (batch 1 2 4 ∷ batch 2 4 8 ∷ batch 4 9 13 ∷ [])) (mosaicAlone 38))
     -- "Sorting, desk 1 (2,5), desk 2 (1,1): 10, desk 2 first. The other order gives 11."
-    ∷ row (twoDesks 2 5 1 1) (planned (sortingPlan (job 2 1 0 1 ∷ job 1 1 1 3 ∷ [])) (sortingFigure 10))
-    ∷ row (twoDesks 2 5 1 1) (allowed (sortingPlan (job 1 1 0 2 ∷ job 2 1 2 3 ∷ [])) (sortingFigure 11))
+    ∷ row (twoDesks 2 5 1 1) (planned (sortingPlan (job 2 1 0 1 ∷ job 1 1 1 3 ∷ [])) (sortingAlone 10))
+    ∷ row (twoDesks 2 5 1 1) (allowed (sortingPlan (job 1 1 0 2 ∷ job 2 1 2 3 ∷ [])) (sortingAlone 11))
     -- "Sorting, two desks, (1,1) each: 5 either way."
-    ∷ row (twoDesks 1 1 1 1) (planned (sortingPlan (job 1 1 0 1 ∷ job 2 1 1 2 ∷ [])) (sortingFigure 5))
-    ∷ row (twoDesks 1 1 1 1) (best (sortingPlan (job 2 1 0 1 ∷ job 1 1 1 2 ∷ [])) (sortingFigure 5))
+    ∷ row (twoDesks 1 1 1 1) (planned (sortingPlan (job 1 1 0 1 ∷ job 2 1 1 2 ∷ [])) (sortingAlone 5))
+    ∷ row (twoDesks 1 1 1 1) (best (sortingPlan (job 2 1 0 1 ∷ job 1 1 1 2 ∷ [])) (sortingAlone 5))
     -- "Flight (3,4,1): 8, order number 2."
-    ∷ row (flightHead ++ block 3 4 1) (planned (flightPlan 0x2 (passes 0 7 ∷ [])) (flightFigure 8))
+    ∷ row (flightHead ++ block 3 4 1) (planned (flightPlan 0x2 (passes 0 7 ∷ [])) (flightAlone 8))
     -- "Flight (1,2,1) (1,2,1), no order: 5, order C."
-    ∷ row (flightHead ++ block 1 2 1 ++ block 1 2 1) (planned (flightPlan 0xC (passes 0 3 ∷ passes 1 4 ∷ [])) (flightFigure 5))
+    ∷ row (flightHead ++ block 1 2 1 ++ block 1 2 1) (planned (flightPlan 0xC (passes 0 3 ∷ passes 1 4 ∷ [])) (flightAlone 5))
     -- "Flight (1,0,1) (1,5,1): order C is 11; * order A gives 9, second block starting at 2 and 8."
     ∷ row (twoBlocks ++ passOrder 0xC) (impossible 21)
-    ∷ row (twoBlocks ++ passOrder 0xA) (planned (flightPlan 0xA (passes 0 1 ∷ passes 2 8 ∷ [])) (flightFigure 9))
+    ∷ row (twoBlocks ++ passOrder 0xA) (planned (flightPlan 0xA (passes 0 1 ∷ passes 2 8 ∷ [])) (flightAlone 9))
     -- "000's eight blocks .., order F2C4: first starts 0, 6, 8, 9, 12, 19, 21, 22; figure 30."
     ∷ row
     (flightHead ++ block 3 4 1 ++ block 1 7 2 ++ block 1 8 1 ++ block 1 10 1 ++ block 2 9 1 ++ block 1 4 3 ++ block 1 5 2 ++ block 1 6 1 ++ passOrder 0xF2C4)
     (planned
     (flightPlan 0xF2C4 (passes 0 7 ∷ passes 6 14 ∷ passes 8 17 ∷ passes 9 20 ∷ passes 12 23 ∷ passes 19 24 ∷ passes 21 27 ∷ passes 22 29 ∷ []))
-    (flightFigure 30))
+    (flightAlone 30))
     ∷ []
 
 -- a statement of each row
 abbrev pub All : (List ℕ → Claim → Type 0) → List Row → Type 0
 All P [] = Unit
 All P (r ∷ rs) = P (r .sheet) (r .claim) × All P rs
-
--- "ready 2, 4, 7, 9"
-abbrev readyTime : ℕ → ℕ
-readyTime = ready (readSheet fourStrips .mosaic)
-
-abbrev pub Ready : Type 0
-Ready = (readyTime 1 ≡ 2) × (readyTime 2 ≡ 4) × (readyTime 3 ≡ 7) × (readyTime 4 ≡ 9)
 
 -- "The first case whole": the bytes in, and the bytes out
 abbrev pub FirstCase : Type 0

@@ -1,8 +1,8 @@
 -- Every row of the table of worked sheets holds. Each is computed from the definitions, and the planner's theorems say what the result means by the rules.
 use Prim.{tt}
 use Prim.Native.Nat.{ℕ}
-use mathlib.Core.Path.{_≡_, refl, subst, ap, _∙_}
-use mathlib.Core.Bool.{Bool, true, _&&_}
+use mathlib.Core.Path.{_≡_, refl, sym, subst, ap, _∙_}
+use mathlib.Core.Bool.{Bool, true, false, _&&_, true≢false}
 use mathlib.Core.List.{List, [], _∷_}
 use native.Mathlib.Omega.{arith}
 use Rattle.field.specs.Branch.{both, check}
@@ -13,7 +13,7 @@ use Rattle.sheet.specs.declared.Sheet.{Sheet}
 use Rattle.rules.specs.Plan.{Plan, planBytes, PlanLawful, AllowedFor, membersBytes, batchBytes, mosaicBytes, jobBytes, sortingBytes, passesBytes, flightBytes, ifPresent}
 use Rattle.rules.specs.Tests.{isMosaic, mosaic-decided, isSorting, sorting-decided, isFlight, flight-decided, keepsOrder, keeps-decided, mayHaveOrder, order-decided, allBelow, batchTest, jobTest, jobsTest, blockTest, apartTest, startTest}
 use Rattle.planner.specs.Call.{chosenPlan, answer, answerOf, plannedBytes, sheetAnswer, sheetPlan}
-use Rattle.planner.specs.Theorems.{figureOfMosaic, figureOfSorting, figureOfFlight, Least, plan-allowed, plan-least-mosaic, plan-least-sorting, plan-least-flight, accepted-exactly, eleven-exactly}
+use Rattle.planner.specs.Theorems.{figureOfMosaic, figureOfSorting, figureOfFlight, Least, lawful-possible, plan-lawful, plan-least-mosaic, plan-least-sorting, plan-least-flight}
 use Rattle.order.specs.Order.{seconds, firsts, neverMoreSeconds, isProper}
 use Rattle.field.specs.Bytes.{numberAt, bytesOf}
 use Rattle.field.specs.Field.{fieldAt, fieldBytes}
@@ -37,17 +37,18 @@ use Rattle.flight_search.specs.Search.{improves, tried, searched}
 use Rattle.flight_search.specs.Orders.{ordersOf}
 use Rattle.flight.specs.Choice.{chosenOrder, isPossible, chosenPasses}
 use Rattle.planner.specs.declared.Answer.{Answer}
-use Rattle.worked_sheets.specs.Table.{Figures, figuresOf, Claim, IsAllowed, NoneBelow, Says, Row, table, All, Ready, FirstCase, planned, best, allowed, impossible}
+use Rattle.worked_sheets.specs.Table.{Figures, figuresOf, Claim, IsAllowed, NoneBelow, Says, Row, table, readyTimes, All, FirstCase, ready-at, planned, best, allowed, impossible}
 
 -- What is computed of a row.
 isPlan : Sheet → Plan → Bool
 isPlan s p = isMosaic (s .mosaic) (p .batches) && (isSorting (s .sorting) (p .jobs) && (isFlight (s .flight) (p .passes) && (keepsOrder (s .flight) (p .order) (p .passes) && mayHaveOrder (s .flight) (p .order))))
 
 abbrev Computed : List ℕ → Claim → Type 0
-Computed sheet (planned p figures) = (answerOf sheet planLength tableLength .number ≡ 0) × (chosenPlan (readSheet sheet) ≡ p) × (figuresOf (readSheet sheet) p ≡ figures) × (plannedBytes sheet planLength tableLength ≡ planBytes (readSheet sheet) p) × (readSheet sheet .number ≡ 0)
+Computed sheet (ready-at times) = Says sheet (ready-at times)
+Computed sheet (planned p figures) = (isPossible (readSheet sheet .flight) ≡ true) × (chosenPlan (readSheet sheet) ≡ p) × (figuresOf (readSheet sheet) p ≡ figures) × (plannedBytes sheet planLength tableLength ≡ planBytes (readSheet sheet) p) × (readSheet sheet .number ≡ 0)
 Computed sheet (best p figures) = (isPlan (readSheet sheet) p ≡ true) × (figuresOf (readSheet sheet) p ≡ figures) × (figuresOf (readSheet sheet) (chosenPlan (readSheet sheet)) ≡ figures) × (readSheet sheet .number ≡ 0)
 Computed sheet (allowed p figures) = (isPlan (readSheet sheet) p ≡ true) × (figuresOf (readSheet sheet) p ≡ figures) × (readSheet sheet .number ≡ 0)
-Computed sheet (impossible place) = answerOf sheet planLength tableLength ≡ answer orderImpossible place 0
+Computed sheet (impossible place) = (answerOf sheet planLength tableLength ≡ answer orderImpossible place 0) × (isPossible (readSheet sheet .flight) ≡ false)
 
 plan-true : (s : Sheet) (p : Plan) → isPlan s p ≡ true → PlanLawful s p
 unfolding isPlan
@@ -76,41 +77,32 @@ none-below sheet figures e = subst (NoneBelow sheet) e (record {
   flight = λ q a. plan-least-flight sheet (a .sound) (a .allowed .plan) (a .allowed .lawful);
 })
 
-ours-allowed : (sheet : List ℕ) (p : Plan) (figures : Figures) → answerOf sheet planLength tableLength .number ≡ 0 → chosenPlan (readSheet sheet) ≡ p → figuresOf (readSheet sheet) p ≡ figures → readSheet sheet .number ≡ 0 → IsAllowed sheet p figures
-ours-allowed sheet p figures e c f z = record {
-  allows = subst (λ (x : Plan). AllowedFor sheet (planBytes (readSheet sheet) x)) c (plan-allowed sheet z (accepted-exactly sheet z planLength tableLength (omega arith) (omega arith) .1 e));
-  has = f;
-}
+ours-allowed : (sheet : List ℕ) (p : Plan) (figures : Figures) → isPossible (readSheet sheet .flight) ≡ true → chosenPlan (readSheet sheet) ≡ p → figuresOf (readSheet sheet) p ≡ figures → readSheet sheet .number ≡ 0 → IsAllowed sheet p figures
+ours-allowed sheet p figures e c f z =
+    record { allows = record { sound = z; allowed = record { plan = p; lawful = subst (PlanLawful (readSheet sheet)) c (plan-lawful sheet z e); layout = refl } }; has = f }
 
-none-allowed : (sheet : List ℕ) → answerOf sheet planLength tableLength .number ≡ orderImpossible → (q : List ℕ) → AllowedFor sheet q → ⊥
-none-allowed sheet e q a = eleven-exactly sheet planLength tableLength (omega arith) (omega arith) .0 e .1 (record {
-  order = a .allowed .plan .order;
-  passes = a .allowed .plan .passes;
-  lawful = a .allowed .lawful .flight;
-  kept = a .allowed .lawful .kept;
-  allowed = a .allowed .lawful .order;
-})
+none-allowed : (sheet : List ℕ) → isPossible (readSheet sheet .flight) ≡ false → (q : List ℕ) → AllowedFor sheet q → ⊥
+none-allowed sheet e q a = true≢false (sym (lawful-possible sheet (a .sound) (a .allowed .plan) (a .allowed .lawful)) ∙ e)
 
 says : (sheet : List ℕ) (c : Claim) → Computed sheet c → Says sheet c
+says sheet (ready-at times) c = c
 says sheet (planned p figures) c = (ours-allowed sheet p figures (c .0) (c .1) (c .2) (c .4), none-below sheet figures (ap (figuresOf (readSheet sheet)) (c .1) ∙ c .2), c .3)
 says sheet (best p figures) c = (is-allowed sheet p figures (c .0) (c .1) (c .3), none-below sheet figures (c .2))
 says sheet (allowed p figures) c = is-allowed sheet p figures (c .0) (c .1) (c .2)
-says sheet (impossible place) c = (c, none-allowed sheet (ap (λ (x : Answer). x .number) c))
+says sheet (impossible place) c = (c .0, none-allowed sheet (c .1))
 
 all-say : (rs : List Row) → All Computed rs → All Says rs
 all-say [] c = tt
 all-say (r ∷ rs) c = (says (r .sheet) (r .claim) (c .0), all-say rs (c .1))
 
-computed : All Computed table × Ready × FirstCase
-unfolding isPlan figuresOf seconds firsts neverMoreSeconds isProper numberAt bytesOf fieldAt fieldBytes check endsSection sectionFilled fewBlocks orderGiven orderPermitted permitted lengthDue between mosaicHeadInRange stationTimesInRange mosaicStripInRange sortingStripInRange flightBlockInRange inRange hasRoom stripsOfDesk orderProper zeros noMosaic noSorting noFlight withMosaicHead withStationTimes withMosaicStrip withSortingHead withStripAt withSortingStrip withBlock withOrder nextMosaic nextSorting nextFlight nextSection nextMembers nextHead nextReading startReading contentNumber fieldNumber endNumber placeOf refused accepted atEnd readFrom readSheet stripsInAll sumOver greatestOver stationSum ready benchSum noBatch batchAt batchBefore batchSize completion ruleMosaicFigure stripsOf slot scanTime deskTime scanEnd deskFinish noJob jobAt jobsOf ruleSortingFigure noPasses passesAt passStart passTime passEnd passAt ruleFlightFigure allBelow batchTest isMosaic jobTest jobsTest isSorting blockTest apartTest isFlight startTest keepsOrder mayHaveOrder membersBytes batchBytes mosaicBytes jobBytes sortingBytes passesBytes flightBytes ifPresent planBytes mountStart benchStart finishOf leastOpen leastFrom weightOf weightSum instanceOf batchOf chosenOpen chosenFrom chosenBatches sortingInstance listedDesk reached jobOf listed jobsOfList chosenJobs maxOf stepOf keep overDesks branch searchFrom startState firstBest relax relaxed rounds holds leastValues solvable passOf timeOf constraintOf leastStarts possibleIn orderFigure listOf passesFrom leastPasses improves tried searched ordersOf chosenOrder isPossible chosenPasses chosenPlan sheetAnswer sheetPlan answerOf plannedBytes figureOfMosaic figureOfSorting figureOfFlight
-computed = (((refl, refl, refl, refl, refl), ((refl, refl, refl), ((refl, refl, refl), ((refl, refl, refl, refl, refl), ((refl, refl, refl), ((refl, refl, refl, refl, refl), ((refl, refl, refl, refl), ((refl, refl, refl, refl, refl), ((refl, refl, refl, refl, refl), (refl, ((refl, refl, refl, refl, refl), ((refl, refl, refl, refl, refl), tt)))))))))))), (refl, refl, refl, refl), (refl, refl))
+computed : All Computed table × FirstCase
+unfolding readyTimes isPlan figuresOf seconds firsts neverMoreSeconds isProper numberAt bytesOf fieldAt fieldBytes check endsSection sectionFilled fewBlocks orderGiven orderPermitted permitted lengthDue between mosaicHeadInRange stationTimesInRange mosaicStripInRange sortingStripInRange flightBlockInRange inRange hasRoom stripsOfDesk orderProper zeros noMosaic noSorting noFlight withMosaicHead withStationTimes withMosaicStrip withSortingHead withStripAt withSortingStrip withBlock withOrder nextMosaic nextSorting nextFlight nextSection nextMembers nextHead nextReading startReading contentNumber fieldNumber endNumber placeOf refused accepted atEnd readFrom readSheet stripsInAll sumOver greatestOver stationSum ready benchSum noBatch batchAt batchBefore batchSize completion ruleMosaicFigure stripsOf slot scanTime deskTime scanEnd deskFinish noJob jobAt jobsOf ruleSortingFigure noPasses passesAt passStart passTime passEnd passAt ruleFlightFigure allBelow batchTest isMosaic jobTest jobsTest isSorting blockTest apartTest isFlight startTest keepsOrder mayHaveOrder membersBytes batchBytes mosaicBytes jobBytes sortingBytes passesBytes flightBytes ifPresent planBytes mountStart benchStart finishOf leastOpen leastFrom weightOf weightSum instanceOf batchOf chosenOpen chosenFrom chosenBatches sortingInstance listedDesk reached jobOf listed jobsOfList chosenJobs maxOf stepOf keep overDesks branch searchFrom startState firstBest relax relaxed rounds holds leastValues solvable passOf timeOf constraintOf leastStarts possibleIn orderFigure listOf passesFrom leastPasses improves tried searched ordersOf chosenOrder isPossible chosenPasses chosenPlan sheetAnswer sheetPlan answerOf plannedBytes figureOfMosaic figureOfSorting figureOfFlight
+computed = ((refl, ((refl, refl, refl, refl, refl), ((refl, refl, refl), ((refl, refl, refl), ((refl, refl, refl, refl, refl), ((refl, refl, refl), ((refl, refl, refl, refl, refl), ((refl, refl, refl, refl), ((refl, refl, refl, refl, refl), ((refl, refl, refl, refl, refl), ((refl, refl), ((refl, refl, refl, refl, refl), ((refl, refl, refl, refl, refl), tt))))))))))))), (refl, refl))
 
--- What 01 says of the sheets that it works through, of the ready times of the first, and of its bytes.
+-- What 01 says of the sheets that it works through.
 pub worked : All Says table
 worked = all-say table (computed .0)
 
-pub worked-ready : Ready
-worked-ready = computed .1
-
+-- The bytes of the first, in and out.
 pub first-case : FirstCase
-first-case = computed .2
+first-case = computed .1
