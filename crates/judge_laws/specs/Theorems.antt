@@ -25,16 +25,17 @@ judge-allows sheet plan bytes e =
     let r = judged-right sheet plan e in
     record { sound = r .0; allowed = right-allowed (readSheet sheet) plan bytes (read-sound sheet (r .0)) (r .1) }
 
+-- .. and of a plan that is allowed it answers that it is found good, with the figures that it states ..
 module _ (sheet plan : List ℕ) (a : AllowedFor sheet plan) where
-  judged-found : judged sheet plan ≡ found (readSheet sheet) plan
-  judged-found =
+  pub allowed-found : judged sheet plan ≡ found (readSheet sheet) plan
+  allowed-found =
       right-judged sheet plan (a .sound)
       (written-right (readSheet sheet) (a .allowed .plan) plan (read-sound sheet (a .sound)) (a .allowed .lawful) (a .allowed .layout))
 
--- .. and in a plan that is allowed it finds none.
+-- .. so that it finds no fault in it.
 pub allowed-judged : (sheet plan : List ℕ) → AllowedFor sheet plan → judged sheet plan .number ≡ 0
 unfolding found
-allowed-judged sheet plan a = ap (λ (j : Judged). j .number) (judged-found sheet plan a)
+allowed-judged sheet plan a = ap (λ (j : Judged). j .number) (allowed-found sheet plan a)
 
 -- The judge's figures of a plan, where it is allowed: those that the rules give.
 pub record FiguresTrue (s : Sheet) (p : Plan) (j : Judged) : Type 0 where
@@ -48,7 +49,7 @@ unfolding found
 judged-figures sheet plan a =
     let sound = read-sound sheet (a .sound) in
     let w = a .allowed in
-    let e = judged-found sheet plan a in
+    let e = allowed-found sheet plan a in
     record {
       place = ap (λ (j : Judged). j .place) e;
       mosaic = ap (λ (j : Judged). j .mosaic) e ∙ mosaic-figure-stated (readSheet sheet) (w .plan) plan sound (w .lawful) (w .layout);

@@ -1,5 +1,8 @@
--- The planner whole: what a call answers and leaves, and the theorems on it for every sheet.
+-- The planner whole: what a call answers and leaves (Call), the ways in which a call can go (Outcomes), what holds of the plan that it takes (Theorems),
+-- and when a call is turned back (TurnedBack).
 pub mod Call
+pub mod Outcomes
 pub mod Theorems
-pub mod Laws
 pub mod Refused
+pub mod TurnedBack
+pub mod Laws

@@ -1,10 +1,10 @@
--- A sheet is never refused with a number above 10 by its own checks: each cause of the table has its number.
+-- A sheet is refused by its own checks with a number from 3 to 10: each cause of the table has its number.
 use Prim.Native.Nat.{ℕ, _≤_}
-use mathlib.Core.Path.{ap}
+use mathlib.Core.Path.{_≡_, sym, ap, subst}
 use mathlib.Core.List.{List}
 use native.Mathlib.Omega.{arith}
 use Rattle.sheet.specs.Read.{readSheet, refused, accepted}
-use Rattle.sheet.specs.Table.{Fails, Cause}
+use Rattle.sheet.specs.Table.{Reached, Fails, Cause}
 use Rattle.sheet.specs.Table.Fails.{no-members, order-missing, tag-not-permitted, length-wrong, out-of-range, too-many, order-not-proper}
 use Rattle.sheet.specs.Table.Cause.{cut, field, empty-end, order-missing-end}
 use Rattle.sheet.specs.Theorems.{Outcome, read-outcome}
@@ -12,25 +12,37 @@ use Rattle.sheet.specs.Theorems.Outcome.{is-accepted, is-refused}
 use Rattle.sheet.specs.declared.Reading.{Reading}
 use Rattle.sheet.specs.declared.Sheet.{Sheet}
 
-fails-most : (s : List ℕ) (st : Reading) (tag len number place : ℕ) → Fails s st tag len number place → number ≤ 10
-fails-most s st tag len number place (no-members h₁ en ep) = omega arith
-fails-most s st tag len number place (order-missing h₁ h₂ en ep) = omega arith
-fails-most s st tag len number place (tag-not-permitted h₁ h₂ h₃ en ep) = omega arith
-fails-most s st tag len number place (length-wrong h₁ h₂ h₃ h₄ en ep) = omega arith
-fails-most s st tag len number place (out-of-range h₁ h₂ h₃ h₄ h₅ en ep) = omega arith
-fails-most s st tag len number place (too-many h₁ h₂ h₃ h₄ h₅ h₆ en ep) = omega arith
-fails-most s st tag len number place (order-not-proper h₁ h₂ h₃ h₄ h₅ h₆ h₇ en ep) = omega arith
+-- the numbers of the table that a sheet's own checks give
+pub record FromThreeToTen (number : ℕ) : Type 0 where
+  pub least : 3 ≤ number
+  pub most : number ≤ 10
 
-cause-most : (s : List ℕ) (st : Reading) (number place : ℕ) → Cause s st number place → number ≤ 10
-cause-most s st number place (cut e en ep) = omega arith
-cause-most s st number place (field tag len e f) = fails-most s st tag len number place f
-cause-most s st number place (empty-end e h en ep) = omega arith
-cause-most s st number place (order-missing-end e h q en ep) = omega arith
+fails-number : (s : List ℕ) (st : Reading) (tag len number place : ℕ) → Fails s st tag len number place → FromThreeToTen number
+fails-number s st tag len number place (no-members h₁ en ep) = record { least = omega arith; most = omega arith }
+fails-number s st tag len number place (order-missing h₁ h₂ en ep) = record { least = omega arith; most = omega arith }
+fails-number s st tag len number place (tag-not-permitted h₁ h₂ h₃ en ep) = record { least = omega arith; most = omega arith }
+fails-number s st tag len number place (length-wrong h₁ h₂ h₃ h₄ en ep) = record { least = omega arith; most = omega arith }
+fails-number s st tag len number place (out-of-range h₁ h₂ h₃ h₄ h₅ en ep) = record { least = omega arith; most = omega arith }
+fails-number s st tag len number place (too-many h₁ h₂ h₃ h₄ h₅ h₆ en ep) = record { least = omega arith; most = omega arith }
+fails-number s st tag len number place (order-not-proper h₁ h₂ h₃ h₄ h₅ h₆ h₇ en ep) = record { least = omega arith; most = omega arith }
 
-outcome-most : (s : List ℕ) (r : Sheet) → Outcome s r → r .number ≤ 10
+pub cause-number : (s : List ℕ) (st : Reading) (number place : ℕ) → Cause s st number place → FromThreeToTen number
+cause-number s st number place (cut e en ep) = record { least = omega arith; most = omega arith }
+cause-number s st number place (field tag len e f) = fails-number s st tag len number place f
+cause-number s st number place (empty-end e h en ep) = record { least = omega arith; most = omega arith }
+cause-number s st number place (order-missing-end e h q en ep) = record { least = omega arith; most = omega arith }
+
+-- a sheet that is refused is refused for a cause, in a reading that has passed every field before
+pub record RefusedFor (s : List ℕ) (number place : ℕ) : Type 0 where
+  pub reading : Reading
+  pub reached : Reached s reading
+  pub cause : Cause s reading number place
+
+outcome-cause : (s : List ℕ) (r : Sheet) → Outcome s r → (r .number ≡ 0 → ⊥) → RefusedFor s (r .number) (r .place)
 unfolding refused accepted
-outcome-most s r (is-accepted st p c e) = omega (arith, ap (λ x. x .number) e)
-outcome-most s r (is-refused st number place p q e) = omega (arith, ap (λ x. x .number) e, cause-most s st number place q)
+outcome-cause s r (is-accepted st p c e) h = absurd (h (ap (λ (x : Sheet). x .number) e))
+outcome-cause s r (is-refused st number place p q e) h =
+    subst (λ (x : Sheet). RefusedFor s (x .number) (x .place)) (sym e) (record { reading = st; reached = p; cause = q })
 
-pub read-most : (s : List ℕ) → readSheet s .number ≤ 10
-read-most s = outcome-most s (readSheet s) (read-outcome s)
+pub refused-for : (s : List ℕ) → (readSheet s .number ≡ 0 → ⊥) → RefusedFor s (readSheet s .number) (readSheet s .place)
+refused-for s h = outcome-cause s (readSheet s) (read-outcome s) h

@@ -1,3 +1,2 @@
 -- What the functions for C promise.
 pub mod Viewed
-pub mod Theorems

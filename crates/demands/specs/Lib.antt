@@ -1,0 +1,208 @@
+-- The three demands on the planner and the judge, in their own words and order, as theorems about calls. What a theorem asks of a call is what the
+-- contract of the function gives: `Called` of `planner::plan` (planner, Call.antt), `Viewed` of `sevulamon_plan` (viewer, Viewed.antt), and
+-- `j ≡ judged sheet plan` of `judge::judge` and `sevulamon_judge` (judge, Judged.antt). When a plan is allowed is said by the rules alone (rules: Mosaic, Sorting,
+-- Flight, Plan). Rows of bytes are lists of numbers; where a law needs that they are below 256, as those of every lent slice are, it says so (`AreBytes`).
+use Prim.Native.Nat.{ℕ, _≤_, _<_}
+use mathlib.Core.Path.{_≡_, refl, sym, ap, subst, _∙_}
+use mathlib.Core.Bool.{true}
+use mathlib.Core.List.{List}
+use lib.ListN.{length, drop}
+use native.Mathlib.Omega.{arith}
+use Rattle.sheet.specs.Limits.{tableLength, planLength}
+use Rattle.sheet.specs.Refusals.{orderImpossible}
+use Rattle.sheet.specs.Read.{readSheet}
+use Rattle.sheet.specs.Theorems.{read-sound}
+use Rattle.sheet.specs.Decode.{zeros}
+use Rattle.sheet.specs.Stores.{length-zeros}
+use Rattle.sheet.specs.declared.Sheet.{Sheet}
+use Rattle.rules.specs.Mosaic.{batchAt}
+use Rattle.rules.specs.Sorting.{jobAt}
+use Rattle.rules.specs.Flight.{passesAt, FlightLawful, Keeps}
+use Rattle.rules.specs.Plan.{Plan, AllowedFor}
+use Rattle.rules_laws.specs.ByteLaws.{AreBytes}
+use Rattle.rules_laws.specs.Determined.{plan-determined}
+use Rattle.judge.specs.Judged.{turnedBack, found, judged}
+use Rattle.judge.specs.declared.Judged.{Judged}
+use Rattle.judge_laws.specs.Fault.{Fault}
+use Rattle.judge_laws.specs.Theorems.{FiguresTrue, judge-allows, allowed-judged, allowed-found, judged-figures, fault-judged, judged-fault}
+use Rattle.mosaic.specs.Plan.{lasts}
+use Rattle.planner.specs.Call.{chosenPlan, answer, clearedTo, tableAfter, Called}
+use Rattle.planner.specs.Outcomes.{Large, Accepted, written, call-accepted, call-refused, call-small, call-cleared, ourBytes}
+use Rattle.planner.specs.TurnedBack.{TurnedBack, turned-back, turned-back-only, eleven-only, else-accepted}
+use Rattle.planner.specs.Theorems.{figureOfMosaic, figureOfSorting, figureOfFlight, Least, Impossible, plan-lawful, plan-least-mosaic, plan-least-sorting, plan-least-flight, plan-early-mosaic, plan-early-sorting, plan-early-flight, plan-earliest}
+use Rattle.planner.specs.declared.Answer.{Answer}
+use Rattle.viewer.specs.Viewed.{Viewed}
+
+-- A planning call: the sheet, the plan buffer and the working table at entry, the plan buffer and the table at exit, and the answer.
+module _ (sheet plan table planAfter tableEnd : List ℕ) (r : Answer) (call : Called sheet plan table planAfter tableEnd r) where
+  -- DEMAND 1. "Buffers: sheet, plan buffer and working table are after each call exactly as the papers state, for all contents and lengths."
+  -- The sheet is lent for reading, so it is as it was. No function that users call has a `requires`, and each call ends: that is part of every proof.
+
+  -- "A refused call writes no plan byte;"
+  pub refused-writes-nothing : (r .number ≡ 0 → ⊥) → (planAfter ≡ plan) × (r .length ≡ 0)
+  refused-writes-nothing = call-refused sheet plan table planAfter tableEnd r call
+
+  -- "an accepted one writes the plan and no byte past it": `written` is as many bytes as the answer says, and behind them the buffer is as it was.
+  -- That they are the plan is demand 3.
+  pub accepted-writes-the-plan : r .number ≡ 0 → (length (written r planAfter) ≡ r .length) × (drop (r .length) planAfter ≡ drop (r .length) plan)
+  accepted-writes-the-plan z = let a = call-accepted sheet plan table planAfter tableEnd r call z in (a .long, a .behind)
+
+  -- Where a buffer is too small everything is as it was; else the first 6,400 numbers of the table are zero and the rest unchanged, after every call.
+  pub small-leaves-everything : (Large plan table → ⊥) → (planAfter ≡ plan) × (tableEnd ≡ table)
+  small-leaves-everything = call-small sheet plan table planAfter tableEnd r call
+
+  pub large-clears-the-table : Large plan table → tableEnd ≡ clearedTo tableLength table
+  large-clears-the-table = call-cleared sheet plan table planAfter tableEnd r call
+
+  -- Number and place are those of the table "Turned back": each is given where its cause lies (`TurnedBack`), and not otherwise.
+  pub turned-back-for-its-cause : (number place : ℕ) → TurnedBack sheet plan table number place → r ≡ answer number place 0
+  turned-back-for-its-cause = turned-back sheet plan table planAfter tableEnd r call
+
+  pub not-turned-back-otherwise : (r .number ≡ 0 → ⊥) → TurnedBack sheet plan table (r .number) (r .place)
+  not-turned-back-otherwise = turned-back-only sheet plan table planAfter tableEnd r call
+
+-- DEMAND 2. "The judge follows the rules alone:" no crate of the planner is beneath it (crates.txt). A judging call: the sheet, the plan and the answer.
+module _ (sheet plan : List ℕ) (j : Judged) (call : j ≡ judged sheet plan) where
+  -- "it allows every plan that obeys them, with the true figures,"
+  pub allows-what-obeys : (a : AllowedFor sheet plan) → (j .number ≡ 0) × FiguresTrue (readSheet sheet) (a .allowed .plan) j
+  allows-what-obeys a = (
+    ap (λ (x : Judged). x .number) call ∙ allowed-judged sheet plan a,
+    subst (FiguresTrue (readSheet sheet) (a .allowed .plan)) (sym call) (judged-figures sheet plan a),
+  )
+
+  -- "and turns back every other": what it allows is allowed by the rules. A plan is a row of bytes.
+  pub allows-nothing-else : AreBytes plan → j .number ≡ 0 → AllowedFor sheet plan
+  allows-nothing-else bytes z = judge-allows sheet plan bytes (ap (λ (x : Judged). x .number) (sym call) ∙ z)
+
+  -- "by the stated number and place": each fault of the table gives its number and its place, with figures 0, and not otherwise (judge_laws, Fault.antt).
+  pub turns-back-for-its-fault : (number place : ℕ) → Fault sheet plan number place → j ≡ turnedBack number place
+  turns-back-for-its-fault number place f = call ∙ fault-judged sheet plan number place f
+
+  pub turns-back-not-otherwise : (j .number ≡ 0 → ⊥) → Fault sheet plan (j .number) (j .place)
+  turns-back-not-otherwise h =
+      subst (λ (x : Judged). (x .number ≡ 0 → ⊥) → Fault sheet plan (x .number) (x .place)) (sym call) (judged-fault sheet plan) h
+
+-- The figures of a plan are at most those of another, in each section.
+pub record NoneLarger (s : Sheet) (p q : Plan) : Type 0 where
+  pub mosaic : figureOfMosaic s p ≤ figureOfMosaic s q
+  pub sorting : figureOfSorting s p ≤ figureOfSorting s q
+  pub flight : figureOfFlight s p ≤ figureOfFlight s q
+
+-- No allowed plan of the sheet has a smaller figure than q.
+unfoldable pub IsLeast : (Sheet → Plan → ℕ) → (sheet q : List ℕ) → AllowedFor sheet q → Type 0
+IsLeast figure sheet q a = (other : List ℕ) (b : AllowedFor sheet other) → figure (readSheet sheet) (a .allowed .plan) ≤ figure (readSheet sheet) (b .allowed .plan)
+
+-- The figure of q equals ours exactly when no allowed plan of the sheet has a smaller one than q.
+pub record BestExactly (figure : Sheet → Plan → ℕ) (sheet ours q : List ℕ) (o : AllowedFor sheet ours) (a : AllowedFor sheet q) : Type 0 where
+  pub equal-best : figure (readSheet sheet) (a .allowed .plan) ≡ figure (readSheet sheet) (o .allowed .plan) → IsLeast figure sheet q a
+  pub best-equal : IsLeast figure sheet q a → figure (readSheet sheet) (a .allowed .plan) ≡ figure (readSheet sheet) (o .allowed .plan)
+
+-- An accepted planning call. `written r planAfter` is the plan that it has written: the first bytes of the buffer, as many as the answer says.
+module _ (sheet plan table planAfter tableEnd : List ℕ) (r : Answer) (call : Called sheet plan table planAfter tableEnd r) (z : r .number ≡ 0) where
+  accepted : Accepted sheet plan table planAfter r
+  accepted = call-accepted sheet plan table planAfter tableEnd r call z
+
+  -- DEMAND 3. "Our plan is allowed;"
+  pub our-plan-allowed : AllowedFor sheet (written r planAfter)
+  unfolding ourBytes
+  our-plan-allowed =
+      record {
+        sound = accepted .sound;
+        allowed = record { plan = chosenPlan (readSheet sheet); lawful = plan-lawful sheet (accepted .sound) (accepted .possible); layout = accepted .bytes };
+      }
+
+  -- Demand 2, its last sentence. "Each plan that we write, it allows", with the figures that the plan states, and those are the true ones.
+  pub our-plan-judged : judged sheet (written r planAfter) ≡ found (readSheet sheet) (written r planAfter)
+  our-plan-judged = allowed-found sheet (written r planAfter) our-plan-allowed
+
+  pub our-figures-true : (ours : AllowedFor sheet (written r planAfter)) → FiguresTrue (readSheet sheet) (ours .allowed .plan) (judged sheet (written r planAfter))
+  our-figures-true ours = judged-figures sheet (written r planAfter) ours
+
+  -- the timetable of those bytes is the one that the program has chosen
+  ours-chosen : (ours : AllowedFor sheet (written r planAfter)) → ours .allowed .plan ≡ chosenPlan (readSheet sheet)
+  unfolding our-plan-allowed
+  ours-chosen ours =
+      plan-determined (readSheet sheet) (read-sound sheet (accepted .sound)) (ours .allowed .plan) (chosenPlan (readSheet sheet)) (ours .allowed .lawful)
+      (our-plan-allowed .allowed .lawful) (sym (ours .allowed .layout) ∙ our-plan-allowed .allowed .layout)
+
+  module _ (ours : AllowedFor sheet (written r planAfter)) (q : List ℕ) (a : AllowedFor sheet q) where
+    -- "no allowed plan of the sheet has a smaller figure in any section;"
+    pub no-smaller-figure : NoneLarger (readSheet sheet) (ours .allowed .plan) (a .allowed .plan)
+    unfolding Least
+    no-smaller-figure =
+        rw (ours-chosen ours)
+        (record {
+          mosaic = plan-least-mosaic sheet (a .sound) (a .allowed .plan) (a .allowed .lawful);
+          sorting = plan-least-sorting sheet (a .sound) (a .allowed .plan) (a .allowed .lawful);
+          flight = plan-least-flight sheet (a .sound) (a .allowed .plan) (a .allowed .lawful);
+        })
+
+    best-exactly : (figure : Sheet → Plan → ℕ) → Least figure (readSheet sheet) (chosenPlan (readSheet sheet)) → BestExactly figure sheet (written r planAfter) q ours a
+    unfolding Least IsLeast
+    best-exactly figure least =
+        record {
+          equal-best = λ e other b. at-most _ _ _ e (below (b .allowed .plan) (b .allowed .lawful));
+          best-equal = λ h. same _ _ (h (written r planAfter) ours) (below (a .allowed .plan) (a .allowed .lawful));
+        }
+      where
+        below : Least figure (readSheet sheet) (ours .allowed .plan)
+        below = rw (ours-chosen ours) least
+
+        at-most : (i j k : ℕ) → i ≡ j → j ≤ k → i ≤ k
+        at-most i j k e h = omega arith
+
+        same : (i j : ℕ) → i ≤ j → j ≤ i → i ≡ j
+        same i j h k = omega arith
+
+    -- and literally best, section by section: another plan is best there exactly where its figure equals ours.
+    pub best-exactly-mosaic : BestExactly figureOfMosaic sheet (written r planAfter) q ours a
+    best-exactly-mosaic = best-exactly figureOfMosaic (plan-least-mosaic sheet (a .sound))
+
+    pub best-exactly-sorting : BestExactly figureOfSorting sheet (written r planAfter) q ours a
+    best-exactly-sorting = best-exactly figureOfSorting (plan-least-sorting sheet (a .sound))
+
+    pub best-exactly-flight : BestExactly figureOfFlight sheet (written r planAfter) q ours a
+    best-exactly-flight = best-exactly figureOfFlight (plan-least-flight sheet (a .sound))
+
+    -- "with a given pass order each pass starts no later than in any allowed plan;"
+    pub each-pass-earliest : readSheet sheet .flight .ordered ≡ true → (i : ℕ) → i < readSheet sheet .flight .blocks
+        → (passesAt (ours .allowed .plan .passes) i .first ≤ passesAt (a .allowed .plan .passes) i .first)
+        × (passesAt (ours .allowed .plan .passes) i .second ≤ passesAt (a .allowed .plan .passes) i .second)
+    each-pass-earliest = rw (ours-chosen ours) (plan-earliest sheet q a)
+
+    -- 01: "The planner starts every mount, scan, desk job and pass as early as its batches or order allow": no later than a plan with our batches ..
+    pub mounts-early : lasts (a .allowed .plan .batches) ≡ lasts (ours .allowed .plan .batches) → (i : ℕ) → i < length (a .allowed .plan .batches)
+        → batchAt (ours .allowed .plan .batches) i .start ≤ batchAt (a .allowed .plan .batches) i .start
+    mounts-early = rw (ours-chosen ours) (plan-early-mosaic sheet q a)
+
+    -- .. or our scanner order ..
+    pub jobs-early : ((i : ℕ) → i < length (a .allowed .plan .jobs) → jobAt (a .allowed .plan .jobs) i .desk ≡ jobAt (ours .allowed .plan .jobs) i .desk)
+        → (i : ℕ) → i < length (a .allowed .plan .jobs)
+        → (jobAt (ours .allowed .plan .jobs) i .scan ≤ jobAt (a .allowed .plan .jobs) i .scan)
+        × (jobAt (ours .allowed .plan .jobs) i .start ≤ jobAt (a .allowed .plan .jobs) i .start)
+    jobs-early = rw (ours-chosen ours) (plan-early-sorting sheet q a)
+
+    -- .. or our pass order.
+    pub passes-early : a .allowed .plan .order ≡ ours .allowed .plan .order → (i : ℕ) → i < readSheet sheet .flight .blocks
+        → (passesAt (ours .allowed .plan .passes) i .first ≤ passesAt (a .allowed .plan .passes) i .first)
+        × (passesAt (ours .allowed .plan .passes) i .second ≤ passesAt (a .allowed .plan .passes) i .second)
+    passes-early = rw (ours-chosen ours) (plan-early-flight sheet q a)
+
+-- "and 11 is given exactly when the sheet is otherwise sound and no timetable keeps the order."
+module _ (sheet plan table planAfter tableEnd : List ℕ) (r : Answer) (call : Called sheet plan table planAfter tableEnd r) where
+  -- Only where an order is given, and no passes are a timetable that keeps that order (`Impossible`) ..
+  pub eleven-only-then : r .number ≡ orderImpossible → Large plan table × (readSheet sheet .number ≡ 0) × Impossible (readSheet sheet)
+  eleven-only-then = eleven-only sheet plan table planAfter tableEnd r call
+
+  -- .. and then always, at the order field, with buffers large enough.
+  pub eleven-always-then : Large plan table → readSheet sheet .number ≡ 0 → Impossible (readSheet sheet) → r ≡ answer orderImpossible (readSheet sheet .flight .place) 0
+  eleven-always-then large sound none =
+      turned-back sheet plan table planAfter tableEnd r call orderImpossible (readSheet sheet .flight .place) (TurnedBack.impossible large sound none refl refl)
+
+  -- Every other sound sheet is accepted.
+  pub accepted-else : Large plan table → readSheet sheet .number ≡ 0 → (Impossible (readSheet sheet) → ⊥) → r .number ≡ 0
+  accepted-else = else-accepted sheet plan table planAfter tableEnd r call
+
+-- A call from C is a call with a working table of 6,400 zeros: all that is said of calls holds of it.
+pub from-c : (sheet plan planAfter : List ℕ) (r : Answer) → Viewed sheet plan planAfter r → Called sheet plan (zeros tableLength) planAfter (tableAfter (length plan) (zeros tableLength)) r
+from-c sheet plan planAfter r v = record { answer = rw (length-zeros tableLength) (v .answer); buffer = rw (length-zeros tableLength) (v .buffer); table = refl }
