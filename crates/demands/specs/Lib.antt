@@ -8,7 +8,7 @@ use mathlib.Core.Bool.{true}
 use mathlib.Core.List.{List}
 use lib.ListN.{length, drop}
 use native.Mathlib.Omega.{arith}
-use Rattle.sheet.specs.Limits.{tableLength, planLength}
+use Rattle.sheet.specs.Limits.{tableLength}
 use Rattle.sheet.specs.Refusals.{orderImpossible}
 use Rattle.sheet.specs.Read.{readSheet}
 use Rattle.sheet.specs.Theorems.{read-sound}
@@ -17,7 +17,7 @@ use Rattle.sheet.specs.Stores.{length-zeros}
 use Rattle.sheet.specs.declared.Sheet.{Sheet}
 use Rattle.rules.specs.Mosaic.{batchAt}
 use Rattle.rules.specs.Sorting.{jobAt}
-use Rattle.rules.specs.Flight.{passesAt, FlightLawful, Keeps}
+use Rattle.rules.specs.Flight.{passesAt}
 use Rattle.rules.specs.Plan.{Plan, AllowedFor}
 use Rattle.rules_laws.specs.ByteLaws.{AreBytes}
 use Rattle.rules_laws.specs.Determined.{plan-determined}

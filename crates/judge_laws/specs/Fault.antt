@@ -4,7 +4,6 @@ use Prim.Native.Nat.{ℕ, _+_, _≤_, _<_}
 use mathlib.Core.Path.{_≡_}
 use mathlib.Core.Bool.{true, false, cond}
 use mathlib.Core.List.{List}
-use lib.ListN.{length}
 use lib.Dec.{eqb}
 use Rattle.sheet.specs.Refusals.{layoutWrong, ruleBroken, figureUntrue}
 use Rattle.sheet.specs.Read.{readSheet}
@@ -15,12 +14,11 @@ use Rattle.rules.specs.Flight.{flightFigure}
 use Rattle.rules.specs.PlanRead.{figureFrom, orderFrom, batchFrom, jobFrom, passesFrom, membersFrom}
 use Rattle.rules.specs.Running.{BatchFollows, JobFollows, AllDone, BlockFollows, FlightHead}
 use Rattle.judge_flight.specs.Starts.{passesOf}
-use Rattle.judge_layout.specs.Layout.{mosaicPart, sortingPart, flightPart}
 use Rattle.judge_layout.specs.declared.Part.{Part}
 use Rattle.judge_members.specs.Members.{present, memberPlace, begun, afterMember}
 use Rattle.judge_members.specs.declared.Progress.{Progress}
 use Rattle.judge.specs.Judged.{partAt}
-use Rattle.judge_laws.specs.Outcomes.{LayoutRight}
+use Rattle.judge_laws.specs.Due.{LayoutFault, LaidOut}
 
 -- member k of a section, at a place of the plan, follows what was judged before it
 unfoldable pub MemberFollows : Sheet → List ℕ → ℕ → ℕ → ℕ → Progress → Type 0
@@ -69,17 +67,10 @@ pub data SectionFault (s : Sheet) (plan : List ℕ) (section : ℕ) : ℕ → �
       → (figureFrom plan (partAt s plan section .head) ≡ ruleFigure s plan section (partAt s plan section) → ⊥)
       → number ≡ figureUntrue → place ≡ partAt s plan section .head → SectionFault s plan section number place
 
--- the first wrong field of the layout: a head that is not the one due, or what stands behind the last section
-pub data LayoutFault (s : Sheet) (plan : List ℕ) : ℕ → Type 0 where
-  mosaic-head : {place : ℕ} → mosaicPart s plan .right ≡ false → place ≡ mosaicPart s plan .head → LayoutFault s plan place
-  sorting-head : {place : ℕ} → mosaicPart s plan .right ≡ true → sortingPart s plan .right ≡ false → place ≡ sortingPart s plan .head → LayoutFault s plan place
-  flight-head : {place : ℕ} → mosaicPart s plan .right ≡ true → sortingPart s plan .right ≡ true → flightPart s plan .right ≡ false → place ≡ flightPart s plan .head → LayoutFault s plan place
-  behind : {place : ℕ} → mosaicPart s plan .right ≡ true → sortingPart s plan .right ≡ true → flightPart s plan .right ≡ true → (flightPart s plan .end ≡ length plan → ⊥) → place ≡ flightPart s plan .end → LayoutFault s plan place
-
 -- the first fault of a sheet and a plan
 pub data Fault (sheet plan : List ℕ) : ℕ → ℕ → Type 0 where
   in-sheet : {number place : ℕ} → (readSheet sheet .number ≡ 0 → ⊥) → number ≡ readSheet sheet .number → place ≡ readSheet sheet .place → Fault sheet plan number place
   in-layout : {number place : ℕ} → readSheet sheet .number ≡ 0 → LayoutFault (readSheet sheet) plan place → number ≡ layoutWrong → Fault sheet plan number place
-  in-section : {number place : ℕ} (section : ℕ) → readSheet sheet .number ≡ 0 → LayoutRight (readSheet sheet) plan → 1 ≤ section → section ≤ 3
+  in-section : {number place : ℕ} (section : ℕ) → readSheet sheet .number ≡ 0 → LaidOut (readSheet sheet) plan → 1 ≤ section → section ≤ 3
       → ((i : ℕ) → 1 ≤ i → i < section → present (readSheet sheet) i ≡ true → (n p : ℕ) → SectionFault (readSheet sheet) plan i n p → ⊥)
       → present (readSheet sheet) section ≡ true → SectionFault (readSheet sheet) plan section number place → Fault sheet plan number place

@@ -2,11 +2,10 @@
 -- The members before the fault are passed one by one, and so are the sections.
 use Prim.Native.Nat.{ℕ, zero, suc, _+_, _-_, _≤_, _<_}
 use mathlib.Core.Path.{_≡_, refl, sym, ap, ap₂, subst, _∙_}
-use mathlib.Core.Bool.{Bool, true, false, cond}
+use mathlib.Core.Bool.{Bool, true, false}
 use mathlib.Core.List.{List}
 use native.Mathlib.Decide.{ℕ-discrete}
 use native.Mathlib.Omega.{arith}
-use lib.ListN.{length}
 use lib.Dec.{eqb}
 use borrow.Author.Tests.{ne-eqb, eqb-false}
 use Rattle.field.specs.Branch.{check}
@@ -15,7 +14,7 @@ use Rattle.sheet.specs.Refusals.{layoutWrong, ruleBroken, figureUntrue}
 use Rattle.sheet.specs.Read.{readSheet}
 use Rattle.sheet.specs.declared.Sheet.{Sheet}
 use Rattle.rules.specs.PlanRead.{figureFrom}
-use Rattle.judge_layout.specs.Layout.{mosaicPart, sortingPart, flightPart, verdict, layoutVerdict}
+use Rattle.judge_layout.specs.Layout.{verdict, layoutVerdict}
 use Rattle.judge_layout.specs.declared.Verdict.{Verdict}
 use Rattle.judge_members.specs.Members.{present, memberPlace, begun, memberFollows, afterMember, headFollows, figureOf, headNumber}
 use Rattle.judge_members.specs.declared.Progress.{Progress}
@@ -23,7 +22,8 @@ use Rattle.judge.specs.Judged.{partAt, sectionFrom, sectionVerdict, sectionsFro
 use Rattle.judge.specs.Loops.{section-absent, zero-number, section-here, sections-next, sections-stop, member-next, member-wrong, members-judged, sheet-wrong, sheet-right, layout-wrong, section-wrong}
 use Rattle.judge.specs.declared.Judged.{Judged}
 use Rattle.judge_laws.specs.Outcomes.{LayoutRight, right-layout, layout-right, sections-right, right-judged}
-use Rattle.judge_laws.specs.Fault.{MemberFollows, HeadFollows, Reached, SectionFault, LayoutFault, Fault}
+use Rattle.judge_laws.specs.DueLaws.{layout-fault, laid-out, layout-fault-is, laid-out-right}
+use Rattle.judge_laws.specs.Fault.{MemberFollows, HeadFollows, Reached, SectionFault, Fault}
 use Rattle.judge_laws.specs.Figures.{reached-figure}
 use Rattle.judge_laws.specs.Decided.{member-decided, head-decided, decided-true, decided-false}
 
@@ -129,31 +129,6 @@ module _ (s : Sheet) (plan : List ℕ) (section : ℕ) where
       go (yes z) = z
       go (no n) = let f = section-fault n in absurd (h (f .0) _ _ (f .1))
 
--- the layout
-module _ (s : Sheet) (plan : List ℕ) where
-  layout-fault : (layoutVerdict s plan .number ≡ 0 → ⊥) → (layoutVerdict s plan .number ≡ layoutWrong) × LayoutFault s plan (layoutVerdict s plan .place)
-  unfolding layoutVerdict verdict
-  layout-fault h = go _ refl _ refl _ refl _ refl h
-    where
-      found-wrong : Bool → Bool → Bool → Bool → Verdict
-      found-wrong a b c d =
-          cond a (cond b (cond c (cond d (verdict 0 0) (verdict layoutWrong (flightPart s plan .end))) (verdict layoutWrong (flightPart s plan .head))) (verdict layoutWrong (sortingPart s plan .head))) (verdict layoutWrong (mosaicPart s plan .head))
-
-      go : (a : Bool) → mosaicPart s plan .right ≡ a → (b : Bool) → sortingPart s plan .right ≡ b → (c : Bool) → flightPart s plan .right ≡ c → (d : Bool) → eqb (flightPart s plan .end) (length plan) ≡ d
-          → (found-wrong a b c d .number ≡ 0 → ⊥) → (found-wrong a b c d .number ≡ layoutWrong) × LayoutFault s plan (found-wrong a b c d .place)
-      go false p b q c r d t h = (refl, LayoutFault.mosaic-head p refl)
-      go true p false q c r d t h = (refl, LayoutFault.sorting-head p q refl)
-      go true p true q false r d t h = (refl, LayoutFault.flight-head p q r refl)
-      go true p true q true r false t h = (refl, LayoutFault.behind p q r (eqb-false _ _ t) refl)
-      go true p true q true r true t h = absurd (h refl)
-
-  layout-fault-is : (place : ℕ) → LayoutFault s plan place → layoutVerdict s plan ≡ verdict layoutWrong place
-  unfolding layoutVerdict
-  layout-fault-is place (LayoutFault.mosaic-head p e) = rw p (sym (ap (verdict layoutWrong) e))
-  layout-fault-is place (LayoutFault.sorting-head p q e) = rw (p, q) (sym (ap (verdict layoutWrong) e))
-  layout-fault-is place (LayoutFault.flight-head p q r e) = rw (p, q, r) (sym (ap (verdict layoutWrong) e))
-  layout-fault-is place (LayoutFault.behind p q r n e) = rw (p, q, r, ne-eqb _ _ n) (sym (ap (verdict layoutWrong) e))
-
 -- the sections, one after another
 module _ (s : Sheet) (plan : List ℕ) where
   record FirstFault (number place : ℕ) : Type 0 where
@@ -232,7 +207,7 @@ module _ (sheet plan : List ℕ) where
       go (yes z) (no n) c = let f = layout-fault (readSheet sheet) plan n in turned _ _ (layout-refused z n) (Fault.in-layout z (f .1) (f .0))
       go (yes z) (yes y) (no n) =
           let f = first-fault (readSheet sheet) plan n in
-          turned _ _ (sections-refused z y n) (Fault.in-section (f .section) z (layout-right (readSheet sheet) plan y) (f .low) (f .high) (λ i l u. no-fault (readSheet sheet) plan i (f .before i l u)) (f .there) (f .fault))
+          turned _ _ (sections-refused z y n) (Fault.in-section (f .section) z (laid-out (readSheet sheet) plan (layout-right (readSheet sheet) plan y)) (f .low) (f .high) (λ i l u. no-fault (readSheet sheet) plan i (f .before i l u)) (f .there) (f .fault))
       go (yes z) (yes y) (yes x) = absurd (h (none-refused z y x))
 
   section-turned-back : (number place : ℕ) → readSheet sheet .number ≡ 0 → LayoutRight (readSheet sheet) plan → sectionsFrom 3 (readSheet sheet) plan 1 ≡ verdict number place → (number ≡ 0 → ⊥) → judged sheet plan ≡ turnedBack number place
@@ -251,5 +226,5 @@ module _ (sheet plan : List ℕ) where
       layout-turned-back place z (layout-fault-is (readSheet sheet) plan place f) ∙ sym (ap (λ (k : ℕ). turnedBack k place) en)
   fault-turned-back number place (Fault.in-section section z l low high before there f) =
       let n = fault-number (readSheet sheet) plan section number place f in
-      section-turned-back number place z l
+      section-turned-back number place z (laid-out-right (readSheet sheet) plan l)
       (first-fault-is (readSheet sheet) plan number place section low high (λ i p u. none-judged (readSheet sheet) plan i (before i p u)) (section-fault-is (readSheet sheet) plan section number place there f) n) n

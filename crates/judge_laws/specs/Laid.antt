@@ -21,7 +21,7 @@ use Rattle.judge_layout.specs.Layout.{isField, run, partFrom, partOf}
 use Rattle.judge_layout.specs.Laws.{is-field-true}
 
 -- the test of a field
-is-field : (f : Field) (tag len : ℕ) → f ≡ Whole tag len → isField f tag len ≡ true
+pub is-field : (f : Field) (tag len : ℕ) → f ≡ Whole tag len → isField f tag len ≡ true
 unfolding isField
 is-field f tag len e = rw (e, eq-eqb tag tag refl, eq-eqb len len refl)
 

@@ -2,7 +2,9 @@
 pub mod Tests
 pub mod Sections
 pub mod Laid
+pub mod Due
 pub mod Outcomes
+pub mod DueLaws
 pub mod Allows
 pub mod Written
 pub mod Fault

@@ -19,7 +19,7 @@ use Rattle.rules.specs.declared.Passes.{Passes}
 use Rattle.mosaic.specs.Plan.{lasts}
 use Rattle.mosaic.specs.Theorems.{mosaic-lawful, mosaic-figure, mosaic-least, mosaic-earliest}
 use Rattle.sorting.specs.Theorems.{sorting-lawful, sorting-figure, sorting-least, sorting-earliest}
-use Rattle.flight.specs.Choice.{isPossible, chosenOrder, chosenPasses}
+use Rattle.flight.specs.Choice.{isPossible, chosenOrder}
 use Rattle.flight.specs.Chosen.{chosen-given}
 use Rattle.flight.specs.Theorems.{flight-lawful, flight-figure, flight-least, flight-earliest, flight-impossible, flight-free}
 use Rattle.planner.specs.Call.{chosenPlan}

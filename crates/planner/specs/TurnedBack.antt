@@ -1,7 +1,6 @@
 -- The table "Turned back" of 01, as far as the planner gives it: a call is turned back with a number and a place exactly where their cause lies.
 use Prim.Native.Nat.{ℕ, _≤_, _<_}
-use mathlib.Core.Path.{_≡_, sym, ap, ap₂, subst, _∙_}
-use mathlib.Core.Bool.{true, false}
+use mathlib.Core.Path.{_≡_, sym, ap, subst, _∙_}
 use mathlib.Core.List.{List}
 use lib.ListN.{length}
 use native.Mathlib.Omega.{arith}
@@ -9,10 +8,7 @@ use borrow.Author.Tests.{lt-ltb, le-ltb, eq-eqb, ne-eqb}
 use Rattle.sheet.specs.Limits.{tableLength, planLength}
 use Rattle.sheet.specs.Refusals.{tableTooSmall, bufferTooSmall, orderImpossible}
 use Rattle.sheet.specs.Read.{readSheet, refused}
-use Rattle.sheet.specs.Table.{Cause}
 use Rattle.sheet.specs.Theorems.{read-refused}
-use Rattle.sheet.specs.declared.Sheet.{Sheet}
-use Rattle.flight.specs.Choice.{isPossible}
 use Rattle.planner.specs.Call.{answer, sheetAnswer, answerOf, Called}
 use Rattle.planner.specs.Outcomes.{Large, Outcome, call-outcome}
 use Rattle.planner.specs.Refused.{FromThreeToTen, cause-number, RefusedFor, refused-for}

@@ -4,7 +4,6 @@ use Prim.Native.Nat.{ℕ}
 use mathlib.Core.Path.{_≡_, refl, sym, subst, ap, _∙_}
 use mathlib.Core.Bool.{Bool, true, false, _&&_, true≢false}
 use mathlib.Core.List.{List, [], _∷_}
-use native.Mathlib.Omega.{arith}
 use Rattle.field.specs.Branch.{both, check}
 use Rattle.sheet.specs.Limits.{tableLength, planLength}
 use Rattle.sheet.specs.Refusals.{orderImpossible}
@@ -36,7 +35,6 @@ use Rattle.flight_order.specs.Timetable.{listOf, passesFrom, leastPasses}
 use Rattle.flight_search.specs.Search.{improves, tried, searched}
 use Rattle.flight_search.specs.Orders.{ordersOf}
 use Rattle.flight.specs.Choice.{chosenOrder, isPossible, chosenPasses}
-use Rattle.planner.specs.declared.Answer.{Answer}
 use Rattle.worked_sheets.specs.Table.{Figures, figuresOf, Claim, IsAllowed, NoneBelow, Says, Row, table, readyTimes, All, FirstCase, ready-at, planned, best, allowed, impossible}
 
 -- What is computed of a row.
