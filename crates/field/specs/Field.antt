@@ -15,6 +15,12 @@ fieldAt s at =
     (cond (ltb (length s - at) 3) Cut
     (cond (leb (numberAt s (at + 1) 2) (length s - at - 3)) (Whole (getD s at 0) (numberAt s (at + 1) 2)) Cut))
 
+-- the offset behind a field that stands at an offset
+unfoldable pub endOf : ℕ → Field → ℕ
+endOf at End = at
+endOf at Cut = at
+endOf at (Whole tag len) = at + 3 + len
+
 -- the bytes of a field: tag, content length, content
 unfoldable pub fieldBytes : ℕ → List ℕ → List ℕ
 fieldBytes tag content = tag ∷ bytesOf 2 (length content) ++ content

@@ -1,6 +1,6 @@
 -- Laws of the field at an offset: which tests tell what stands there, and that a whole field lies within the row.
-use Prim.Native.Nat.{ℕ, _+_, _-_, _≤_, _<_}
-use mathlib.Core.Path.{_≡_, refl, sym}
+use Prim.Native.Nat.{ℕ, _+_, _-_, _*_, _^_, _≤_, _<_}
+use mathlib.Core.Path.{_≡_, refl, sym, _∙_}
 use mathlib.Core.Bool.{Bool, true, false, cond}
 use mathlib.Core.List.{List}
 use native.Mathlib.Omega.{arith}
@@ -8,7 +8,8 @@ use lib.ListN.{length, getD}
 use lib.Dec.{ltb, leb}
 use borrow.Author.Tests.{le-leb, lt-leb, lt-ltb, le-ltb, leb-true, leb-false, ltb-false}
 use Rattle.field.specs.Bytes.{numberAt, NumberRead}
-use Rattle.field.specs.Field.{fieldAt}
+use Rattle.field.specs.Field.{fieldAt, endOf}
+use Rattle.field.specs.declared.Field.{Field}
 use Rattle.field.specs.declared.Field.the-variants.{End, Cut, Whole}
 
 module _ (s : List ℕ) (at : ℕ) where
@@ -48,3 +49,24 @@ whole-at s at tag len e =
     let h2 = ltb-false (length s - at) 3 (h .1) in
     let h3 = leb-true (numberAt s (at + 1) 2) (length s - at - 3) (h .2) in
     record { within = omega (arith, h .4); tag-is = sym (h .3); length-is = sym (h .4) }
+
+-- the offset behind the field that was found at an offset; behind a whole field it lies within the row
+module _ (s : List ℕ) (at : ℕ) (f : Field) (ef : f ≡ fieldAt s at) where
+  pub end-none : f ≡ End → at ≡ endOf at (fieldAt s at)
+  unfolding endOf
+  end-none e = rw (← ef, e)
+
+  pub end-cut : f ≡ Cut → at ≡ endOf at (fieldAt s at)
+  unfolding endOf
+  end-cut e = rw (← ef, e)
+
+  module _ (tag len : ℕ) (e : f ≡ Whole tag len) where
+    pub end-whole : at + 3 + len ≡ endOf at (fieldAt s at)
+    unfolding endOf
+    end-whole = rw (← ef, e)
+
+    pub end-fits : length s * 1 < 2 ^ 63 → at + 3 + len < 2 ^ 64
+    end-fits big = let w = whole-at s at tag len (sym ef ∙ e) .within in omega arith
+
+    pub head-fits : length s * 1 < 2 ^ 63 → at + 3 < 2 ^ 64
+    head-fits big = let w = whole-at s at tag len (sym ef ∙ e) .within in omega arith

@@ -3,7 +3,7 @@ ghost use mathlib.Core.Path.{_≡_};
 ghost use Prim.Native.Nat.{_+_, _≤_};
 ghost use lib.ListN.{length};
 ghost use Rattle.field.specs.Bytes.{NumberRead, bytesOf};
-ghost use Rattle.field.specs.Field.{fieldAt};
+ghost use Rattle.field.specs.Field.{fieldAt, endOf};
 ghost use Rattle.field.specs.Put.{put};
 
 pub mod reader;
@@ -56,6 +56,17 @@ pub fn field_at(s: &[u8], at: usize) -> Field
         Field::Whole(s[at], length)
     } else {
         Field::Cut
+    }
+}
+
+// The offset behind the field at an offset: where the next field stands. Where no whole field stands there it is the offset itself.
+pub fn field_end(s: &[u8], at: usize) -> usize
+    ensures { λ r. ⌜ r ≡ endOf at (fieldAt (now (s .entry)) at) ⌝ }
+{
+    match field_at(s, at) {
+        Field::End => at,
+        Field::Cut => at,
+        Field::Whole(_, length) => at + 3 + length,
     }
 }
 

@@ -11,7 +11,7 @@ use Rattle.field.specs.declared.Field.{Field}
 use Rattle.field.specs.declared.Field.the-variants.{End, Cut, Whole}
 use Rattle.sheet.specs.Refusals.{fieldCut}
 use Rattle.sheet.specs.Decode.{nextReading, startReading}
-use Rattle.sheet.specs.Read.{fieldNumber, endNumber, placeOf, refused, accepted, atEnd, readFrom, readSheet}
+use Rattle.sheet.specs.Read.{fieldNumber, endNumber, placeOf, refused, atEnd, readFrom, readSheet}
 use Rattle.sheet.specs.Passed.{passes}
 use Rattle.sheet.specs.Invariant.{Kept, kept-start, kept-next}
 use Rattle.sheet.specs.declared.Reading.{Reading}
@@ -89,13 +89,3 @@ module _ (s : List ℕ) (st : Reading) (p : Progress s st) where
 
       pub progress-less : (next : Reading) → next ≡ nextReading s st tag len → length s - next .at < length s - st .at
       progress-less next h = let w = within in rw h (omega (arith, ahead))
-
--- the end of the sheet
-module _ (st : Reading) (number : ℕ) (r : Sheet) (en : number ≡ endNumber (st .section) (st .members)) where
-  pub end-refused : (number ≡ 0 → ⊥) → r ≡ refused number (st .head) → r ≡ atEnd st (endNumber (st .section) (st .members))
-  unfolding atEnd
-  end-refused h e = rw (← en, ne-eqb _ _ h) e
-
-  pub end-accepted : number ≡ 0 → r ≡ accepted st → r ≡ atEnd st (endNumber (st .section) (st .members))
-  unfolding atEnd
-  end-accepted h e = rw (← en, eq-eqb _ _ h) e
