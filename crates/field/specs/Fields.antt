@@ -65,8 +65,9 @@ module _ (s : List ℕ) (at : ℕ) (f : Field) (ef : f ≡ fieldAt s at) where
     unfolding endOf
     end-whole = rw (← ef, e)
 
-    pub end-fits : length s * 1 < 2 ^ 63 → at + 3 + len < 2 ^ 64
-    end-fits big = let w = whole-at s at tag len (sym ef ∙ e) .within in omega arith
+    -- sums that stay near the field fit
+    pub near-fits : length s * 1 < 2 ^ 63 → (j : ℕ) → j ≤ 65536 → at + j < 2 ^ 64
+    near-fits big j lj = let w = whole-at s at tag len (sym ef ∙ e) .within in omega arith
 
-    pub head-fits : length s * 1 < 2 ^ 63 → at + 3 < 2 ^ 64
-    head-fits big = let w = whole-at s at tag len (sym ef ∙ e) .within in omega arith
+    pub behind-fits : length s * 1 < 2 ^ 63 → (j : ℕ) → j ≤ 65536 → at + j + len < 2 ^ 64
+    behind-fits big j lj = let w = whole-at s at tag len (sym ef ∙ e) .within in omega arith

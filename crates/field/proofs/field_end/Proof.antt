@@ -1,5 +1,5 @@
 -- `field_end` meets its contract: a whole field lies within the row, so that the offset behind it fits.
-use Rattle.field.specs.Fields.{end-none, end-cut, end-whole, end-fits, head-fits}
+use Rattle.field.specs.Fields.{end-none, end-cut, end-whole, near-fits, behind-fits}
 use borrow.Author.Needs.{needs}
 use Rattle.field.proofs.field_end.Statement.{statement}
 use Rattle.field.proofs.field_end.Tie as tie
@@ -17,10 +17,10 @@ enum-known-length : tie.Need-enum-known-length
 enum-known-length c = search needs
 
 add-result : tie.Need-add-result
-add-result c = record { fits = search head-fits }
+add-result c = record { fits = search (near-fits, needs) }
 
 add-result-2 : tie.Need-add-result-2
-add-result-2 c = record { fits = search end-fits }
+add-result-2 c = record { fits = search (behind-fits, needs) }
 
 returns : tie.Need-returns
 returns c = search end-none
