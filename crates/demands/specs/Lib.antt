@@ -33,6 +33,23 @@ use Rattle.planner.specs.Theorems.{figureOfMosaic, figureOfSorting, figureOfFli
 use Rattle.planner.specs.declared.Answer.{Answer}
 use Rattle.viewer.specs.Viewed.{Viewed}
 
+-- TERMS of demand 3.
+
+-- The figures of a plan are at most those of another, in each section.
+pub record NoneLarger (s : Sheet) (p q : Plan) : Type 0 where
+  pub mosaic : figureOfMosaic s p ≤ figureOfMosaic s q
+  pub sorting : figureOfSorting s p ≤ figureOfSorting s q
+  pub flight : figureOfFlight s p ≤ figureOfFlight s q
+
+-- No allowed plan of the sheet has a smaller figure than q.
+unfoldable pub IsLeast : (Sheet → Plan → ℕ) → (sheet q : List ℕ) → AllowedFor sheet q → Type 0
+IsLeast figure sheet q a = (other : List ℕ) (b : AllowedFor sheet other) → figure (readSheet sheet) (a .allowed .plan) ≤ figure (readSheet sheet) (b .allowed .plan)
+
+-- The figure of q equals ours exactly when no allowed plan of the sheet has a smaller one than q.
+pub record BestExactly (figure : Sheet → Plan → ℕ) (sheet ours q : List ℕ) (o : AllowedFor sheet ours) (a : AllowedFor sheet q) : Type 0 where
+  pub equal-best : figure (readSheet sheet) (a .allowed .plan) ≡ figure (readSheet sheet) (o .allowed .plan) → IsLeast figure sheet q a
+  pub best-equal : IsLeast figure sheet q a → figure (readSheet sheet) (a .allowed .plan) ≡ figure (readSheet sheet) (o .allowed .plan)
+
 -- A planning call: the sheet, the plan buffer and the working table at entry, the plan buffer and the table at exit, and the answer.
 module _ (sheet plan table planAfter tableEnd : List ℕ) (r : Answer) (call : Called sheet plan table planAfter tableEnd r) where
   -- DEMAND 1. "Buffers: sheet, plan buffer and working table are after each call exactly as the papers state, for all contents and lengths."
@@ -82,48 +99,37 @@ module _ (sheet plan : List ℕ) (j : Judged) (call : j ≡ judged sheet plan) w
   turns-back-not-otherwise h =
       subst (λ (x : Judged). (x .number ≡ 0 → ⊥) → Fault sheet plan (x .number) (x .place)) (sym call) (judged-fault sheet plan) h
 
--- The figures of a plan are at most those of another, in each section.
-pub record NoneLarger (s : Sheet) (p q : Plan) : Type 0 where
-  pub mosaic : figureOfMosaic s p ≤ figureOfMosaic s q
-  pub sorting : figureOfSorting s p ≤ figureOfSorting s q
-  pub flight : figureOfFlight s p ≤ figureOfFlight s q
-
--- No allowed plan of the sheet has a smaller figure than q.
-unfoldable pub IsLeast : (Sheet → Plan → ℕ) → (sheet q : List ℕ) → AllowedFor sheet q → Type 0
-IsLeast figure sheet q a = (other : List ℕ) (b : AllowedFor sheet other) → figure (readSheet sheet) (a .allowed .plan) ≤ figure (readSheet sheet) (b .allowed .plan)
-
--- The figure of q equals ours exactly when no allowed plan of the sheet has a smaller one than q.
-pub record BestExactly (figure : Sheet → Plan → ℕ) (sheet ours q : List ℕ) (o : AllowedFor sheet ours) (a : AllowedFor sheet q) : Type 0 where
-  pub equal-best : figure (readSheet sheet) (a .allowed .plan) ≡ figure (readSheet sheet) (o .allowed .plan) → IsLeast figure sheet q a
-  pub best-equal : IsLeast figure sheet q a → figure (readSheet sheet) (a .allowed .plan) ≡ figure (readSheet sheet) (o .allowed .plan)
-
 -- An accepted planning call. `written r planAfter` is the plan that it has written: the first bytes of the buffer, as many as the answer says.
 module _ (sheet plan table planAfter tableEnd : List ℕ) (r : Answer) (call : Called sheet plan table planAfter tableEnd r) (z : r .number ≡ 0) where
   accepted : Accepted sheet plan table planAfter r
   accepted = call-accepted sheet plan table planAfter tableEnd r call z
 
-  -- DEMAND 3. "Our plan is allowed;"
-  pub our-plan-allowed : AllowedFor sheet (written r planAfter)
+  chosen : AllowedFor sheet (written r planAfter)
   unfolding ourBytes
-  our-plan-allowed =
+  chosen =
       record {
         sound = accepted .sound;
         allowed = record { plan = chosenPlan (readSheet sheet); lawful = plan-lawful sheet (accepted .sound) (accepted .possible); layout = accepted .bytes };
       }
 
-  -- Demand 2, its last sentence. "Each plan that we write, it allows", with the figures that the plan states, and those are the true ones.
+  -- Demand 2, its last sentence: "Each plan that we write, it allows", with the figures that the plan states ..
   pub our-plan-judged : judged sheet (written r planAfter) ≡ found (readSheet sheet) (written r planAfter)
-  our-plan-judged = allowed-found sheet (written r planAfter) our-plan-allowed
+  our-plan-judged = allowed-found sheet (written r planAfter) chosen
 
+  -- .. and those are the true ones.
   pub our-figures-true : (ours : AllowedFor sheet (written r planAfter)) → FiguresTrue (readSheet sheet) (ours .allowed .plan) (judged sheet (written r planAfter))
   our-figures-true ours = judged-figures sheet (written r planAfter) ours
 
+  -- DEMAND 3. "Our plan is allowed;"
+  pub our-plan-allowed : AllowedFor sheet (written r planAfter)
+  our-plan-allowed = chosen
+
   -- the timetable of those bytes is the one that the program has chosen
   ours-chosen : (ours : AllowedFor sheet (written r planAfter)) → ours .allowed .plan ≡ chosenPlan (readSheet sheet)
-  unfolding our-plan-allowed
+  unfolding chosen
   ours-chosen ours =
       plan-determined (readSheet sheet) (read-sound sheet (accepted .sound)) (ours .allowed .plan) (chosenPlan (readSheet sheet)) (ours .allowed .lawful)
-      (our-plan-allowed .allowed .lawful) (sym (ours .allowed .layout) ∙ our-plan-allowed .allowed .layout)
+      (chosen .allowed .lawful) (sym (ours .allowed .layout) ∙ chosen .allowed .layout)
 
   module _ (ours : AllowedFor sheet (written r planAfter)) (q : List ℕ) (a : AllowedFor sheet q) where
     -- "no allowed plan of the sheet has a smaller figure in any section;"
