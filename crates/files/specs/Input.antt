@@ -15,6 +15,7 @@ pub record Piece (at : ℕ) (before after : List ℕ) (r : Received) : Type 0 wh
   pub kept : take at after ≡ take at before
   pub within : at + r .length ≤ lists.length after
 
+-- what a failure gives
 abbrev pub nothing : Received
 nothing = record { length = 0; failed = true }
 

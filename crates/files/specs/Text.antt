@@ -1,7 +1,7 @@
 -- Text stored in a buffer: bytes, and a name with a number behind it. All other bytes of the buffer are as they were.
 use Prim.Native.Nat.{ℕ, suc, _+_, _-_, _^_, _≤_, _<_}
 use mathlib.Core.Path.{_≡_, refl, sym, ap, _∙_}
-use mathlib.Core.List.{List, [], _∷_, _++_}
+use mathlib.Core.List.{List, _++_}
 use mathlib.Core.Bool.{Bool, true, false}
 use native.Mathlib.Nat.{pow-le-pow-right}
 use native.Mathlib.Numerals.{add-one}
@@ -12,8 +12,9 @@ use lib.Dec.{leb}
 use borrow.Author.Tests.{leb-true, leb-false}
 use Rattle.io.specs.Counts.{Counts}
 use Rattle.io.specs.Digits.{digits, Fewest}
-use Rattle.field.specs.Put.{put, put-more, length-put}
+use Rattle.field.specs.Put.{put, put-more}
 
+-- bytes at an offset, and the offset behind them
 pub record BytesPut (before : List ℕ) (at : ℕ) (bytes after : List ℕ) (r : ℕ) : Type 0 where
   pub is : after ≡ put before at bytes
   pub end : r ≡ at + length bytes
