@@ -35,16 +35,9 @@ static void print_field(uint8_t tag, const uint8_t *c) {
     }
 }
 
-int main(int argc, char **argv) {
-    static uint8_t sheet[65536], plan[SEVULAMON_PLAN_LENGTH];
-    FILE *file = argc == 2 ? fopen(argv[1], "rb") : NULL;
-    if (file == NULL) {
-        fprintf(stderr, "usage: viewer SHEET\n");
-        return 2;
-    }
-    size_t length = fread(sheet, 1, sizeof sheet, file);
-    fclose(file);
-
+/* Plans and judges a sheet, and prints both. Returns 0 where the sheet is planned and the judge allows the plan. */
+static int print_plan(const uint8_t *sheet, size_t length) {
+    uint8_t plan[SEVULAMON_PLAN_LENGTH];
     struct sevulamon_answer answer = sevulamon_plan(sheet, length, plan, sizeof plan);
     if (answer.number != SEVULAMON_ACCEPTED) {
         printf("refused: number %" PRIu64 ", place %zu\n", answer.number, answer.place);
@@ -56,4 +49,26 @@ int main(int argc, char **argv) {
     struct sevulamon_judged judged = sevulamon_judge(sheet, length, plan, answer.length);
     printf("judged: number %" PRIu64 ", figures %" PRIu64 " %" PRIu64 " %" PRIu64 "\n", judged.number, judged.mosaic, judged.sorting, judged.flight);
     return judged.number == SEVULAMON_ACCEPTED ? 0 : 1;
+}
+
+int main(int argc, char **argv) {
+    static uint8_t sheet[65536];
+    if (argc != 2) {
+        fprintf(stderr, "usage: viewer SHEET\n");
+        return 2;
+    }
+    FILE *file = fopen(argv[1], "rb");
+    size_t length = file == NULL ? 0 : fread(sheet, 1, sizeof sheet, file);
+    if (file == NULL || ferror(file)) {
+        perror(argv[1]);
+        return 2;
+    }
+    fclose(file);
+
+    int status = print_plan(sheet, length);
+    if (fflush(stdout) != 0) {
+        perror("standard output");
+        return 2;
+    }
+    return status;
 }

@@ -1,40 +1,88 @@
-/* The planner and the judge for C. Link with libviewer.a. Numbers of the sheet and the plan stand low byte first. */
+/* The planner and the judge for C and C++. Link with libviewer.a.
+ *
+ * A sheet and a plan are rows of fields. A field is a tag (1 byte), the length of its content
+ * (2 bytes) and the content. Numbers stand low byte first. docs/FORMAT.md says more, with examples.
+ *
+ * The sheet: one to three sections in this order, each with one member or more.
+ *
+ *   tag  length  field            content, with the bytes of each number
+ *   10   3       mosaic head      stations m (1), 1 to 4; mount time (2), 0 to 10,000
+ *   11   2 m + 2 strip, up to 40  m station times (2 each), 0 to 10,000; bench time (2)
+ *   20   1       sorting head     desks m (1), 1 to 3
+ *   21   5       strip, up to 6   desk (1), 1 to m; scan time (2); desk time (2)
+ *                of each desk
+ *   30   0       flight head      -
+ *   31   6       block, up to 32  first pass (2); delay (2), 0 to 10,000; second pass (2)
+ *   32   8       pass order       order number (8); ends the sheet; due over 8 blocks
+ *
+ * Tags are hexadecimal. A time without a range here is 1 to 10,000. Times are minutes in the first
+ * two sections and seconds in the flight.
+ *
+ * The plan: the sections of the sheet, in its order.
+ *
+ *   tag  length  field            content, with the bytes of each number
+ *   90   4       mosaic head      figure (4): the sum of the completions of the strips
+ *   91   9       batch            its last strip (1), from 1; mount start (4); finish (4)
+ *   A0   4       sorting head     figure (4): the sum of the desks' finishing times
+ *   A1   10      strip, in the    desk (1); number at the desk (1), from 1; scan start (4);
+ *                scanner's order  desk start (4)
+ *   B0   12      flight head      figure (4): the end of the last pass; order number (8)
+ *   B1   8       block            start of its first pass (4), of its second pass (4)
+ */
 #ifndef SEVULAMON_H
 #define SEVULAMON_H
 
 #include <stddef.h>
 #include <stdint.h>
 
-/* A plan buffer of this length is large enough for every sheet. A smaller one is refused with 2, whatever the sheet. */
+#define SEVULAMON_VERSION_MAJOR 1
+#define SEVULAMON_VERSION_MINOR 0
+#define SEVULAMON_VERSION "1.0"
+
+/* A plan buffer of this length is large enough for every sheet. A smaller one is refused with 2,
+ * whatever the sheet. */
 #define SEVULAMON_PLAN_LENGTH 1095
 
-/* Why a sheet or a plan is turned back. 1, a working table too small, cannot occur here: the table is supplied inside. */
+/* Bytes of stack that are enough for a thread that plans, and for one that only judges. Measured on
+ * full sheets (40 strips, 6 + 6 + 6 strips, 8 free blocks or 32 in order) by the bytes of a painted
+ * stack that a call changed: 88,100 for planning, 18,900 for judging. The rest is slack. */
+#define SEVULAMON_PLAN_STACK 131072
+#define SEVULAMON_JUDGE_STACK 32768
+
+#ifdef __cplusplus
+extern "C" {
+#endif
+
+/* Why a sheet or a plan is turned back. 1, a working table too small, cannot occur here: the table
+ * is supplied inside. Where nothing else is said, the place is the offset of the field's tag. */
 enum sevulamon_number {
     SEVULAMON_ACCEPTED = 0,
-    SEVULAMON_BUFFER_TOO_SMALL = 2,   /* place 0 */
-    SEVULAMON_FIELD_CUT = 3,          /* under three bytes left, or content runs past the end */
-    SEVULAMON_TAG_NOT_PERMITTED = 4,  /* also an order field with no block before it */
+    SEVULAMON_BUFFER_TOO_SMALL = 2,  /* place 0 */
+    SEVULAMON_FIELD_CUT = 3,         /* under three bytes left, or content runs past the end */
+    SEVULAMON_TAG_NOT_PERMITTED = 4, /* also an order field with no block before it */
     SEVULAMON_LENGTH_WRONG = 5,
     SEVULAMON_OUT_OF_RANGE = 6,
-    SEVULAMON_TOO_MANY = 7,           /* 41st mosaic strip, 7th for one desk, 33rd block */
-    SEVULAMON_NO_MEMBERS = 8,         /* at the section's head; 0 for the empty sheet */
+    SEVULAMON_TOO_MANY = 7,          /* 41st mosaic strip, 7th for one desk, 33rd block */
+    SEVULAMON_NO_MEMBERS = 8,        /* at the section's head; 0 for the empty sheet */
     SEVULAMON_ORDER_NOT_PROPER = 9,
-    SEVULAMON_ORDER_MISSING = 10,     /* over 8 blocks and no order, at the flight head */
-    SEVULAMON_ORDER_IMPOSSIBLE = 11,  /* no timetable keeps the given order, at the order field */
-    SEVULAMON_LAYOUT_WRONG = 12,      /* judge: the plan's tags, lengths or sections */
-    SEVULAMON_RULE_BROKEN = 13,       /* judge: at the member or the head that breaks a rule */
-    SEVULAMON_FIGURE_UNTRUE = 14      /* judge: at the head that states it */
+    SEVULAMON_ORDER_MISSING = 10,    /* over 8 blocks and no order, at the flight head */
+    SEVULAMON_ORDER_IMPOSSIBLE = 11, /* no timetable keeps the given order, at the order field */
+    SEVULAMON_LAYOUT_WRONG = 12,     /* judge: the plan's tags, lengths or sections */
+    SEVULAMON_RULE_BROKEN = 13,      /* judge: at the member or the head that breaks a rule */
+    SEVULAMON_FIGURE_UNTRUE = 14     /* judge: at the head that states it */
 };
 
-/* What planning answers. Accepted: number 0, place 0 and the plan's length. Refused: the number, the offset of the field named, length 0. */
+/* What planning answers. Accepted: number 0, place 0 and the plan's length. Refused: the number,
+ * the place and length 0. */
 struct sevulamon_answer {
     uint64_t number;
     size_t place;
     size_t length;
 };
 
-/* What judging answers. Allowed: number 0, place 0 and the figure of each section, 0 for an absent one. Else the number, the place and figures 0.
- * The place of 3 to 10 is in the sheet, that of 12 to 14 in the plan. */
+/* What judging answers. Allowed: number 0, place 0 and the figure of each section, 0 for an absent
+ * one. Else the number, the place and figures 0. The place of 3 to 10 is in the sheet, that of 12
+ * to 14 in the plan. */
 struct sevulamon_judged {
     uint64_t number;
     size_t place;
@@ -43,10 +91,24 @@ struct sevulamon_judged {
     uint64_t flight;
 };
 
-/* Plans a sheet. An accepted call writes the plan at the start of the buffer and no byte behind it; a refused one writes nothing. */
-struct sevulamon_answer sevulamon_plan(const uint8_t *sheet, size_t sheet_length, uint8_t *plan, size_t plan_length);
+/* Both functions take any bytes and any lengths, and return for all of them. Nothing is read or
+ * written outside the buffers, so nothing at all through the pointer of a buffer of length 0. The
+ * tests pass a null pointer there; beyond that no promise is made for a null pointer.
+ *
+ * There is no state behind the functions, so threads may call them at once. They may share a buffer
+ * that is only read; a plan buffer belongs to one call at a time. */
 
-/* Judges a plan for a sheet. Writes nothing. */
-struct sevulamon_judged sevulamon_judge(const uint8_t *sheet, size_t sheet_length, const uint8_t *plan, size_t plan_length);
+/* Plans a sheet. An accepted call writes the plan at the start of the buffer and no byte behind it;
+ * a refused one writes nothing. The two buffers must not overlap. */
+struct sevulamon_answer sevulamon_plan(const uint8_t *sheet, size_t sheet_length,
+                                       uint8_t *plan, size_t plan_length);
+
+/* Judges a plan for a sheet. Writes nothing, so its two buffers may overlap. */
+struct sevulamon_judged sevulamon_judge(const uint8_t *sheet, size_t sheet_length,
+                                        const uint8_t *plan, size_t plan_length);
+
+#ifdef __cplusplus
+}
+#endif
 
 #endif

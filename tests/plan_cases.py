@@ -1,28 +1,65 @@
 #!/usr/bin/env python3
 """Runs the program plan_sheet on sheets and compares what it writes: the plan of each worked sheet of 01, and the refusal of every sheet that sheet_cases.py turns back.
+Where a sheet has several best plans, 01 leaves the choice to the program: then the figure of the plan is compared, and the program judge_plan must allow it.
 
-    plan_cases.py PROGRAM
+    plan_cases.py PLANNER JUDGE
 """
+import itertools
+import pathlib
 import subprocess
 import sys
+import tempfile
 
 import judge_cases as judged
 import sheet_cases as sheets
 from judge_cases import batches, four, jobs, passes
-from sheet_cases import block, field, flight, job, order, sorting, word
+from sheet_cases import alternate, block, field, flight, job, mosaic, order, sorting, strip, word
 
 CASES = []
+BEST = []
 
 
 def planned(name, sheet, plan):
     CASES.append((name, sheet, plan))
 
 
+def best(name, sheet, *figures):
+    """A sheet with several best plans, and the figures of its sections that they have: mosaic, sorting, flight."""
+    BEST.append((name, sheet, figures))
+
+
 def refused(name, sheet, number, place):
     CASES.append((name, sheet, field(0xE0, word(number) + four(place))))
 
 
-# The worked sheets of 01 with their best plans. Where two plans have the same figure (1,1 and 1,1 at two desks), 01 leaves the choice open, so none is named here.
+def end_in_order(blocks, order_number):
+    """The end of the last pass of a flight in an order, each pass as early as it can be; None where no timetable keeps the order."""
+    n = len(blocks)
+    seconds = [order_number >> k & 1 for k in range(2 * n)]
+    turns = [(sum(seconds[:k]) if second else k - sum(seconds[:k]), second) for k, second in enumerate(seconds)]
+    starts = [0] * n  # of the first passes
+    start = lambda block, second: starts[block] + (blocks[block][0] + blocks[block][1] if second else 0)
+    for _ in range(n + 1):
+        before = list(starts)
+        for (a, x), (b, y) in zip(turns, turns[1:]):
+            end = start(a, x) + blocks[a][2 if x else 0]
+            starts[b] = max(starts[b], end - (start(b, y) - starts[b]))
+        if starts == before:
+            return max(start(block, 1) + blocks[block][2] for block in range(n))
+    return None
+
+
+def least_end(blocks):
+    """The least end over all proper orders, each tried."""
+    n = len(blocks)
+    ends = []
+    for ones in itertools.combinations(range(2 * n), n):
+        if all(2 * sum(one < k for one in ones) <= k for k in range(2 * n + 1)):
+            ends.append(end_in_order(blocks, sum(1 << one for one in ones)))
+    return min(end for end in ends if end is not None)
+
+
+# The worked sheets of 01 with their best plans.
 planned("the first worked sheet", judged.M, judged.BEST)
 planned("two desks", judged.S, jobs(10, (2, 1, 0, 1), (1, 1, 1, 3)))
 planned("one block", flight() + block(3, 4, 1), passes(8, 2, (0, 7)))
@@ -30,6 +67,26 @@ planned("two blocks", judged.F, passes(5, 0xC, (0, 3), (1, 4)))
 planned("order A", judged.A + order(0xA), passes(9, 0xA, (0, 1), (2, 8)))
 planned("eight blocks and an order", judged.E + order(0xF2C4), passes(30, 0xF2C4, *judged.EIGHT))
 planned("all three sections", judged.ALL, judged.PLAN)
+best("two desks, either first", judged.T, 0, 5, 0)
+
+# Order 3 for two blocks is not proper. Eight blocks without order are planned, nine are 10, and nine with an order are planned.
+refused("order 3 for two blocks", flight() + block() * 2 + order(3), 9, 21)
+# A delay of 0 lets no pass between, so one block follows another: the only best plan.
+apart = lambda n: passes(2 * n, alternate(n), *[(2 * i, 2 * i + 1) for i in range(n)])
+planned("eight blocks without order", flight() + block(1, 0, 1) * 8, apart(8))
+refused("nine blocks without order", flight() + block(1, 0, 1) * 9, 10, 0)
+planned("nine blocks with an order", flight() + block(1, 0, 1) * 9 + order(alternate(9)), apart(9))
+# 16 passes of a second take 16 seconds. A delay of 7 lets them be flown without a gap in one way: all first passes, then all second ones.
+planned("eight blocks without order and without a gap", flight() + block(1, 7, 1) * 8, passes(16, 0xFF00, *[(i, i + 8) for i in range(8)]))
+best("000's eight blocks without order", judged.E, 0, 0, least_end(sheets.EIGHT))
+
+# Time 10,000 in every time: a strip of four stations, a strip of a desk and a block. Each is worked without a wait.
+T = 10_000
+planned(
+    "time 10,000 in every time",
+    mosaic(4, T) + strip(T, T, T, T, T) + sorting(1) + job(1, T, T) + flight() + block(T, T, T),
+    batches(3 * T, (1, T, 3 * T)) + jobs(2 * T, (1, 1, 0, T)) + passes(3 * T, 2, (0, 2 * T)),
+)
 
 # 11 at the order field, also where other sections could be planned.
 refused("order C cannot be kept", judged.A + order(0xC), 11, len(judged.A))
@@ -46,16 +103,36 @@ for name, sheet, line in sheets.CASES:
         refused(name, sheet, number, place)
 
 
-def main(program):
+def written(program, sheet):
+    return subprocess.run([program], input=sheet, stdout=subprocess.PIPE, check=True).stdout
+
+
+def figures_judged(judge, sheet, plan):
+    """What judge_plan writes, as numbers: number, place and the figures."""
+    with tempfile.TemporaryDirectory() as folder:
+        names = [pathlib.Path(folder) / name for name in ("sheet", "plan")]
+        for name, content in zip(names, (sheet, plan)):
+            name.write_bytes(content)
+        lines = subprocess.run([judge, *names], stdout=subprocess.PIPE, check=True).stdout.split()
+    return tuple(map(int, lines[1::2]))
+
+
+def main(program, judge):
     wrong = 0
     for name, sheet, due in CASES:
-        written = subprocess.run([program], input=sheet, stdout=subprocess.PIPE, check=True).stdout
-        if written != due:
+        plan = written(program, sheet)
+        if plan != due:
             wrong += 1
-            print("%s: sheet %s\n  due     %s\n  written %s" % (name, sheet.hex(), due.hex(), written.hex()))
-    print("%d sheets planned or refused by %s, %d wrong" % (len(CASES), program, wrong))
+            print("%s: sheet %s\n  due     %s\n  written %s" % (name, sheet.hex(), due.hex(), plan.hex()))
+    for name, sheet, figures in BEST:
+        plan = written(program, sheet)
+        verdict = figures_judged(judge, sheet, plan)
+        if verdict != (0, 0, *figures):
+            wrong += 1
+            print("%s: sheet %s\n  due     figures %s\n  written %s\n  judged  %s" % (name, sheet.hex(), figures, plan.hex(), verdict))
+    print("%d sheets planned or refused by %s, %d wrong" % (len(CASES) + len(BEST), program, wrong))
     sys.exit(1 if wrong else 0)
 
 
 if __name__ == "__main__":
-    main(sys.argv[1])
+    main(*sys.argv[1:])

@@ -1,13 +1,14 @@
 -- An accepted call has written the plan, and a refused one nothing, so that the field of the refusal is all that is written.
-use Prim.Native.Nat.{ℕ, _-_, _≤_}
+use Prim.Native.Nat.{ℕ, _≤_}
 use mathlib.Core.Path.{_≡_, refl, sym, ap, _∙_}
 use mathlib.Core.Bool.{Bool, true, false}
 use mathlib.Core.List.{List, []}
 use native.Mathlib.Omega.{arith}
-use lib.ListN.{length, take, drop, length-append}
+use lib.ListN.{length, drop, length-append}
 use lib.Seq.{length-take-le}
 use lib.Dec.{eqb}
 use borrow.Author.Tests.{le-ltb, eq-eqb, ne-eqb}
+use Rattle.io.specs.Counts.{Counts}
 use Rattle.field.specs.Put.{holding, holding-none}
 use Rattle.sheet.specs.Limits.{tableLength, planLength}
 use Rattle.sheet.specs.Read.{readSheet}
@@ -48,6 +49,12 @@ fits : (bytes before after : List ℕ) → after ≡ holding bytes before → le
 unfolding holding
 fits bytes before after e = omega (arith, ap length e ∙ length-append bytes (drop (length bytes) before))
 
+counted : (bytes before after : List ℕ) (r : ℕ) → after ≡ holding bytes before → r ≡ length bytes → Counts r after
+counted bytes before after r e long = (within, sym (length-take-le r after within))
+  where
+    within : r ≤ length after
+    within = omega (arith, long, fits bytes before after e)
+
 module _ (sheet out table after tableEnd : List ℕ) (a : Answer) (asked : Asked out table) (called : Called sheet out table after tableEnd a) where
   answer-is : a ≡ sheetAnswer (readSheet sheet)
   unfolding answerOf
@@ -61,7 +68,7 @@ module _ (sheet out table after tableEnd : List ℕ) (a : Answer) (asked : Asked
   number-is = ap (λ (x : Answer). x .number) (sym answer-is)
 
   pub reply-plan : a .number ≡ 0 → Replied sheet out after (a .length)
-  reply-plan z = record { buffer = plan-is ∙ ap (λ (l : List ℕ). holding l out) (sym bytes); length-is = long; within = omega (arith, long, fits (replyBytes sheet) out after (plan-is ∙ ap (λ (l : List ℕ). holding l out) (sym bytes))) }
+  reply-plan z = record { buffer = plan-is ∙ ap (λ (l : List ℕ). holding l out) (sym bytes); length-is = long; counts = counted (replyBytes sheet) out after (a .length) (plan-is ∙ ap (λ (l : List ℕ). holding l out) (sym bytes)) long }
     where
       bytes : replyBytes sheet ≡ sheetPlan (readSheet sheet)
       bytes = reply-accepted sheet (number-is ∙ z)
@@ -75,7 +82,7 @@ module _ (sheet out table after tableEnd : List ℕ) (a : Answer) (asked : Asked
 
     pub reply-refused : (end : List ℕ) → end ≡ holding (refusalBytes (a .number) (a .place)) after → Replied sheet out end 9
     reply-refused end e =
-        record { buffer = buffer; length-is = long; within = omega (arith, long, fits (replyBytes sheet) out end buffer) }
+        record { buffer = buffer; length-is = long; counts = counted (replyBytes sheet) out end 9 buffer long }
       where
         bytes : refusalBytes (a .number) (a .place) ≡ replyBytes sheet
         bytes = ap (λ (x : Answer). refusalBytes (x .number) (x .place)) answer-is ∙ sym (reply-turned-back sheet (λ e. z (sym number-is ∙ e)))
@@ -85,7 +92,3 @@ module _ (sheet out table after tableEnd : List ℕ) (a : Answer) (asked : Asked
 
         long : 9 ≡ length (replyBytes sheet)
         long = sym (length-refusal (a .number) (a .place)) ∙ ap length bytes
-
--- a part of a buffer has the length that it is lent by
-pub part-counted : (n : ℕ) (out : List ℕ) → n ≤ length out → n ≡ length (take n out)
-part-counted n out h = sym (length-take-le n out h)

@@ -5,6 +5,7 @@ use mathlib.Core.Bool.{cond}
 use mathlib.Core.List.{List}
 use lib.ListN.{length}
 use lib.Dec.{eqb}
+use Rattle.io.specs.Counts.{Counts}
 use Rattle.field.specs.Put.{holding}
 use Rattle.sheet.specs.Limits.{tableLength, planLength}
 use Rattle.sheet.specs.Read.{readSheet}
@@ -24,4 +25,4 @@ pub record Asked (out table : List ℕ) : Type 0 where
 pub record Replied (sheet out after : List ℕ) (r : ℕ) : Type 0 where
   pub buffer : after ≡ holding (replyBytes sheet) out
   pub length-is : r ≡ length (replyBytes sheet)
-  pub within : r ≤ length after
+  pub counts : Counts r after

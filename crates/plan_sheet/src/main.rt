@@ -1,4 +1,6 @@
 // Reads a sheet from standard input, at most its first 65,536 bytes, and writes its plan, or the field of its refusal.
+use sheet::limits::PLAN_LENGTH;
+use sheet::limits::TABLE_LENGTH;
 ghost use Rattle.plan_sheet.specs.Reply.{Asked, Replied};
 
 // What the program writes for a sheet, at the start of a plan buffer. Returns its length.
@@ -15,10 +17,17 @@ fn reply(sheet: &[u8], out: &mut [u8], table: &mut [u64]) -> usize
 }
 
 fn main() {
+    if !files::started_with(os::arg_count(), 1, b"usage: plan_sheet < SHEET > PLAN\n") {
+        return;
+    }
     let mut buffer = io::large_buffer();
-    let length = io::read_full(0, &mut buffer);
-    let mut out = [0u8; 1_095];
-    let mut table = [0u64; 6_400];
+    let input = files::read_whole(0, b"plan_sheet", b"standard input", &mut buffer);
+    if input.failed {
+        return;
+    }
+    let length = input.length;
+    let mut out = [0u8; PLAN_LENGTH];
+    let mut table = [0u64; TABLE_LENGTH];
     let written = reply(&buffer[..length], &mut out, &mut table);
-    io::write_all(1, &out[..written]);
+    files::write_output(b"plan_sheet", &out[..written]);
 }

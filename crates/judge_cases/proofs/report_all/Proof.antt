@@ -92,6 +92,9 @@ part-report-end-2 c = search needs
 report-requires : tie.Need-report-requires Inv-loop μ-loop
 report-requires c κs = search needs
 
+returns-3 : tie.Need-returns-3 Inv-loop μ-loop
+returns-3 c = search needs
+
 add-at : tie.Need-add-at Inv-loop μ-loop
 add-at c = search needs
 
@@ -107,8 +110,8 @@ loop-less c = search needs
 loop-again : tie.Need-loop-again Inv-loop μ-loop
 loop-again c = search needs
 
-returns-3 : tie.Need-returns-3 Inv-loop μ-loop
-returns-3 c = search needs
+returns-4 : tie.Need-returns-4 Inv-loop μ-loop
+returns-4 c = search needs
 
 pub report-all-spec : {M : Type 1} → statement M
 report-all-spec =
@@ -143,9 +146,10 @@ report-all-spec =
     part-report-start-2
     part-report-end-2
     report-requires
+    returns-3
     add-at
     add-at-2
     add-at-3
     loop-less
     loop-again
-    returns-3)
+    returns-4)

@@ -47,6 +47,9 @@ part-report-end c = search needs
 report-requires : tie.Need-report-requires Inv-loop μ-loop
 report-requires c κs = search needs
 
+returns-2 : tie.Need-returns-2 Inv-loop μ-loop
+returns-2 c = search needs
+
 add-at : tie.Need-add-at Inv-loop μ-loop
 add-at c = search needs
 
@@ -59,8 +62,8 @@ loop-less c = search needs
 loop-again : tie.Need-loop-again Inv-loop μ-loop
 loop-again c = search needs
 
-returns-2 : tie.Need-returns-2 Inv-loop μ-loop
-returns-2 c = search needs
+returns-3 : tie.Need-returns-3 Inv-loop μ-loop
+returns-3 c = search needs
 
 pub report-all-spec : {M : Type 1} → statement M
 report-all-spec =
@@ -80,8 +83,9 @@ report-all-spec =
     part-report-start
     part-report-end
     report-requires
+    returns-2
     add-at
     add-at-2
     loop-less
     loop-again
-    returns-2)
+    returns-3)

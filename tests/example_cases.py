@@ -1,0 +1,89 @@
+#!/usr/bin/env python3
+"""Compares the files of examples/ and the worked sheets of docs/FORMAT.md with each other and with what the programs write.
+
+Every .sheet has a .txt with its bytes, one field a line; every .plan is what plan_sheet writes for its sheet, every .timetable what the viewer prints;
+and the bytes of each file that docs/FORMAT.md shows, with their offsets, are those of the file.
+
+    example_cases.py PLANNER VIEWER
+"""
+import pathlib
+import re
+import subprocess
+import sys
+
+ROOT = pathlib.Path(__file__).resolve().parent.parent
+EXAMPLES = ROOT / "examples"
+FIELD = re.compile(r"[0-9A-F]{2}(?: [0-9A-F]{2})*")
+SHOWN = re.compile(r"`examples/(\S+)`:")
+SHOWN_FIELD = re.compile(r" +(\d+)  ([0-9A-F]{2}(?: [0-9A-F]{2})*)  ")
+
+wrong = []
+
+
+def compare(what, found, due):
+    if found != due:
+        wrong.append("%s\n  due   %r\n  found %r" % (what, due, found))
+
+
+def fields(text):
+    """The bytes of the lines that are a field in hexadecimal; other lines are words."""
+    return bytes.fromhex("".join(line for line in text.splitlines() if FIELD.fullmatch(line)))
+
+
+def field_lengths(sheet):
+    """The length of each field with its tag and length."""
+    at = 0
+    while at < len(sheet):
+        yield 3 + int.from_bytes(sheet[at + 1 : at + 3], "little")
+        at += 3 + int.from_bytes(sheet[at + 1 : at + 3], "little")
+
+
+def compare_sheets():
+    texts = sorted(path.stem for path in EXAMPLES.glob("*.txt"))
+    compare("a text for each sheet", texts, sorted(path.stem for path in EXAMPLES.glob("*.sheet")))
+    for name in texts:
+        sheet = (EXAMPLES / (name + ".sheet")).read_bytes()
+        text = (EXAMPLES / (name + ".txt")).read_text()
+        compare("%s.txt" % name, fields(text), sheet)
+        lines = [line for line in text.splitlines() if FIELD.fullmatch(line)]
+        compare("%s.txt: one field a line" % name, [len(bytes.fromhex(line)) for line in lines], list(field_lengths(sheet)))
+    return len(texts)
+
+
+def compare_written(ending, written):
+    """Each file of an ending with what a program writes for its sheet."""
+    paths = sorted(EXAMPLES.glob("*" + ending))
+    for path in paths:
+        compare(path.name, written(path.with_suffix(".sheet")), path.read_bytes())
+    return len(paths)
+
+
+def shown_files():
+    """The bytes of each file that docs/FORMAT.md shows. The offset of a field must be the number of bytes before it."""
+    shown, name = {}, None
+    for line in (ROOT / "docs" / "FORMAT.md").read_text().splitlines():
+        if SHOWN.fullmatch(line):
+            name = SHOWN.fullmatch(line).group(1)
+            shown[name] = b""
+        elif SHOWN_FIELD.match(line):
+            offset, content = SHOWN_FIELD.match(line).groups()
+            compare("docs/FORMAT.md: offset of %s in %s" % (content, name), int(offset), len(shown[name]))
+            shown[name] += bytes.fromhex(content)
+    return shown
+
+
+def main(planner, viewer):
+    sheets = compare_sheets()
+    plans = compare_written(".plan", lambda sheet: subprocess.run([planner], stdin=open(sheet, "rb"), stdout=subprocess.PIPE).stdout)
+    timetables = compare_written(".timetable", lambda sheet: subprocess.run([viewer, sheet], stdout=subprocess.PIPE).stdout)
+    shown = shown_files()
+    for name, content in shown.items():
+        compare("docs/FORMAT.md: %s" % name, content, (EXAMPLES / name).read_bytes())
+    for line in wrong:
+        print(line)
+    print("examples: %d sheets, %d plans, %d timetables, %d files shown in docs/FORMAT.md, %d wrong" % (sheets, plans, timetables, len(shown), len(wrong)))
+    sys.exit(1 if wrong or min(sheets, plans, timetables, len(shown)) == 0 else 0)
+
+
+if __name__ == "__main__":
+    main(*sys.argv[1:])

@@ -1,0 +1,94 @@
+/* Four threads plan and judge the sheets of the given files at once, each on the stack that sevulamon.h names, and must get the answers that one thread
+   gets alone; then four judge on the smaller stack. Buffers of length 0 with a null pointer are tried first. */
+#include "sevulamon.h"
+
+#include <pthread.h>
+#include <stdio.h>
+#include <string.h>
+
+enum { THREADS = 4, MOST_SHEETS = 32, TURNS = 20, MOST_BYTES = 4096 };
+
+struct example {
+    uint8_t sheet[MOST_BYTES], plan[SEVULAMON_PLAN_LENGTH];
+    size_t length;
+    struct sevulamon_answer answer;
+    struct sevulamon_judged judged;
+};
+
+static struct example examples[MOST_SHEETS];
+static size_t count;
+
+static int same_judging(const struct example *e) {
+    struct sevulamon_judged judged = sevulamon_judge(e->sheet, e->length, e->plan, e->answer.length);
+    return memcmp(&judged, &e->judged, sizeof judged) == 0;
+}
+
+static int same_planning(const struct example *e) {
+    uint8_t plan[SEVULAMON_PLAN_LENGTH] = {0};
+    struct sevulamon_answer answer = sevulamon_plan(e->sheet, e->length, plan, sizeof plan);
+    return memcmp(&answer, &e->answer, sizeof answer) == 0 && memcmp(plan, e->plan, sizeof plan) == 0;
+}
+
+/* Threads: each gives back whether an answer was wrong. */
+
+static void *judge_all(void *wrong) {
+    for (size_t i = 0; i < TURNS * count; i++)
+        if (!same_judging(&examples[i % count]))
+            *(int *)wrong = 1;
+    return NULL;
+}
+
+static void *plan_all(void *wrong) {
+    for (size_t i = 0; i < TURNS * count; i++)
+        if (!same_planning(&examples[i % count]))
+            *(int *)wrong = 1;
+    return judge_all(wrong);
+}
+
+static int run_threads(void *(*work)(void *), size_t stack) {
+    pthread_t threads[THREADS];
+    int wrong[THREADS] = {0}, any = 0;
+    pthread_attr_t attributes;
+    if (pthread_attr_init(&attributes) != 0 || pthread_attr_setstacksize(&attributes, stack) != 0)
+        return 1;
+    for (int i = 0; i < THREADS; i++)
+        if (pthread_create(&threads[i], &attributes, work, &wrong[i]) != 0)
+            return 1;
+    for (int i = 0; i < THREADS; i++) {
+        pthread_join(threads[i], NULL);
+        any |= wrong[i];
+    }
+    return any;
+}
+
+static int read_example(struct example *e, const char *name) {
+    FILE *file = fopen(name, "rb");
+    if (file == NULL)
+        return 0;
+    e->length = fread(e->sheet, 1, sizeof e->sheet, file);
+    fclose(file);
+    e->answer = sevulamon_plan(e->sheet, e->length, e->plan, sizeof e->plan);
+    e->judged = sevulamon_judge(e->sheet, e->length, e->plan, e->answer.length);
+    return e->length > 0;
+}
+
+/* The empty sheet is 8, an empty plan 12, and a buffer of length 0 is too small. */
+static int null_pointers_taken(const struct example *e) {
+    uint8_t plan[SEVULAMON_PLAN_LENGTH];
+    return sevulamon_plan(NULL, 0, plan, sizeof plan).number == SEVULAMON_NO_MEMBERS
+        && sevulamon_plan(e->sheet, e->length, NULL, 0).number == SEVULAMON_BUFFER_TOO_SMALL
+        && sevulamon_judge(NULL, 0, e->plan, e->answer.length).number == SEVULAMON_NO_MEMBERS
+        && sevulamon_judge(e->sheet, e->length, NULL, 0).number == SEVULAMON_LAYOUT_WRONG;
+}
+
+int main(int argc, char **argv) {
+    for (int i = 1; i < argc && count < MOST_SHEETS; i++)
+        if (!read_example(&examples[count++], argv[i])) {
+            fprintf(stderr, "%s: cannot be read\n", argv[i]);
+            return 1;
+        }
+    int wrong = count == 0 || !null_pointers_taken(&examples[0]);
+    wrong |= run_threads(plan_all, SEVULAMON_PLAN_STACK) | run_threads(judge_all, SEVULAMON_JUDGE_STACK);
+    printf("%zu sheets planned and judged by %d threads at once: %s\n", count, THREADS, wrong ? "WRONG" : "as by one");
+    return wrong;
+}
