@@ -2,14 +2,14 @@
 use Prim.Native.Nat.{ℕ, _≤_}
 use mathlib.Core.Path.{_≡_, refl, sym, ap, _∙_}
 use mathlib.Core.Bool.{Bool, true, false}
-use mathlib.Core.List.{List, []}
+use mathlib.Core.List.{List}
 use native.Mathlib.Omega.{arith}
 use lib.ListN.{length, drop, length-append}
 use lib.Seq.{length-take-le}
 use lib.Dec.{eqb}
 use borrow.Author.Tests.{le-ltb, eq-eqb, ne-eqb}
 use Rattle.io.specs.Counts.{Counts}
-use Rattle.field.specs.Put.{holding, holding-none}
+use Rattle.field.specs.Put.{holding}
 use Rattle.sheet.specs.Limits.{tableLength, planLength}
 use Rattle.sheet.specs.Read.{readSheet}
 use Rattle.sheet.specs.declared.Sheet.{Sheet}
@@ -17,10 +17,11 @@ use Rattle.rules.specs.Plan.{refusalBytes}
 use Rattle.flight.specs.Choice.{isPossible}
 use Rattle.plan_fields.specs.FieldLaws.{length-refusal}
 use Rattle.planner.specs.Call.{Called, answerOf, plannedBytes, sheetAnswer, sheetPlan}
+use Rattle.planner.specs.Outcomes.{Large, call-refused}
 use Rattle.planner.specs.declared.Answer.{Answer}
-use Rattle.plan_sheet.specs.Reply.{replyBytes, Asked, Replied}
+use Rattle.plan_sheet.specs.Reply.{replyBytes, Replied}
 
--- an accepted sheet's length is its plan's, and a refused sheet has no plan
+-- an accepted sheet's length is its plan's
 length-of : (s : Sheet) (b p : Bool) → eqb (s .number) 0 ≡ b → isPossible (s .flight) ≡ p → sheetAnswer s .number ≡ 0 → sheetAnswer s .length ≡ length (sheetPlan s)
 unfolding sheetAnswer sheetPlan
 length-of s true true e h z = rw (e, h)
@@ -29,12 +30,6 @@ length-of s true false e h z = absurd (eleven (rw (e, h) at z))
     eleven : _≡_ {A = ℕ} 11 0 → ⊥
     eleven z = omega arith
 length-of s false p e h z = rw e
-
-none-of : (s : Sheet) (b p : Bool) → eqb (s .number) 0 ≡ b → isPossible (s .flight) ≡ p → (sheetAnswer s .number ≡ 0 → ⊥) → sheetPlan s ≡ []
-unfolding sheetAnswer sheetPlan
-none-of s true true e h z = absurd (z (rw (e, h)))
-none-of s true false e h z = rw (e, h)
-none-of s false p e h z = rw e
 
 reply-accepted : (sheet : List ℕ) → sheetAnswer (readSheet sheet) .number ≡ 0 → replyBytes sheet ≡ sheetPlan (readSheet sheet)
 unfolding replyBytes
@@ -55,14 +50,14 @@ counted bytes before after r e long = (within, sym (length-take-le r after withi
     within : r ≤ length after
     within = omega (arith, long, fits bytes before after e)
 
-module _ (sheet out table after tableEnd : List ℕ) (a : Answer) (asked : Asked out table) (called : Called sheet out table after tableEnd a) where
+module _ (sheet out table after tableEnd : List ℕ) (a : Answer) (large : Large out table) (called : Called sheet out table after tableEnd a) where
   answer-is : a ≡ sheetAnswer (readSheet sheet)
   unfolding answerOf
-  answer-is = rw (le-ltb (length table) tableLength (asked .size), le-ltb (length out) planLength (asked .room)) at (called .answer)
+  answer-is = rw (le-ltb (length table) tableLength (large .table-large), le-ltb (length out) planLength (large .plan-large)) at (called .answer)
 
   plan-is : after ≡ holding (sheetPlan (readSheet sheet)) out
   unfolding plannedBytes
-  plan-is = rw (le-ltb (length table) tableLength (asked .size), le-ltb (length out) planLength (asked .room)) at (called .buffer)
+  plan-is = rw (le-ltb (length table) tableLength (large .table-large), le-ltb (length out) planLength (large .plan-large)) at (called .buffer)
 
   number-is : sheetAnswer (readSheet sheet) .number ≡ a .number
   number-is = ap (λ (x : Answer). x .number) (sym answer-is)
@@ -78,7 +73,7 @@ module _ (sheet out table after tableEnd : List ℕ) (a : Answer) (asked : Asked
 
   module _ (z : a .number ≡ 0 → ⊥) where
     untouched : after ≡ out
-    untouched = plan-is ∙ ap (λ (l : List ℕ). holding l out) (none-of (readSheet sheet) _ _ refl refl (λ e. z (sym number-is ∙ e))) ∙ sym (holding-none out)
+    untouched = call-refused sheet out table after tableEnd a called z .0
 
     pub reply-refused : (end : List ℕ) → end ≡ holding (refusalBytes (a .number) (a .place)) after → Replied sheet out end 9
     reply-refused end e =

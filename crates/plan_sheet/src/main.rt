@@ -1,11 +1,12 @@
 // Reads a sheet from standard input, at most its first 65,536 bytes, and writes its plan, or the field of its refusal.
 use sheet::limits::PLAN_LENGTH;
 use sheet::limits::TABLE_LENGTH;
-ghost use Rattle.plan_sheet.specs.Reply.{Asked, Replied};
+ghost use Rattle.planner.specs.Outcomes.{Large};
+ghost use Rattle.plan_sheet.specs.Reply.{Replied};
 
 // What the program writes for a sheet, at the start of a plan buffer. Returns its length.
 fn reply(sheet: &[u8], out: &mut [u8], table: &mut [u64]) -> usize
-    requires { ⌜ Asked (now out) (now table) ⌝ }
+    requires { ⌜ Large (now out) (now table) ⌝ }
     ensures { λ r. ⌜ Replied (now (sheet .entry)) (now (out .entry)) (now (out .exit)) r ⌝ }
 {
     let answer = planner::plan(sheet, out, table);
