@@ -45,9 +45,9 @@
 
 /* Bytes of stack that are enough for a thread that plans, and for one that only judges. Measured on
  * full sheets (40 strips, 6 + 6 + 6 strips, 8 free blocks or 32 in order) by the bytes of a painted
- * stack that a call changed: 88,100 for planning, 18,900 for judging. The rest is slack. */
+ * stack that a call changed: 90,700 for planning, 21,500 for judging. The rest is slack. */
 #define SEVULAMON_PLAN_STACK 131072
-#define SEVULAMON_JUDGE_STACK 32768
+#define SEVULAMON_JUDGE_STACK 65536
 
 #ifdef __cplusplus
 extern "C" {
