@@ -8,10 +8,11 @@ use mathlib.Core.Bool.{true}
 use mathlib.Core.List.{List}
 use lib.ListN.{length, drop}
 use native.Mathlib.Omega.{arith}
-use Rattle.sheet.specs.Limits.{tableLength}
+use Rattle.sheet.specs.Limits.{tableLength, planLength}
 use Rattle.sheet.specs.Refusals.{orderImpossible}
 use Rattle.sheet.specs.Read.{readSheet}
 use Rattle.sheet.specs.Theorems.{read-sound}
+use Rattle.sheet.specs.Refused.{RefusedFor, sound-exactly}
 use Rattle.sheet.specs.Decode.{zeros}
 use Rattle.sheet.specs.Stores.{length-zeros}
 use Rattle.sheet.specs.declared.Sheet.{Sheet}
@@ -20,11 +21,11 @@ use Rattle.rules.specs.Sorting.{jobAt}
 use Rattle.rules.specs.Flight.{passesAt}
 use Rattle.rules.specs.Plan.{Plan, AllowedFor}
 use Rattle.rules_laws.specs.ByteLaws.{AreBytes}
-use Rattle.rules_laws.specs.Determined.{plan-determined}
+use Rattle.rules_laws.specs.Determined.{plan-most, plan-determined}
 use Rattle.judge.specs.Judged.{turnedBack, found, judged}
 use Rattle.judge.specs.declared.Judged.{Judged}
 use Rattle.judge_laws.specs.Fault.{Fault}
-use Rattle.judge_laws.specs.Theorems.{FiguresTrue, judge-allows, allowed-judged, allowed-found, judged-figures, fault-judged, judged-fault}
+use Rattle.judge_laws.specs.Theorems.{FiguresTrue, FiguresGiven, judge-allows, allowed-judged, allowed-found, judged-figures, figures-given, fault-judged, judged-fault}
 use Rattle.mosaic.specs.Plan.{lasts}
 use Rattle.planner.specs.Call.{chosenPlan, answer, clearedTo, tableAfter, Called}
 use Rattle.planner.specs.Outcomes.{Large, Accepted, written, call-accepted, call-refused, call-small, call-cleared, ourBytes}
@@ -33,7 +34,14 @@ use Rattle.planner.specs.Theorems.{figureOfMosaic, figureOfSorting, figureOfFli
 use Rattle.planner.specs.declared.Answer.{Answer}
 use Rattle.viewer.specs.Viewed.{Viewed}
 
--- TERMS of demand 3.
+-- TERMS.
+
+-- What an accepted call has written: place 0, as many bytes as the answer says, which have room in a buffer of 1,095 bytes, and nothing behind them.
+pub record WritesPlan (plan planAfter : List ℕ) (r : Answer) : Type 0 where
+  pub place : r .place ≡ 0
+  pub long : length (written r planAfter) ≡ r .length
+  pub most : r .length ≤ planLength
+  pub behind : drop (r .length) planAfter ≡ drop (r .length) plan
 
 -- The figures of a plan are at most those of another, in each section.
 pub record NoneLarger (s : Sheet) (p q : Plan) : Type 0 where
@@ -41,7 +49,7 @@ pub record NoneLarger (s : Sheet) (p q : Plan) : Type 0 where
   pub sorting : figureOfSorting s p ≤ figureOfSorting s q
   pub flight : figureOfFlight s p ≤ figureOfFlight s q
 
--- No allowed plan of the sheet has a smaller figure than q.
+-- No allowed plan of the sheet has a smaller figure, of one section, than q.
 unfoldable pub IsLeast : (Sheet → Plan → ℕ) → (sheet q : List ℕ) → AllowedFor sheet q → Type 0
 IsLeast figure sheet q a = (other : List ℕ) (b : AllowedFor sheet other) → figure (readSheet sheet) (a .allowed .plan) ≤ figure (readSheet sheet) (b .allowed .plan)
 
@@ -50,19 +58,36 @@ pub record BestExactly (figure : Sheet → Plan → ℕ) (sheet ours q : List �
   pub equal-best : figure (readSheet sheet) (a .allowed .plan) ≡ figure (readSheet sheet) (o .allowed .plan) → IsLeast figure sheet q a
   pub best-equal : IsLeast figure sheet q a → figure (readSheet sheet) (a .allowed .plan) ≡ figure (readSheet sheet) (o .allowed .plan)
 
+-- the bytes of an accepted plan have room in the least buffer
+bytes-most : (sheet plan table planAfter : List ℕ) (r : Answer) → Accepted sheet plan table planAfter r → r .length ≤ planLength
+unfolding ourBytes
+bytes-most sheet plan table planAfter r a =
+    omega (
+      arith,
+      a .long,
+      ap length (a .bytes),
+      plan-most (readSheet sheet) (read-sound sheet (a .sound)) (chosenPlan (readSheet sheet)) (plan-lawful sheet (a .sound) (a .possible)),
+    )
+
+-- "A sheet is otherwise sound where no cause that the planner checks it for, 11 apart, lies in it": what is meant by `readSheet sheet .number ≡ 0` below.
+pub otherwise-sound : (sheet : List ℕ) → (readSheet sheet .number ≡ 0 → (number place : ℕ) → RefusedFor sheet number place → ⊥) × (((number place : ℕ) → RefusedFor sheet number place → ⊥) → readSheet sheet .number ≡ 0)
+otherwise-sound = sound-exactly
+
 -- A planning call: the sheet, the plan buffer and the working table at entry, the plan buffer and the table at exit, and the answer.
 module _ (sheet plan table planAfter tableEnd : List ℕ) (r : Answer) (call : Called sheet plan table planAfter tableEnd r) where
   -- DEMAND 1. "Buffers: sheet, plan buffer and working table are after each call exactly as the papers state, for all contents and lengths."
-  -- The sheet is lent for reading, so it is as it was. No function that users call has a `requires`, and each call ends: that is part of every proof.
+  -- The sheet is lent for reading, so it is as it was.
 
   -- "A refused call writes no plan byte;"
   pub refused-writes-nothing : (r .number ≡ 0 → ⊥) → (planAfter ≡ plan) × (r .length ≡ 0)
   refused-writes-nothing = call-refused sheet plan table planAfter tableEnd r call
 
-  -- "an accepted one writes the plan and no byte past it": `written` is as many bytes as the answer says, and behind them the buffer is as it was.
+  -- "an accepted one writes the plan and no byte past it": `written` is as many bytes as the answer says, at most 1,095, and behind them the buffer is as it was.
   -- That they are the plan is demand 3.
-  pub accepted-writes-the-plan : r .number ≡ 0 → (length (written r planAfter) ≡ r .length) × (drop (r .length) planAfter ≡ drop (r .length) plan)
-  accepted-writes-the-plan z = let a = call-accepted sheet plan table planAfter tableEnd r call z in (a .long, a .behind)
+  pub accepted-writes-the-plan : r .number ≡ 0 → WritesPlan plan planAfter r
+  accepted-writes-the-plan z =
+      let a = call-accepted sheet plan table planAfter tableEnd r call z in
+      record { place = a .place; long = a .long; most = bytes-most sheet plan table planAfter r a; behind = a .behind }
 
   -- Where a buffer is too small everything is as it was; else the first 6,400 numbers of the table are zero and the rest unchanged, after every call.
   pub small-leaves-everything : (Large plan table → ⊥) → (planAfter ≡ plan) × (tableEnd ≡ table)
@@ -77,6 +102,7 @@ module _ (sheet plan table planAfter tableEnd : List ℕ) (r : Answer) (call : C
 
   pub not-turned-back-otherwise : (r .number ≡ 0 → ⊥) → TurnedBack sheet plan table (r .number) (r .place)
   not-turned-back-otherwise = turned-back-only sheet plan table planAfter tableEnd r call
+  -- "Callers owe us no check, and each call ends": no function that users call has a `requires`, and that a call ends is part of its proof.
 
 -- DEMAND 2. "The judge follows the rules alone:" no crate of the planner is beneath it (crates.txt). A judging call: the sheet, the plan and the answer.
 module _ (sheet plan : List ℕ) (j : Judged) (call : j ≡ judged sheet plan) where
@@ -86,6 +112,10 @@ module _ (sheet plan : List ℕ) (j : Judged) (call : j ≡ judged sheet plan) w
     ap (λ (x : Judged). x .number) call ∙ allowed-judged sheet plan a,
     subst (FiguresTrue (readSheet sheet) (a .allowed .plan)) (sym call) (judged-figures sheet plan a),
   )
+
+  -- 01: "the figure of each section, 0 for an absent section (a present figure is at least 1)"
+  pub figure-of-each-section : AllowedFor sheet plan → FiguresGiven (readSheet sheet) j
+  figure-of-each-section a = subst (FiguresGiven (readSheet sheet)) (sym call) (figures-given sheet plan a)
 
   -- "and turns back every other": what it allows is allowed by the rules. A plan is a row of bytes.
   pub allows-nothing-else : AreBytes plan → j .number ≡ 0 → AllowedFor sheet plan
@@ -113,8 +143,8 @@ module _ (sheet plan table planAfter tableEnd : List ℕ) (r : Answer) (call : C
       }
 
   -- Demand 2, its last sentence: "Each plan that we write, it allows", with the figures that the plan states ..
-  pub our-plan-judged : judged sheet (written r planAfter) ≡ found (readSheet sheet) (written r planAfter)
-  our-plan-judged = allowed-found sheet (written r planAfter) chosen
+  pub our-plan-judged : (judged sheet (written r planAfter) .number ≡ 0) × (judged sheet (written r planAfter) ≡ found (readSheet sheet) (written r planAfter))
+  our-plan-judged = (allowed-judged sheet (written r planAfter) chosen, allowed-found sheet (written r planAfter) chosen)
 
   -- .. and those are the true ones.
   pub our-figures-true : (ours : AllowedFor sheet (written r planAfter)) → FiguresTrue (readSheet sheet) (ours .allowed .plan) (judged sheet (written r planAfter))
@@ -160,7 +190,7 @@ module _ (sheet plan table planAfter tableEnd : List ℕ) (r : Answer) (call : C
         same : (i j : ℕ) → i ≤ j → j ≤ i → i ≡ j
         same i j h k = omega arith
 
-    -- and literally best, section by section: another plan is best there exactly where its figure equals ours.
+    -- More exactly, section by section: another plan is best there exactly where its figure equals ours.
     pub best-exactly-mosaic : BestExactly figureOfMosaic sheet (written r planAfter) q ours a
     best-exactly-mosaic = best-exactly figureOfMosaic (plan-least-mosaic sheet (a .sound))
 

@@ -1,7 +1,7 @@
 -- 12 in the words of 01: "plan's tags, lengths or sections wrong", at the "first wrong plan field (plan length if the plan ends before its last section)".
 -- Which field is due where follows from "The plan": "Sections are the sheet's, in its order", each its head and then its members.
 -- Sections are numbered 1, mosaic; 2, sorting; 3, flight; 0 stands for the start of the plan.
-use Prim.Native.Nat.{ℕ, zero, suc, _+_, _≤_, _<_}
+use Prim.Native.Nat.{ℕ, zero, suc, _+_, _*_, _≤_, _<_}
 use mathlib.Core.Path.{_≡_}
 use mathlib.Core.Bool.{true, cond}
 use mathlib.Core.List.{List}
@@ -59,3 +59,13 @@ pub record LaidOut (s : Sheet) (plan : List ℕ) : Type 0 where
   pub section : ℕ
   pub due : DueUpTo s plan fields (length plan) section
   pub last : (j : ℕ) → NextSection s section j → ⊥
+
+-- Section k of a plan: its head stands where it is due, behind it so many of its members, and no further one.
+pub record SectionAt (s : Sheet) (plan : List ℕ) (k head members : ℕ) : Type 0 where
+  pub fields : ℕ
+  pub before : ℕ
+  pub due : DueUpTo s plan fields head before
+  pub next : NextSection s before k
+  pub head-there : fieldAt plan head ≡ Whole (headTag k) (headLength k)
+  pub members-there : (i : ℕ) → i < members → fieldAt plan (head + (3 + headLength k) + (3 + memberLength k) * i) ≡ Whole (memberTag k) (memberLength k)
+  pub no-more : fieldAt plan (head + (3 + headLength k) + members * (3 + memberLength k)) ≡ Whole (memberTag k) (memberLength k) → ⊥

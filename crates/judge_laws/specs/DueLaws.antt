@@ -21,9 +21,10 @@ use Rattle.judge_layout.specs.Laws.{is-field-true}
 use Rattle.judge_layout.specs.declared.Part.{Part}
 use Rattle.judge_layout.specs.declared.Verdict.{Verdict}
 use Rattle.judge_members.specs.Members.{present}
-use Rattle.judge_laws.specs.Laid.{is-field}
+use Rattle.judge.specs.Judged.{pickPart, partAt}
+use Rattle.judge_laws.specs.Laid.{is-field, run-each}
 use Rattle.judge_laws.specs.Outcomes.{LayoutRight, layout-right}
-use Rattle.judge_laws.specs.Due.{headTag, headLength, memberTag, memberLength, NextSection, Due, DueUpTo, NoneDue, LayoutFault, LaidOut}
+use Rattle.judge_laws.specs.Due.{headTag, headLength, memberTag, memberLength, NextSection, Due, DueUpTo, NoneDue, LayoutFault, LaidOut, SectionAt}
 
 -- no field stands at the end of a plan or behind it
 end-none : (plan : List ℕ) (at tag len : ℕ) → length plan ≤ at → isField (fieldAt plan at) tag len ≡ false
@@ -98,7 +99,7 @@ part-case s plan at j = go (present s j) refl (isField (fieldAt plan at) (headTa
     go true p true h = PartCase.found p h
 
 module _ (s : Sheet) (plan : List ℕ) where
-  -- The parts up to section k are right and end at the offset: i is the last of them that is present, and no further member of it follows.
+  -- The parts up to section k are right and end at the offset: `section` is the last of them that is present, and no further member of it follows.
   record Standing (k at : ℕ) : Type 0 where
     pub section : ℕ
     pub fields : ℕ
@@ -181,6 +182,22 @@ module _ (s : Sheet) (plan : List ℕ) where
     part-fault l p (PartCase.no-head a h) r = head-missing l a h (decLt at (length plan))
     part-fault l p (PartCase.found a h) r = absurd (true≢false r)
 
+  -- a section that is found stands where it is due
+  section-found : (k at : ℕ) → Standing k at → k < 3 → (p : Part) → PartCase s plan at (suc k) p → p .right ≡ true → present s (suc k) ≡ true → SectionAt s plan (suc k) (p .head) (p .members)
+  unfolding partFrom
+  section-found k at st l p (PartCase.absent a) r h = absurd (true≢false (sym h ∙ a))
+  section-found k at st l p (PartCase.no-head a n) r h = absurd (true≢false (sym r))
+  section-found k at st l p (PartCase.found a f) r h =
+      record {
+        fields = st .fields;
+        before = st .section;
+        due = st .due;
+        next = next-section k at st l h;
+        head-there = is-field-true (fieldAt plan at) (headTag (suc k)) (headLength (suc k)) f;
+        members-there = run-each (length plan) plan (at + (3 + headLength (suc k))) (memberTag (suc k)) (memberLength (suc k));
+        no-more = λ e. true≢false (sym (is-field _ (memberTag (suc k)) (memberLength (suc k)) e) ∙ run-stops (length plan) plan (at + (3 + headLength (suc k))) (memberTag (suc k)) (memberLength (suc k)) (omega arith));
+      }
+
   -- behind the last section no section is left ..
   none-left : (at : ℕ) (st : Standing 3 at) (j : ℕ) → NextSection s (st .section) j → ⊥
   none-left at st j x = st .none-between j (x .behind) (x .known) (x .there)
@@ -218,6 +235,15 @@ module _ (s : Sheet) (plan : List ℕ) where
 
   after-flight : mosaicPart s plan .right ≡ true → sortingPart s plan .right ≡ true → flightPart s plan .right ≡ true → Standing 3 (flightPart s plan .end)
   after-flight m o r = part-passed 2 (sortingPart s plan .end) (after-sorting m o) (omega arith) (flightPart s plan) flight-case r
+
+  -- Where the layout is right, the head and the members that the judge takes for a section's are those that are due.
+  part-due : LayoutRight s plan → (k : ℕ) → 1 ≤ k → k ≤ 3 → present s k ≡ true → SectionAt s plan k (partAt s plan k .head) (partAt s plan k .members)
+  unfolding partAt pickPart
+  part-due r zero lo hi h = absurd (omega arith)
+  part-due r (suc zero) lo hi h = section-found 0 0 stand-start (omega arith) (mosaicPart s plan) mosaic-case (r .mosaic) h
+  part-due r (suc (suc zero)) lo hi h = section-found 1 (mosaicPart s plan .end) (after-mosaic (r .mosaic)) (omega arith) (sortingPart s plan) sorting-case (r .sorting) h
+  part-due r (suc (suc (suc zero))) lo hi h = section-found 2 (sortingPart s plan .end) (after-sorting (r .mosaic) (r .sorting)) (omega arith) (flightPart s plan) flight-case (r .flight) h
+  part-due r (suc (suc (suc (suc k)))) lo hi h = absurd (omega arith)
 
   -- the number is 12 at a fault of the layout ..
   pub layout-fault : (layoutVerdict s plan .number ≡ 0 → ⊥) → (layoutVerdict s plan .number ≡ layoutWrong) × LayoutFault s plan (layoutVerdict s plan .place)
@@ -355,3 +381,7 @@ module _ (s : Sheet) (plan : List ℕ) where
       go : Dec (layoutVerdict s plan .number ≡ 0) → LayoutRight s plan
       go (yes z) = layout-right s plan z
       go (no n) = absurd (right-no-fault (layoutVerdict s plan .place) r (layout-fault s plan n .1))
+
+  -- The places of 13 and 14: in a plan that is laid out right, a section's head and members, as the judge counts them, are those that are due (SectionAt).
+  pub section-due : LaidOut s plan → (k : ℕ) → 1 ≤ k → k ≤ 3 → present s k ≡ true → SectionAt s plan k (partAt s plan k .head) (partAt s plan k .members)
+  section-due r = part-due s plan (laid-out-right r)

@@ -1,5 +1,6 @@
 -- The faults that the judge names, each with its number and its place (01, "Turned back"). "It checks the sheet (3 to 10), then all of 12, then section by section
 -- 13 on its members in order, 13 at its head, then 14." What a member and a head are judged by are the rules as they run over the members (rules, Running.antt).
+-- Where a section's head and members stand is `partAt`, the judge's count; that they are the fields which are due there is `section-due` (DueLaws.antt).
 use Prim.Native.Nat.{ℕ, _+_, _≤_, _<_}
 use mathlib.Core.Path.{_≡_}
 use mathlib.Core.Bool.{true, false, cond}
@@ -7,6 +8,7 @@ use mathlib.Core.List.{List}
 use lib.Dec.{eqb}
 use Rattle.sheet.specs.Refusals.{layoutWrong, ruleBroken, figureUntrue}
 use Rattle.sheet.specs.Read.{readSheet}
+use Rattle.sheet.specs.Refused.{RefusedFor}
 use Rattle.sheet.specs.declared.Sheet.{Sheet}
 use Rattle.rules.specs.Mosaic.{mosaicFigure}
 use Rattle.rules.specs.Sorting.{sortingFigure}
@@ -69,7 +71,8 @@ pub data SectionFault (s : Sheet) (plan : List ℕ) (section : ℕ) : ℕ → �
 
 -- the first fault of a sheet and a plan
 pub data Fault (sheet plan : List ℕ) : ℕ → ℕ → Type 0 where
-  in-sheet : {number place : ℕ} → (readSheet sheet .number ≡ 0 → ⊥) → number ≡ readSheet sheet .number → place ≡ readSheet sheet .place → Fault sheet plan number place
+  -- 3 to 10: a cause of the sheet, at the first field that has one (sheet, Table.antt)
+  in-sheet : {number place : ℕ} → RefusedFor sheet number place → Fault sheet plan number place
   in-layout : {number place : ℕ} → readSheet sheet .number ≡ 0 → LayoutFault (readSheet sheet) plan place → number ≡ layoutWrong → Fault sheet plan number place
   in-section : {number place : ℕ} (section : ℕ) → readSheet sheet .number ≡ 0 → LaidOut (readSheet sheet) plan → 1 ≤ section → section ≤ 3
       → ((i : ℕ) → 1 ≤ i → i < section → present (readSheet sheet) i ≡ true → (n p : ℕ) → SectionFault (readSheet sheet) plan i n p → ⊥)

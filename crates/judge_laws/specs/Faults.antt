@@ -11,7 +11,8 @@ use borrow.Author.Tests.{ne-eqb, eqb-false}
 use Rattle.field.specs.Branch.{check}
 use Rattle.order.specs.Order.{Decides}
 use Rattle.sheet.specs.Refusals.{layoutWrong, ruleBroken, figureUntrue}
-use Rattle.sheet.specs.Read.{readSheet}
+use Rattle.sheet.specs.Read.{readSheet, refused}
+use Rattle.sheet.specs.Refused.{RefusedFor, refused-for, refused-is, sound-exactly}
 use Rattle.sheet.specs.declared.Sheet.{Sheet}
 use Rattle.rules.specs.PlanRead.{figureFrom}
 use Rattle.judge_layout.specs.Layout.{verdict, layoutVerdict}
@@ -203,7 +204,7 @@ module _ (sheet plan : List ℕ) where
   turned-back-fault h = go (ℕ-discrete _ 0) (ℕ-discrete _ 0) (ℕ-discrete _ 0)
     where
       go : Dec (readSheet sheet .number ≡ 0) → Dec (layoutVerdict (readSheet sheet) plan .number ≡ 0) → Dec (sectionsFrom 3 (readSheet sheet) plan 1 .number ≡ 0) → Fault sheet plan (judged sheet plan .number) (judged sheet plan .place)
-      go (no n) b c = turned _ _ (sheet-refused n) (Fault.in-sheet n refl refl)
+      go (no n) b c = turned _ _ (sheet-refused n) (Fault.in-sheet (refused-for sheet n))
       go (yes z) (no n) c = let f = layout-fault (readSheet sheet) plan n in turned _ _ (layout-refused z n) (Fault.in-layout z (f .1) (f .0))
       go (yes z) (yes y) (no n) =
           let f = first-fault (readSheet sheet) plan n in
@@ -220,8 +221,14 @@ module _ (sheet plan : List ℕ) where
   layout-turned-back place z e =
       layout-refused z (λ q. let y : _≡_ {A = ℕ} layoutWrong 0 = sym (ap (λ (v : Verdict). v .number) e) ∙ q in omega arith) ∙ ap (λ (v : Verdict). turnedBack (v .number) (v .place)) e
 
+  cause-turned-back : (number place : ℕ) → RefusedFor sheet number place → judged sheet plan ≡ turnedBack number place
+  unfolding refused
+  cause-turned-back number place f =
+      let e : readSheet sheet ≡ refused number place = refused-is sheet number place f in
+      sheet-refused (λ z. sound-exactly sheet .0 z number place f) ∙ ap (λ (x : Sheet). turnedBack (x .number) (x .place)) e
+
   pub fault-turned-back : (number place : ℕ) → Fault sheet plan number place → judged sheet plan ≡ turnedBack number place
-  fault-turned-back number place (Fault.in-sheet n en ep) = sheet-refused n ∙ sym (ap₂ turnedBack en ep)
+  fault-turned-back number place (Fault.in-sheet f) = cause-turned-back number place f
   fault-turned-back number place (Fault.in-layout z f en) =
       layout-turned-back place z (layout-fault-is (readSheet sheet) plan place f) ∙ sym (ap (λ (k : ℕ). turnedBack k place) en)
   fault-turned-back number place (Fault.in-section section z l low high before there f) =

@@ -36,7 +36,7 @@ other-field plan at tag len h = go (isField (fieldAt plan at) tag len) refl
 next-member : (at size i : ℕ) → at + size + size * i ≡ at + size * suc i
 next-member at size i = omega (arith, mul-suc size i)
 
-run-each : (turns : ℕ) (plan : List ℕ) (at tag len i : ℕ) → i < run turns plan at tag len → fieldAt plan (at + (3 + len) * i) ≡ Whole tag len
+pub run-each : (turns : ℕ) (plan : List ℕ) (at tag len i : ℕ) → i < run turns plan at tag len → fieldAt plan (at + (3 + len) * i) ≡ Whole tag len
 unfolding run
 run-each zero plan at tag len i h = absurd (omega arith)
 run-each (suc turns) plan at tag len i h = go (isField (fieldAt plan at) tag len) refl i h (run-each turns plan (at + (3 + len)) tag len)

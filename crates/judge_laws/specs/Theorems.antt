@@ -1,9 +1,14 @@
 -- The theorems of the judge. It finds no fault exactly in the plans that are allowed for the sheet, and its three figures are then the rules' figures of that plan.
 -- 01: "The judge takes a sheet and a plan and gives the figure of each section, 0 for an absent section".
-use Prim.Native.Nat.{ℕ}
+use Prim.Native.Nat.{ℕ, _≤_, _<_}
 use mathlib.Core.Path.{_≡_, ap, _∙_}
+use mathlib.Core.Bool.{Bool, cond}
 use mathlib.Core.List.{List}
+use native.Mathlib.Omega.{arith}
+use lib.Dec.{ltb}
+use borrow.Author.Tests.{le-ltb}
 use Rattle.sheet.specs.Read.{readSheet}
+use Rattle.sheet.specs.Sound.{stripsInAll}
 use Rattle.sheet.specs.Theorems.{read-sound}
 use Rattle.sheet.specs.declared.Sheet.{Sheet}
 use Rattle.rules.specs.Mosaic.{mosaicFigure}
@@ -11,7 +16,9 @@ use Rattle.rules.specs.Sorting.{sortingFigure}
 use Rattle.rules.specs.Flight.{flightFigure}
 use Rattle.rules.specs.Plan.{Plan, AllowedFor}
 use Rattle.rules_laws.specs.ByteLaws.{AreBytes}
-use Rattle.judge.specs.Judged.{turnedBack, found, judged}
+use Rattle.rules_laws.specs.Fits.{mosaic-figure-least, sorting-figure-least, flight-figure-least}
+use Rattle.judge_members.specs.Members.{present}
+use Rattle.judge.specs.Judged.{statedFigure, turnedBack, found, judged}
 use Rattle.judge.specs.declared.Judged.{Judged}
 use Rattle.judge_laws.specs.Outcomes.{judged-right, right-judged}
 use Rattle.judge_laws.specs.Fault.{Fault}
@@ -55,6 +62,32 @@ judged-figures sheet plan a =
       mosaic = ap (λ (j : Judged). j .mosaic) e ∙ mosaic-figure-stated (readSheet sheet) (w .plan) plan sound (w .lawful) (w .layout);
       sorting = ap (λ (j : Judged). j .sorting) e ∙ sorting-figure-stated (readSheet sheet) (w .plan) plan sound (w .lawful) (w .layout);
       flight = ap (λ (j : Judged). j .flight) e ∙ flight-figure-stated (readSheet sheet) (w .plan) plan sound (w .lawful) (w .layout);
+    }
+
+-- "the figure of each section, 0 for an absent section (a present figure is at least 1)"
+pub record FigureOf (members figure : ℕ) : Type 0 where
+  pub absent : members ≡ 0 → figure ≡ 0
+  pub present : 1 ≤ members → 1 ≤ figure
+
+pub record FiguresGiven (s : Sheet) (j : Judged) : Type 0 where
+  pub mosaic : FigureOf (s .mosaic .strips) (j .mosaic)
+  pub sorting : FigureOf (stripsInAll (s .sorting)) (j .sorting)
+  pub flight : FigureOf (s .flight .blocks) (j .flight)
+
+figure-given : (members figure : ℕ) → (0 < members → 1 ≤ figure) → (stated : ℕ) → figure ≡ cond (ltb 0 members) stated 0 → FigureOf members figure
+figure-given members figure least stated e = record { absent = λ z. e ∙ ap (λ (b : Bool). cond b stated 0) (le-ltb 0 members (omega arith)); present = λ h. least (omega arith) }
+
+pub figures-given : (sheet plan : List ℕ) → AllowedFor sheet plan → FiguresGiven (readSheet sheet) (judged sheet plan)
+unfolding found statedFigure present
+figures-given sheet plan a =
+    let sound = read-sound sheet (a .sound) in
+    let law = a .allowed .lawful in
+    let f = judged-figures sheet plan a in
+    let e = allowed-found sheet plan a in
+    record {
+      mosaic = figure-given _ _ (λ h. rw (f .mosaic) (mosaic-figure-least (readSheet sheet .mosaic) (a .allowed .plan .batches) (sound .mosaic) (law .mosaic) h)) _ (ap (λ (j : Judged). j .mosaic) e);
+      sorting = figure-given _ _ (λ h. rw (f .sorting) (sorting-figure-least (readSheet sheet .sorting) (a .allowed .plan .jobs) (sound .sorting) (law .sorting) h)) _ (ap (λ (j : Judged). j .sorting) e);
+      flight = figure-given _ _ (λ h. rw (f .flight) (flight-figure-least (readSheet sheet .flight) (a .allowed .plan .passes) (sound .flight) (law .flight) h)) _ (ap (λ (j : Judged). j .flight) e);
     }
 
 -- Each number is given with its place where the fault lies, and not otherwise: 3 to 10 in the sheet, 12 only for the layout, 13 at a member or at a head, 14 at a head

@@ -3,6 +3,5 @@
 pub mod Call
 pub mod Outcomes
 pub mod Theorems
-pub mod Refused
 pub mod TurnedBack
 pub mod Laws

@@ -8,10 +8,9 @@ use borrow.Author.Tests.{lt-ltb, le-ltb, eq-eqb, ne-eqb}
 use Rattle.sheet.specs.Limits.{tableLength, planLength}
 use Rattle.sheet.specs.Refusals.{tableTooSmall, bufferTooSmall, orderImpossible}
 use Rattle.sheet.specs.Read.{readSheet, refused}
-use Rattle.sheet.specs.Theorems.{read-refused}
+use Rattle.sheet.specs.Refused.{FromThreeToTen, cause-number, RefusedFor, refused-for, refused-is}
 use Rattle.planner.specs.Call.{answer, sheetAnswer, answerOf, Called}
 use Rattle.planner.specs.Outcomes.{Large, Outcome, call-outcome}
-use Rattle.planner.specs.Refused.{FromThreeToTen, cause-number, RefusedFor, refused-for}
 use Rattle.planner.specs.Theorems.{Impossible, impossible-exactly}
 use Rattle.planner.specs.declared.Answer.{Answer}
 
@@ -39,7 +38,7 @@ module _ (sheet plan table planAfter tableEnd : List ℕ) (r : Answer) (call : C
   turned-back number place (TurnedBack.table-small l en ep) = rw (en, ep) (rw (lt-ltb (length table) tableLength l) at (call .answer))
   turned-back number place (TurnedBack.buffer-small l m en ep) = rw (en, ep) (rw (le-ltb (length table) tableLength l, lt-ltb (length plan) planLength m) at (call .answer))
   turned-back number place (TurnedBack.in-sheet l f) =
-      let e : readSheet sheet ≡ refused number place = read-refused sheet (f .reading) number place (f .reached) (f .cause) in
+      let e : readSheet sheet ≡ refused number place = refused-is sheet number place f in
       by-sheet l ∙ rw (e, ne-eqb number 0 (λ z. some z (cause-number sheet (f .reading) number place (f .cause))))
     where
       some : number ≡ 0 → FromThreeToTen number → ⊥

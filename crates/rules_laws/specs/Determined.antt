@@ -9,6 +9,7 @@ use native.Mathlib.Omega.{arith}
 use lib.ListN.{length, length-append}
 use lib.Dec.{ltb}
 use borrow.Author.Tests.{lt-ltb}
+use Rattle.sheet.specs.Limits.{planLength}
 use Rattle.sheet.specs.Sound.{SheetSound, stripsInAll}
 use Rattle.sheet.specs.declared.Sheet.{Sheet}
 use Rattle.rules.specs.Mosaic.{mosaicFigure}
@@ -45,6 +46,14 @@ present-length n l = go (ltb 0 n)
     go true = refl
     go false = refl
 
+present-most : (n : ℕ) (l : List ℕ) → length (ifPresent n l) ≤ length l
+unfolding ifPresent
+present-most n l = go (ltb 0 n)
+  where
+    go : (b : Bool) → length (cond b l []) ≤ length l
+    go true = omega arith
+    go false = omega arith
+
 no-member : {A : Type 0} (xs : List A) → length xs ≤ 0 → xs ≡ []
 no-member [] h = refl
 no-member (x ∷ xs) h = absurd (omega arith)
@@ -57,6 +66,29 @@ module _ (s : Sheet) (sound : SheetSound s) where
   module _ (p : Plan) (L : PlanLawful s p) where
     pub plan-length : length (planBytes s p) ≡ length (mosaicOf s p) + length (sortingOf s p) + length (flightOf s p)
     plan-length = omega (arith, ap length (plan-is s p), length-append (mosaicOf s p ++ sortingOf s p) (flightOf s p), length-append (mosaicOf s p) (sortingOf s p))
+
+    -- a lawful plan has room in a buffer of 1,095 bytes
+    pub plan-most : length (planBytes s p) ≤ planLength
+    unfolding stripsInAll
+    plan-most =
+        omega (
+          arith,
+          plan-length,
+          present-most (s .mosaic .strips) (mosaicBytes (mosaicFigure (s .mosaic) (p .batches)) (p .batches)),
+          length-mosaic (mosaicFigure (s .mosaic) (p .batches)) (p .batches),
+          batches-most (s .mosaic) (p .batches) (sound .mosaic) (L .mosaic),
+          sound .mosaic .most-strips,
+          present-most (stripsInAll (s .sorting)) (sortingBytes (sortingFigure (s .sorting) (p .jobs)) (p .jobs)),
+          length-sorting (sortingFigure (s .sorting) (p .jobs)) (p .jobs),
+          jobs-all (s .sorting) (p .jobs) (sound .sorting) (L .sorting),
+          sound .sorting .most-strips 0,
+          sound .sorting .most-strips 1,
+          sound .sorting .most-strips 2,
+          present-most (s .flight .blocks) (flightBytes (flightFigure (s .flight) (p .passes)) (p .order) (p .passes)),
+          length-flight (flightFigure (s .flight) (p .passes)) (p .order) (p .passes),
+          L .flight .every-block,
+          sound .flight .most-blocks,
+        )
 
     pub sorting-size : length (sortingOf s p) ≡ cond (ltb 0 (stripsInAll (s .sorting))) (7 + 13 * stripsInAll (s .sorting)) 0
     sorting-size =

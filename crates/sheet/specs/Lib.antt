@@ -8,6 +8,7 @@ pub mod Read
 pub mod Sound
 pub mod Table
 pub mod Theorems
+pub mod Refused
 pub mod Stores
 pub mod Passed
 pub mod SectionLaws

@@ -12,7 +12,7 @@ use Rattle.sheet.specs.declared.MosaicSection.{MosaicSection}
 use Rattle.sheet.specs.declared.Sheet.{Sheet}
 use Rattle.rules.specs.Plan.{Plan, planBytes, AllowedFor}
 use Rattle.planner.specs.Call.{answer, answerOf, plannedBytes}
-use Rattle.planner.specs.Theorems.{figureOfMosaic, figureOfSorting, figureOfFlight}
+use Rattle.planner.specs.Theorems.{figureOfMosaic, figureOfSorting, figureOfFlight, Impossible}
 use Rattle.rules.specs.Mosaic.{ready}
 use Rattle.rules.specs.declared.Batch.{Batch}
 use Rattle.rules.specs.declared.Job.{Job}
@@ -57,10 +57,12 @@ readyTimes m (suc n) j = ready m j ∷ readyTimes m n (j + 1)
 -- the common statement; the planner's call has buffers of the least length
 abbrev pub Says : List ℕ → Claim → Type 0
 Says sheet (ready-at times) = readyTimes (readSheet sheet .mosaic) (length times) 1 ≡ times
-Says sheet (planned p figures) = IsAllowed sheet p figures × NoneBelow sheet figures × (plannedBytes sheet planLength tableLength ≡ planBytes (readSheet sheet) p)
+Says sheet (planned p figures) =
+    IsAllowed sheet p figures × NoneBelow sheet figures
+    × (answerOf sheet planLength tableLength ≡ answer 0 0 (length (planBytes (readSheet sheet) p))) × (plannedBytes sheet planLength tableLength ≡ planBytes (readSheet sheet) p)
 Says sheet (best p figures) = IsAllowed sheet p figures × NoneBelow sheet figures
 Says sheet (allowed p figures) = IsAllowed sheet p figures
-Says sheet (impossible place) = (answerOf sheet planLength tableLength ≡ answer orderImpossible place 0) × ((q : List ℕ) → AllowedFor sheet q → ⊥)
+Says sheet (impossible place) = (answerOf sheet planLength tableLength ≡ answer orderImpossible place 0) × Impossible (readSheet sheet)
 
 pub record Row : Type 0 where
   pub sheet : List ℕ
@@ -109,7 +111,7 @@ table =
     ∷ row fourStrips (allowed (mosaicPlan (batch 1 2 4 ∷ batch 3 7 13 ∷ batch 4 13 15 ∷ [])) (mosaicAlone 45))
     -- "Same, batches 1, 2, 3-4: allowed, 38."
     ∷ row fourStrips (allowed (mosaicPlan (batch 1 2 4 ∷ batch 2 4 8 ∷ batch 4 9 13 ∷ [])) (mosaicAlone 38))
-    -- "Sorting, desk 1 (2,5), desk 2 (1,1): 10, desk 2 first. The other order gives 11."
+    -- "Sorting, desk 1 (2,5), desk 2 (1,1): 10, desk 2 first. The other order gives 11": with every start as early as that order allows
     ∷ row (twoDesks 2 5 1 1) (planned (sortingPlan (job 2 1 0 1 ∷ job 1 1 1 3 ∷ [])) (sortingAlone 10))
     ∷ row (twoDesks 2 5 1 1) (allowed (sortingPlan (job 1 1 0 2 ∷ job 2 1 2 3 ∷ [])) (sortingAlone 11))
     -- "Sorting, two desks, (1,1) each: 5 either way."

@@ -1,9 +1,10 @@
 -- Every row of the table of worked sheets holds. Each is computed from the definitions, and the planner's theorems say what the result means by the rules.
 use Prim.{tt}
 use Prim.Native.Nat.{ℕ}
-use mathlib.Core.Path.{_≡_, refl, sym, subst, ap, _∙_}
-use mathlib.Core.Bool.{Bool, true, false, _&&_, true≢false}
+use mathlib.Core.Path.{_≡_, refl, subst, ap, _∙_}
+use mathlib.Core.Bool.{Bool, true, false, _&&_}
 use mathlib.Core.List.{List, [], _∷_}
+use lib.ListN.{length}
 use Rattle.field.specs.Branch.{both, check}
 use Rattle.sheet.specs.Limits.{tableLength, planLength}
 use Rattle.sheet.specs.Refusals.{orderImpossible}
@@ -12,7 +13,7 @@ use Rattle.sheet.specs.declared.Sheet.{Sheet}
 use Rattle.rules.specs.Plan.{Plan, planBytes, PlanLawful, AllowedFor, membersBytes, batchBytes, mosaicBytes, jobBytes, sortingBytes, passesBytes, flightBytes, ifPresent}
 use Rattle.rules.specs.Tests.{isMosaic, mosaic-decided, isSorting, sorting-decided, isFlight, flight-decided, keepsOrder, keeps-decided, mayHaveOrder, order-decided, allBelow, batchTest, jobTest, jobsTest, blockTest, apartTest, startTest}
 use Rattle.planner.specs.Call.{chosenPlan, answer, answerOf, plannedBytes, sheetAnswer, sheetPlan}
-use Rattle.planner.specs.Theorems.{figureOfMosaic, figureOfSorting, figureOfFlight, Least, lawful-possible, plan-lawful, plan-least-mosaic, plan-least-sorting, plan-least-flight}
+use Rattle.planner.specs.Theorems.{figureOfMosaic, figureOfSorting, figureOfFlight, Least, impossible-exactly, plan-lawful, plan-least-mosaic, plan-least-sorting, plan-least-flight}
 use Rattle.order.specs.Order.{seconds, firsts, neverMoreSeconds, isProper}
 use Rattle.field.specs.Bytes.{numberAt, bytesOf}
 use Rattle.field.specs.Field.{fieldAt, fieldBytes}
@@ -43,10 +44,12 @@ isPlan s p = isMosaic (s .mosaic) (p .batches) && (isSorting (s .sorting) (p .jo
 
 abbrev Computed : List ℕ → Claim → Type 0
 Computed sheet (ready-at times) = Says sheet (ready-at times)
-Computed sheet (planned p figures) = (isPossible (readSheet sheet .flight) ≡ true) × (chosenPlan (readSheet sheet) ≡ p) × (figuresOf (readSheet sheet) p ≡ figures) × (plannedBytes sheet planLength tableLength ≡ planBytes (readSheet sheet) p) × (readSheet sheet .number ≡ 0)
+Computed sheet (planned p figures) =
+    (isPossible (readSheet sheet .flight) ≡ true) × (chosenPlan (readSheet sheet) ≡ p) × (figuresOf (readSheet sheet) p ≡ figures)
+    × (answerOf sheet planLength tableLength ≡ answer 0 0 (length (planBytes (readSheet sheet) p))) × (plannedBytes sheet planLength tableLength ≡ planBytes (readSheet sheet) p) × (readSheet sheet .number ≡ 0)
 Computed sheet (best p figures) = (isPlan (readSheet sheet) p ≡ true) × (figuresOf (readSheet sheet) p ≡ figures) × (figuresOf (readSheet sheet) (chosenPlan (readSheet sheet)) ≡ figures) × (readSheet sheet .number ≡ 0)
 Computed sheet (allowed p figures) = (isPlan (readSheet sheet) p ≡ true) × (figuresOf (readSheet sheet) p ≡ figures) × (readSheet sheet .number ≡ 0)
-Computed sheet (impossible place) = (answerOf sheet planLength tableLength ≡ answer orderImpossible place 0) × (isPossible (readSheet sheet .flight) ≡ false)
+Computed sheet (impossible place) = (answerOf sheet planLength tableLength ≡ answer orderImpossible place 0) × (isPossible (readSheet sheet .flight) ≡ false) × (readSheet sheet .number ≡ 0)
 
 plan-true : (s : Sheet) (p : Plan) → isPlan s p ≡ true → PlanLawful s p
 unfolding isPlan
@@ -79,15 +82,12 @@ ours-allowed : (sheet : List ℕ) (p : Plan) (figures : Figures) → isPossible 
 ours-allowed sheet p figures e c f z =
     record { allows = record { sound = z; allowed = record { plan = p; lawful = subst (PlanLawful (readSheet sheet)) c (plan-lawful sheet z e); layout = refl } }; has = f }
 
-none-allowed : (sheet : List ℕ) → isPossible (readSheet sheet .flight) ≡ false → (q : List ℕ) → AllowedFor sheet q → ⊥
-none-allowed sheet e q a = true≢false (sym (lawful-possible sheet (a .sound) (a .allowed .plan) (a .allowed .lawful)) ∙ e)
-
 says : (sheet : List ℕ) (c : Claim) → Computed sheet c → Says sheet c
 says sheet (ready-at times) c = c
-says sheet (planned p figures) c = (ours-allowed sheet p figures (c .0) (c .1) (c .2) (c .4), none-below sheet figures (ap (figuresOf (readSheet sheet)) (c .1) ∙ c .2), c .3)
+says sheet (planned p figures) c = (ours-allowed sheet p figures (c .0) (c .1) (c .2) (c .5), none-below sheet figures (ap (figuresOf (readSheet sheet)) (c .1) ∙ c .2), c .3, c .4)
 says sheet (best p figures) c = (is-allowed sheet p figures (c .0) (c .1) (c .3), none-below sheet figures (c .2))
 says sheet (allowed p figures) c = is-allowed sheet p figures (c .0) (c .1) (c .2)
-says sheet (impossible place) c = (c .0, none-allowed sheet (c .1))
+says sheet (impossible place) c = (c .0, impossible-exactly sheet (c .2) .0 (c .1))
 
 all-say : (rs : List Row) → All Computed rs → All Says rs
 all-say [] c = tt
@@ -95,7 +95,7 @@ all-say (r ∷ rs) c = (says (r .sheet) (r .claim) (c .0), all-say rs (c .1))
 
 computed : All Computed table × FirstCase
 unfolding readyTimes isPlan figuresOf seconds firsts neverMoreSeconds isProper numberAt bytesOf fieldAt fieldBytes check endsSection sectionFilled fewBlocks orderGiven orderPermitted permitted lengthDue between mosaicHeadInRange stationTimesInRange mosaicStripInRange sortingStripInRange flightBlockInRange inRange hasRoom stripsOfDesk orderProper zeros noMosaic noSorting noFlight withMosaicHead withStationTimes withMosaicStrip withSortingHead withStripAt withSortingStrip withBlock withOrder nextMosaic nextSorting nextFlight nextSection nextMembers nextHead nextReading startReading contentNumber fieldNumber endNumber placeOf refused accepted atEnd readFrom readSheet stripsInAll sumOver greatestOver stationSum ready benchSum noBatch batchAt batchBefore batchSize completion ruleMosaicFigure stripsOf slot scanTime deskTime scanEnd deskFinish noJob jobAt jobsOf ruleSortingFigure noPasses passesAt passStart passTime passEnd passAt ruleFlightFigure allBelow batchTest isMosaic jobTest jobsTest isSorting blockTest apartTest isFlight startTest keepsOrder mayHaveOrder membersBytes batchBytes mosaicBytes jobBytes sortingBytes passesBytes flightBytes ifPresent planBytes mountStart benchStart finishOf leastOpen leastFrom weightOf weightSum instanceOf batchOf chosenOpen chosenFrom chosenBatches sortingInstance listedDesk reached jobOf listed jobsOfList chosenJobs maxOf stepOf keep overDesks branch searchFrom startState firstBest relax relaxed rounds holds leastValues solvable passOf timeOf constraintOf leastStarts possibleIn orderFigure listOf passesFrom leastPasses improves tried searched ordersOf chosenOrder isPossible chosenPasses chosenPlan sheetAnswer sheetPlan answerOf plannedBytes figureOfMosaic figureOfSorting figureOfFlight
-computed = ((refl, ((refl, refl, refl, refl, refl), ((refl, refl, refl), ((refl, refl, refl), ((refl, refl, refl, refl, refl), ((refl, refl, refl), ((refl, refl, refl, refl, refl), ((refl, refl, refl, refl), ((refl, refl, refl, refl, refl), ((refl, refl, refl, refl, refl), ((refl, refl), ((refl, refl, refl, refl, refl), ((refl, refl, refl, refl, refl), tt))))))))))))), (refl, refl))
+computed = ((refl, ((refl, refl, refl, refl, refl, refl), ((refl, refl, refl), ((refl, refl, refl), ((refl, refl, refl, refl, refl, refl), ((refl, refl, refl), ((refl, refl, refl, refl, refl, refl), ((refl, refl, refl, refl), ((refl, refl, refl, refl, refl, refl), ((refl, refl, refl, refl, refl, refl), ((refl, refl, refl), ((refl, refl, refl, refl, refl, refl), ((refl, refl, refl, refl, refl, refl), tt))))))))))))), (refl, refl))
 
 -- What 01 says of the sheets that it works through.
 pub worked : All Says table

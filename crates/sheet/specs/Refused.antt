@@ -1,16 +1,17 @@
--- A sheet is refused by its own checks with a number from 3 to 10: each cause of the table has its number.
+-- A refused sheet has a cause of the table, and its number is one of 3 to 10; a sheet is sound exactly where it has none.
 use Prim.Native.Nat.{ℕ, _≤_}
 use mathlib.Core.Path.{_≡_, sym, ap, subst}
 use mathlib.Core.List.{List}
+use native.Mathlib.Decide.{ℕ-discrete}
 use native.Mathlib.Omega.{arith}
 use Rattle.sheet.specs.Read.{readSheet, refused, accepted}
 use Rattle.sheet.specs.Table.{Reached, Fails, Cause}
 use Rattle.sheet.specs.Table.Fails.{no-members, order-missing, tag-not-permitted, length-wrong, out-of-range, too-many, order-not-proper}
 use Rattle.sheet.specs.Table.Cause.{cut, field, empty-end, order-missing-end}
-use Rattle.sheet.specs.Theorems.{Outcome, read-outcome}
+use Rattle.sheet.specs.Theorems.{Outcome, read-outcome, read-refused}
 use Rattle.sheet.specs.Theorems.Outcome.{is-accepted, is-refused}
 use Rattle.sheet.specs.declared.Reading.{Reading}
 use Rattle.sheet.specs.declared.Sheet.{Sheet}
 
 -- the numbers of the table that a sheet's own checks give
 pub record FromThreeToTen (number : ℕ) : Type 0 where
@@ -46,3 +47,19 @@ outcome-cause s r (is-refused st number place p q e) h =
 
 pub refused-for : (s : List ℕ) → (readSheet s .number ≡ 0 → ⊥) → RefusedFor s (readSheet s .number) (readSheet s .place)
 refused-for s h = outcome-cause s (readSheet s) (read-outcome s) h
+
+-- and where a cause lies, the sheet is refused for it
+pub refused-is : (s : List ℕ) (number place : ℕ) → RefusedFor s number place → readSheet s ≡ refused number place
+refused-is s number place f = read-refused s (f .reading) number place (f .reached) (f .cause)
+
+-- "A sheet is otherwise sound where no cause that the planner checks it for, 11 apart, lies in it"
+pub sound-exactly : (s : List ℕ) → (readSheet s .number ≡ 0 → (number place : ℕ) → RefusedFor s number place → ⊥) × (((number place : ℕ) → RefusedFor s number place → ⊥) → readSheet s .number ≡ 0)
+unfolding refused
+sound-exactly s = (
+  λ z number place f. omega (arith, ap (λ (x : Sheet). x .number) (refused-is s number place f), cause-number s (f .reading) number place (f .cause) .least),
+  λ none. go none (ℕ-discrete (readSheet s .number) 0),
+)
+  where
+    go : ((number place : ℕ) → RefusedFor s number place → ⊥) → Dec (readSheet s .number ≡ 0) → readSheet s .number ≡ 0
+    go none (yes z) = z
+    go none (no n) = absurd (none _ _ (refused-for s n))
