@@ -67,7 +67,9 @@ enum sevulamon_number {
     SEVULAMON_ORDER_NOT_PROPER = 9,
     SEVULAMON_ORDER_MISSING = 10,    /* over 8 blocks and no order, at the flight head */
     SEVULAMON_ORDER_IMPOSSIBLE = 11, /* no timetable keeps the given order, at the order field */
-    SEVULAMON_LAYOUT_WRONG = 12,     /* judge: the plan's tags, lengths or sections */
+    SEVULAMON_LAYOUT_WRONG = 12,     /* judge: the plan's tags, lengths or sections, at the first
+                                        wrong field; at the plan's length where it ends before its
+                                        last section */
     SEVULAMON_RULE_BROKEN = 13,      /* judge: at the member or the head that breaks a rule */
     SEVULAMON_FIGURE_UNTRUE = 14     /* judge: at the head that states it */
 };

@@ -1,5 +1,5 @@
 // 01: "A reader set on the lent sheet gives its fields one after another." The struct holds the lent slice and the offset of a field. The functions over it
-// take it apart and leave the work to `field_at`.
+// take it apart and leave the work to `field_at` and `field_end`.
 ghost use mathlib.Core.Path.{_≡_};
 ghost use Rattle.field.specs.Field.{fieldAt, endOf};
 use super::Field;

@@ -1,4 +1,4 @@
--- What the reader's callees require holds at every turn: a whole field lies within the sheet, and one that passes its checks has room.
+-- What the reader's callees require holds at every step: a whole field lies within the sheet, and one that passes its checks has room.
 use Prim.Native.Nat.{ℕ, suc, _+_, _-_, _*_, _≤_, _<_, _^_}
 use mathlib.Core.Path.{_≡_, refl, sym, _∙_}
 use mathlib.Core.Bool.{Bool, true, false, cond, true≢false}
@@ -25,8 +25,8 @@ use Rattle.sheet.specs.declared.Reading.{Reading}
 use Rattle.sheet.specs.declared.Sheet.{Sheet}
 use Rattle.sheet_checks.specs.FieldPre.{FieldPre}
 use Rattle.sheet_decode.specs.Room.{NextPre}
-use Rattle.sheet_reader.specs.Turn.{firstTurn, ended, goesOn, turnAt, sheetOf}
-use Rattle.sheet_reader.specs.declared.Turn.{Turn}
+use Rattle.sheet_reader.specs.Step.{firstStep, ended, goesOn, stepAt, sheetOf}
+use Rattle.sheet_reader.specs.declared.Step.{Step}
 
 module _ (s : List ℕ) (st : Reading) (tag len : ℕ) (k : Kept s st) (w : st .at + 3 + len ≤ length s) (p : Passed s st tag len) where
   strip-fits : tag ≡ mosaicStripTag → st .mosaic .strips < mostStrips
@@ -74,33 +74,33 @@ module _ (s : List ℕ) (st : Reading) (p : Progress s st) (f : Field) (ef : f �
   pub progress-pre : (number : ℕ) → number ≡ fieldNumber s st tag len → number ≡ 0 → length s * 1 < 2 ^ 63 → NextPre s st tag len
   progress-pre number en hn big = next-pre s st tag len (p .kept) within (passes s st tag len (sym en ∙ hn)) big
 
--- each way out of a turn is the turn's definition
-pub first-turn-is : (st : Reading) → st ≡ startReading → _≡_ {A = Turn} (record { more = true; number = 0; place = 0; reading = st }) firstTurn
-unfolding firstTurn
-first-turn-is st e = rw e
+-- each way out of a step is the step's definition
+pub first-step-is : (st : Reading) → st ≡ startReading → _≡_ {A = Step} (record { more = true; number = 0; place = 0; reading = st }) firstStep
+unfolding firstStep
+first-step-is st e = rw e
 
 module _ (s : List ℕ) (st : Reading) (f : Field) where
-  pub turn-at-end : (number : ℕ) → f ≡ End → number ≡ endNumber (st .section) (st .members)
-      → _≡_ {A = Turn} (record { more = false; number = number; place = st .head; reading = st }) (turnAt s st f)
-  unfolding turnAt ended
-  turn-at-end number e en = rw (e, en)
+  pub step-at-end : (number : ℕ) → f ≡ End → number ≡ endNumber (st .section) (st .members)
+      → _≡_ {A = Step} (record { more = false; number = number; place = st .head; reading = st }) (stepAt s st f)
+  unfolding stepAt ended
+  step-at-end number e en = rw (e, en)
 
-  pub turn-at-cut : f ≡ Cut → _≡_ {A = Turn} (record { more = false; number = 3; place = st .at; reading = st }) (turnAt s st f)
-  unfolding turnAt ended
-  turn-at-cut e = rw e
+  pub step-at-cut : f ≡ Cut → _≡_ {A = Step} (record { more = false; number = 3; place = st .at; reading = st }) (stepAt s st f)
+  unfolding stepAt ended
+  step-at-cut e = rw e
 
   module _ (tag len : ℕ) (e : f ≡ Whole tag len) (number : ℕ) (en : number ≡ fieldNumber s st tag len) where
-    pub turn-at-refused : (place : ℕ) → (number ≡ 0 → ⊥) → place ≡ placeOf number (st .head) (st .at)
-        → _≡_ {A = Turn} (record { more = false; number = number; place = place; reading = st }) (turnAt s st f)
-    unfolding turnAt ended
-    turn-at-refused place h ep = rw (e, ← en, ne-eqb number 0 h, ep)
+    pub step-at-refused : (place : ℕ) → (number ≡ 0 → ⊥) → place ≡ placeOf number (st .head) (st .at)
+        → _≡_ {A = Step} (record { more = false; number = number; place = place; reading = st }) (stepAt s st f)
+    unfolding stepAt ended
+    step-at-refused place h ep = rw (e, ← en, ne-eqb number 0 h, ep)
 
-    pub turn-at-next : (next : Reading) → number ≡ 0 → next ≡ nextReading s st tag len
-        → _≡_ {A = Turn} (record { more = true; number = 0; place = 0; reading = next }) (turnAt s st f)
-    unfolding turnAt goesOn
-    turn-at-next next z h = rw (e, ← en, eq-eqb number 0 z, h)
+    pub step-at-next : (next : Reading) → number ≡ 0 → next ≡ nextReading s st tag len
+        → _≡_ {A = Step} (record { more = true; number = 0; place = 0; reading = next }) (stepAt s st f)
+    unfolding stepAt goesOn
+    step-at-next next z h = rw (e, ← en, eq-eqb number 0 z, h)
 
-module _ (t : Turn) (r : Sheet) where
+module _ (t : Step) (r : Sheet) where
   pub sheet-refused : (t .number ≡ 0 → ⊥) → r ≡ refused (t .number) (t .place) → r ≡ sheetOf t
   unfolding sheetOf
   sheet-refused h e = rw (ne-eqb (t .number) 0 h) e
@@ -109,38 +109,38 @@ module _ (t : Turn) (r : Sheet) where
   unfolding sheetOf
   sheet-accepted h e = rw (eq-eqb (t .number) 0 h) e
 
--- The loop: while a field is due, what is left to read gives the sheet's answer; when none is, the turn has it.
-pub record TurnHolds (s : List ℕ) (t : Turn) : Type 0 where
+-- The loop: while a field is due, what is left to read gives the sheet's answer; when none is, the step has it.
+pub record StepHolds (s : List ℕ) (t : Step) : Type 0 where
   pub goes : t .more ≡ true → Progress s (t .reading)
   pub done : t .more ≡ false → sheetOf t ≡ readSheet s
 
 -- how much is left to read
-unfoldable pub left : List ℕ → Turn → ℕ
+unfoldable pub left : List ℕ → Step → ℕ
 left s t = cond (t .more) (suc (length s - t .reading .at)) 0
 
-pub first-holds : (s : List ℕ) → TurnHolds s firstTurn
-unfolding firstTurn
+pub first-holds : (s : List ℕ) → StepHolds s firstStep
+unfolding firstStep
 first-holds s = record { goes = λ _. progress-start s startReading refl; done = λ e. absurd (true≢false e) }
 
-pub first-at : firstTurn .reading .at ≡ 0
-unfolding firstTurn startReading
+pub first-at : firstStep .reading .at ≡ 0
+unfolding firstStep startReading
 first-at = refl
 
 module _ (s : List ℕ) (st : Reading) (p : Progress s st) where
-  -- the turn that takes the field which stands there, by what the field is
-  pub next-holds : (f : Field) → f ≡ fieldAt s (st .at) → TurnHolds s (turnAt s st f)
-  unfolding turnAt ended goesOn sheetOf atEnd
+  -- the step that takes the field which stands there, by what the field is
+  pub next-holds : (f : Field) → f ≡ fieldAt s (st .at) → StepHolds s (stepAt s st f)
+  unfolding stepAt ended goesOn sheetOf atEnd
   next-holds End e = record { goes = λ g. absurd (true≢false (sym g)); done = λ _. progress-end s st p End e _ refl refl }
   next-holds Cut e = record { goes = λ g. absurd (true≢false (sym g)); done = λ _. progress-cut s st p Cut e _ refl refl }
   next-holds (Whole tag len) e = go _ refl
     where
-      go : (b : Bool) → eqb (fieldNumber s st tag len) 0 ≡ b → TurnHolds s (cond b (goesOn (nextReading s st tag len)) (ended st (fieldNumber s st tag len) (placeOf (fieldNumber s st tag len) (st .head) (st .at))))
+      go : (b : Bool) → eqb (fieldNumber s st tag len) 0 ≡ b → StepHolds s (cond b (goesOn (nextReading s st tag len)) (ended st (fieldNumber s st tag len) (placeOf (fieldNumber s st tag len) (st .head) (st .at))))
       go true h = record { goes = λ _. progress-next s st p (Whole tag len) e tag len refl (fieldNumber s st tag len) (nextReading s st tag len) refl (eqb-true _ _ h) refl; done = λ g. absurd (true≢false g) }
       go false h = record { goes = λ g. absurd (true≢false (sym g)); done = λ _. rw (ne-eqb _ _ (eqb-false _ _ h)) (progress-refused s st p (Whole tag len) e tag len refl (fieldNumber s st tag len) _ _ refl (eqb-false _ _ h) refl refl) }
 
   -- it leaves less to read ..
-  pub next-less : (f : Field) → f ≡ fieldAt s (st .at) → left s (turnAt s st f) < suc (length s - st .at)
-  unfolding turnAt ended goesOn left
+  pub next-less : (f : Field) → f ≡ fieldAt s (st .at) → left s (stepAt s st f) < suc (length s - st .at)
+  unfolding stepAt ended goesOn left
   next-less End e = omega arith
   next-less Cut e = omega arith
   next-less (Whole tag len) e = go (eqb (fieldNumber s st tag len) 0)
@@ -150,16 +150,16 @@ module _ (s : List ℕ) (st : Reading) (p : Progress s st) where
       go false = omega arith
 
 -- .. and where a field is due next, the reading stands behind this one
-pub next-at : (s : List ℕ) (st : Reading) (f : Field) → turnAt s st f .more ≡ true → turnAt s st f .reading .at ≡ endOf (st .at) f
-unfolding turnAt ended goesOn endOf nextReading
+pub next-at : (s : List ℕ) (st : Reading) (f : Field) → stepAt s st f .more ≡ true → stepAt s st f .reading .at ≡ endOf (st .at) f
+unfolding stepAt ended goesOn endOf nextReading
 next-at s st End g = absurd (true≢false (sym g))
 next-at s st Cut g = absurd (true≢false (sym g))
 next-at s st (Whole tag len) g = go (eqb (fieldNumber s st tag len) 0) g
   where
-    next : Turn
+    next : Step
     next = goesOn (nextReading s st tag len)
 
-    stopped : Turn
+    stopped : Step
     stopped = ended st (fieldNumber s st tag len) (placeOf (fieldNumber s st tag len) (st .head) (st .at))
 
     go : (b : Bool) → cond b next stopped .more ≡ true → cond b next stopped .reading .at ≡ st .at + 3 + len
@@ -167,6 +167,6 @@ next-at s st (Whole tag len) g = go (eqb (fieldNumber s st tag len) 0) g
     go false g = absurd (true≢false (sym g))
 
 -- what is left where a field is due
-pub left-more : (s : List ℕ) (t : Turn) → t .more ≡ true → left s t ≡ suc (length s - t .reading .at)
+pub left-more : (s : List ℕ) (t : Step) → t .more ≡ true → left s t ≡ suc (length s - t .reading .at)
 unfolding left
 left-more s t e = rw e

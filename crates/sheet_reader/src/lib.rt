@@ -16,20 +16,20 @@ use sheet_decode::refuse;
 use sheet_decode::start;
 ghost use mathlib.Core.Path.{_≡_};
 ghost use Rattle.sheet.specs.Read.{readSheet};
-ghost use Rattle.sheet_reader.specs.Turn.{TurnAsked, firstTurn, turnAt, sheetOf};
+ghost use Rattle.sheet_reader.specs.Step.{StepAsked, firstStep, stepAt, sheetOf};
 
-// What a turn of the reading leaves: whether a field is due next; if not, the number and place of the refusal, 0 and 0 where there is none; and the reading.
-pub struct Turn {
+// What a step of the reading leaves: whether a field is due next; if not, the number and place of the refusal, 0 and 0 where there is none; and the reading.
+pub struct Step {
     pub more: bool,
     pub number: u64,
     pub place: usize,
     pub reading: Reading,
 }
 
-fn first_turn() -> Turn
-    ensures { λ r. ⌜ r ≡ firstTurn ⌝ }
+fn first_step() -> Step
+    ensures { λ r. ⌜ r ≡ firstStep ⌝ }
 {
-    Turn {
+    Step {
         more: true,
         number: 0,
         place: 0,
@@ -37,15 +37,15 @@ fn first_turn() -> Turn
     }
 }
 
-// The turn that takes a field: it is refused, or the reading goes on behind it; the end of the sheet ends the last section.
-fn next_turn(s: &[u8], turn: Turn, field: Field) -> Turn
-    requires { ⌜ TurnAsked (now s) turn field ⌝ }
-    ensures { λ r. ⌜ r ≡ turnAt (now (s .entry)) (turn .reading) field ⌝ }
+// The step that takes a field: it is refused, or the reading goes on behind it; the end of the sheet ends the last section.
+fn next_step(s: &[u8], step: Step, field: Field) -> Step
+    requires { ⌜ StepAsked (now s) step field ⌝ }
+    ensures { λ r. ⌜ r ≡ stepAt (now (s .entry)) (step .reading) field ⌝ }
 {
-    let st = turn.reading;
+    let st = step.reading;
     match field {
         Field::End => {
-            Turn {
+            Step {
                 more: false,
                 number: end_number(st.section, st.members),
                 place: st.head,
@@ -53,7 +53,7 @@ fn next_turn(s: &[u8], turn: Turn, field: Field) -> Turn
             }
         }
         Field::Cut => {
-            Turn {
+            Step {
                 more: false,
                 number: FIELD_CUT,
                 place: st.at,
@@ -63,14 +63,14 @@ fn next_turn(s: &[u8], turn: Turn, field: Field) -> Turn
         Field::Whole(tag, length) => {
             let number = field_number(s, st, tag, length);
             if number != 0 {
-                return Turn {
+                return Step {
                     more: false,
                     number,
                     place: place_of(number, st.head, st.at),
                     reading: st,
                 };
             }
-            Turn {
+            Step {
                 more: true,
                 number: 0,
                 place: 0,
@@ -81,13 +81,13 @@ fn next_turn(s: &[u8], turn: Turn, field: Field) -> Turn
 }
 
 // The answer, where no field is due next.
-fn sheet_of(turn: Turn) -> Sheet
-    ensures { λ r. ⌜ r ≡ sheetOf turn ⌝ }
+fn sheet_of(step: Step) -> Sheet
+    ensures { λ r. ⌜ r ≡ sheetOf step ⌝ }
 {
-    if turn.number != 0 {
-        return refuse(turn.number, turn.place);
+    if step.number != 0 {
+        return refuse(step.number, step.place);
     }
-    accept(turn.reading)
+    accept(step.reading)
 }
 
 // Reads a sheet: the number and place of its refusal, or 0, 0 and its sections.
@@ -95,10 +95,10 @@ pub fn read(s: &[u8]) -> Sheet
     ensures { λ r. ⌜ r ≡ readSheet (now (s .entry)) ⌝ }
 {
     let mut reader = set_on(s);
-    let mut turn = first_turn();
-    while turn.more {
-        turn = next_turn(s, turn, next_field(reader));
+    let mut step = first_step();
+    while step.more {
+        step = next_step(s, step, next_field(reader));
         reader = past(reader);
     }
-    sheet_of(turn)
+    sheet_of(step)
 }

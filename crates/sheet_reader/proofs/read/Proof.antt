@@ -1,6 +1,6 @@
 -- `read` meets its contract: a walk of its MIR, by hand, because it keeps a `Reader`, which holds the lent sheet, in a local from field to field.
 -- The loop's invariant (`State`): the reader stands on the same sheet, and where a field is due, at the offset of the reading; what is left to read gives the
--- sheet's answer, or the turn has it. All that the proof knows of the six callees is that each meets its contract.
+-- sheet's answer, or the step has it. All that the proof knows of the six callees is that each meets its contract.
 use mathlib.Core.Path.{_≡_, refl, sym, ap, subst, _∙_}
 use Prim.Native.Nat.{ℕ, _<_}
 use mathlib.Core.Bool.{Bool, true, false}
@@ -48,17 +48,17 @@ use Rattle.field.specs.declared.reader.Reader.{Reader}
 use Rattle.field.specs.declared.Field.{Field}
 use Rattle.sheet.specs.Read.{readSheet}
 use Rattle.sheet.specs.declared.Sheet.{Sheet}
-use Rattle.sheet_reader.specs.Turn.{TurnAsked, firstTurn, turnAt, sheetOf}
-use Rattle.sheet_reader.specs.Loop.{TurnHolds, left, first-holds, first-at, next-holds, next-less, next-at, left-more}
-use Rattle.sheet_reader.specs.declared.Turn.{Turn}
+use Rattle.sheet_reader.specs.Step.{StepAsked, firstStep, stepAt, sheetOf}
+use Rattle.sheet_reader.specs.Loop.{StepHolds, left, first-holds, first-at, next-holds, next-less, next-at, left-more}
+use Rattle.sheet_reader.specs.declared.Step.{Step}
 use Rattle.field.proofs.reader.Reader as T
 use Rattle.field.proofs.reader.Reader.Laws as T′
 use Rattle.field.proofs.Field as S
 use Rattle.field.proofs.Field.Laws as S′
 use Rattle.sheet.proofs.Sheet as R
 use Rattle.sheet.proofs.Sheet.Laws as R′
-use Rattle.sheet_reader.proofs.Turn as U
-use Rattle.sheet_reader.proofs.Turn.Laws as U′
+use Rattle.sheet_reader.proofs.Step as U
+use Rattle.sheet_reader.proofs.Step.Laws as U′
 use Rattle.field.proofs.reader.set_on as set-on
 use Rattle.field.proofs.reader.set_on.Symbol as set-on-def
 use Rattle.field.proofs.reader.set_on.Symbol.{name as #set-on}
@@ -71,14 +71,14 @@ use Rattle.field.proofs.reader.past as past
 use Rattle.field.proofs.reader.past.Symbol as past-def
 use Rattle.field.proofs.reader.past.Symbol.{name as #past}
 use Rattle.field.proofs.reader.past.Met as past-thm
-use Rattle.sheet_reader.proofs.first_turn as first-turn
-use Rattle.sheet_reader.proofs.first_turn.Symbol as first-turn-def
-use Rattle.sheet_reader.proofs.first_turn.Symbol.{name as #first-turn}
-use Rattle.sheet_reader.proofs.first_turn.Met as first-turn-thm
-use Rattle.sheet_reader.proofs.next_turn as next-turn
-use Rattle.sheet_reader.proofs.next_turn.Symbol as next-turn-def
-use Rattle.sheet_reader.proofs.next_turn.Symbol.{name as #next-turn}
-use Rattle.sheet_reader.proofs.next_turn.Met as next-turn-thm
+use Rattle.sheet_reader.proofs.first_step as first-step
+use Rattle.sheet_reader.proofs.first_step.Symbol as first-step-def
+use Rattle.sheet_reader.proofs.first_step.Symbol.{name as #first-step}
+use Rattle.sheet_reader.proofs.first_step.Met as first-step-thm
+use Rattle.sheet_reader.proofs.next_step as next-step
+use Rattle.sheet_reader.proofs.next_step.Symbol as next-step-def
+use Rattle.sheet_reader.proofs.next_step.Symbol.{name as #next-step}
+use Rattle.sheet_reader.proofs.next_step.Met as next-step-thm
 use Rattle.sheet_reader.proofs.sheet_of as sheet-of
 use Rattle.sheet_reader.proofs.sheet_of.Symbol as sheet-of-def
 use Rattle.sheet_reader.proofs.sheet_of.Symbol.{name as #sheet-of}
@@ -103,11 +103,11 @@ module _ {M : Type 1} (𝓤 : URA M) (H : Heap 𝓤) (A : Atoms 𝓤) (mem : Mem
   abbrev Past : Contract 𝓤
   Past = tripleOf 𝓤 H A past.signature (past.spec 𝓤 H A mem run)
 
-  abbrev FirstTurn : Contract 𝓤
-  FirstTurn = tripleOf 𝓤 H A first-turn.signature (first-turn.spec 𝓤 H A mem run)
+  abbrev FirstStep : Contract 𝓤
+  FirstStep = tripleOf 𝓤 H A first-step.signature (first-step.spec 𝓤 H A mem run)
 
-  abbrev NextTurn : Contract 𝓤
-  NextTurn = tripleOf 𝓤 H A next-turn.signature (next-turn.spec 𝓤 H A mem run)
+  abbrev NextStep : Contract 𝓤
+  NextStep = tripleOf 𝓤 H A next-step.signature (next-step.spec 𝓤 H A mem run)
 
   abbrev SheetOf : Contract 𝓤
   SheetOf = tripleOf 𝓤 H A sheet-of.signature (sheet-of.spec 𝓤 H A mem run)
@@ -156,15 +156,15 @@ module _ {M : Type 1} (𝓤 : URA M) (H : Heap 𝓤) (A : Atoms 𝓤) (W : Given
   set-on-said : (r : Reader) → ent 𝓤 (ensured 𝓤 H A set-on.ended (set-on.clauses 𝓤 H A mem run) (κ, tt) (s, tt) tt r) (fact 𝓤 ((r .sheet ≡ s) × (r .at ≡ 0)))
   set-on-said r = exE 𝓤 _ (λ ws. snd∗ 𝓤 (sem 𝓤 H A (lasts set-on.ended (κ, tt) (s, tt) ws)) (fact 𝓤 ((r .sheet ≡ s) × (r .at ≡ 0))))
 
-  -- `first_turn`
-  abbrev to-first : FirstTurn 𝓤 H A mem run .Ghost
+  -- `first_step`
+  abbrev to-first : FirstStep 𝓤 H A mem run .Ghost
   to-first = ((tt, tt, tt, tt, tt), tt)
 
-  goes-first : ent 𝓤 (emp 𝓤) (FirstTurn 𝓤 H A mem run .pre to-first)
+  goes-first : ent 𝓤 (emp 𝓤) (FirstStep 𝓤 H A mem run .pre to-first)
   goes-first = qed W [] ∵ nothing ! $ nothing ! $ join ! $ frame ! $ done !
 
-  first-said : (t : Turn) → ent 𝓤 (ensured 𝓤 H A first-turn.ended (first-turn.clauses 𝓤 H A mem run) tt tt tt t) (fact 𝓤 (t ≡ firstTurn))
-  first-said t = exE 𝓤 _ (λ ws. snd∗ 𝓤 (sem 𝓤 H A (lasts first-turn.ended tt tt ws)) (fact 𝓤 (t ≡ firstTurn)))
+  first-said : (t : Step) → ent 𝓤 (ensured 𝓤 H A first-step.ended (first-step.clauses 𝓤 H A mem run) tt tt tt t) (fact 𝓤 (t ≡ firstStep))
+  first-said t = exE 𝓤 _ (λ ws. snd∗ 𝓤 (sem 𝓤 H A (lasts first-step.ended tt tt ws)) (fact 𝓤 (t ≡ firstStep)))
 
   -- `next_field`, at a reader
   abbrev to-next : Reader → NextField 𝓤 H A mem run .Ghost
@@ -191,29 +191,29 @@ module _ {M : Type 1} (𝓤 : URA M) (H : Heap 𝓤) (A : Atoms 𝓤) (W : Given
   past-said : (r x : Reader) → ent 𝓤 (ensured 𝓤 H A past.ended (past.clauses 𝓤 H A mem run) (κ, tt) (r, tt) tt x) (fact 𝓤 (Moved r x))
   past-said r x = exE 𝓤 _ (λ ws. snd∗ 𝓤 (sem 𝓤 H A (lasts past.ended (κ, tt) (r, tt) ws)) (fact 𝓤 (Moved r x)))
 
-  -- `next_turn`, at a turn and a field with the machine value u
-  abbrev to-turn : Turn → Field → Val → NextTurn 𝓤 H A mem run .Ghost
-  to-turn t f u = (((κ, tt), (q, tt), tt, (s, (t, (f, tt))), (v ∷ [], (U′.lowered t ∷ [], (u ∷ [], tt)))), tt)
+  -- `next_step`, at a turn and a field with the machine value u
+  abbrev to-step : Step → Field → Val → NextStep 𝓤 H A mem run .Ghost
+  to-step t f u = (((κ, tt), (q, tt), tt, (s, (t, (f, tt))), (v ∷ [], (U′.lowered t ∷ [], (u ∷ [], tt)))), tt)
 
-  goes-turn : (t : Turn) (f : Field) (u : Val) → Is U.the-row t (U′.lowered t ∷ []) → TurnAsked (now s) t f
-      → ent 𝓤 (⋆ 𝓤 H A (‵ (S.the-row .own f (u ∷ [])) ∷ Token ∷ ‵ Own ∷ [])) (sep 𝓤 (NextTurn 𝓤 H A mem run .pre (to-turn t f u)) (sem 𝓤 H A Own))
-  goes-turn t f u is asked =
+  goes-step : (t : Step) (f : Field) (u : Val) → Is U.the-row t (U′.lowered t ∷ []) → StepAsked (now s) t f
+      → ent 𝓤 (⋆ 𝓤 H A (‵ (S.the-row .own f (u ∷ [])) ∷ Token ∷ ‵ Own ∷ [])) (sep 𝓤 (NextStep 𝓤 H A mem run .pre (to-step t f u)) (sem 𝓤 H A Own))
+  goes-step t f u is asked =
       qed W (‵ (S.the-row .own f (u ∷ [])) ∷ Token ∷ ‵ Own ∷ []) ∵ move ! (2 ∷ []) $ use1 W (‵ Own ⊛ ‵ Own) (shr-slice-copy 𝓤 H A W (named 0) κ u8 .twice s (v ∷ [])) $ split ! $ move ! (1 ∷ 2 ∷ 3 ∷ []) $
-      use3 W (raw (NextTurn 𝓤 H A mem run .pre (to-turn t f u))) (qed W (‵ Own ∷ ‵ (S.the-row .own f (u ∷ [])) ∷ Token ∷ []) ∵ says ! asked $ move ! (2 ∷ []) $ frame ! $ nothing ! $ move ! (2 ∷ 0 ∷ []) $ fjoin ! $
+      use3 W (raw (NextStep 𝓤 H A mem run .pre (to-step t f u))) (qed W (‵ Own ∷ ‵ (S.the-row .own f (u ∷ [])) ∷ Token ∷ []) ∵ says ! asked $ move ! (2 ∷ []) $ frame ! $ nothing ! $ move ! (2 ∷ 0 ∷ []) $ fjoin ! $
       owned ! U.the-row (Is U.the-row) (LL.makes U.the-type U′.the-plain 𝓤 H A) t (U′.lowered t ∷ []) is $ fjoin ! $ move ! (1 ∷ 0 ∷ []) $ fjoin ! $ done !) $ frame ! $ done !
 
-  turn-said : (t : Turn) (f : Field) (x : Turn) → ent 𝓤 (ensured 𝓤 H A next-turn.ended (next-turn.clauses 𝓤 H A mem run) (κ, tt) (s, (t, (f, tt))) tt x) (fact 𝓤 (x ≡ turnAt (now s) (t .reading) f))
-  turn-said t f x = exE 𝓤 _ (λ ws. snd∗ 𝓤 (sem 𝓤 H A (lasts next-turn.ended (κ, tt) (s, (t, (f, tt))) ws)) (fact 𝓤 (x ≡ turnAt (now s) (t .reading) f)))
+  step-said : (t : Step) (f : Field) (x : Step) → ent 𝓤 (ensured 𝓤 H A next-step.ended (next-step.clauses 𝓤 H A mem run) (κ, tt) (s, (t, (f, tt))) tt x) (fact 𝓤 (x ≡ stepAt (now s) (t .reading) f))
+  step-said t f x = exE 𝓤 _ (λ ws. snd∗ 𝓤 (sem 𝓤 H A (lasts next-step.ended (κ, tt) (s, (t, (f, tt))) ws)) (fact 𝓤 (x ≡ stepAt (now s) (t .reading) f)))
 
   -- `sheet_of`
-  abbrev to-sheet : Turn → SheetOf 𝓤 H A mem run .Ghost
+  abbrev to-sheet : Step → SheetOf 𝓤 H A mem run .Ghost
   to-sheet t = ((tt, tt, tt, (t, tt), (U′.lowered t ∷ [], tt)), tt)
 
-  goes-sheet : (t : Turn) → Is U.the-row t (U′.lowered t ∷ []) → ent 𝓤 (emp 𝓤) (SheetOf 𝓤 H A mem run .pre (to-sheet t))
+  goes-sheet : (t : Step) → Is U.the-row t (U′.lowered t ∷ []) → ent 𝓤 (emp 𝓤) (SheetOf 𝓤 H A mem run .pre (to-sheet t))
   goes-sheet t is =
       qed W [] ∵ nothing ! $ owned ! U.the-row (Is U.the-row) (LL.makes U.the-type U′.the-plain 𝓤 H A) t (U′.lowered t ∷ []) is $ fjoin ! $ nothing ! $ join ! $ frame ! $ done !
 
-  sheet-said : (t : Turn) (x : Sheet) → ent 𝓤 (ensured 𝓤 H A sheet-of.ended (sheet-of.clauses 𝓤 H A mem run) tt (t, tt) tt x) (fact 𝓤 (x ≡ sheetOf t))
+  sheet-said : (t : Step) (x : Sheet) → ent 𝓤 (ensured 𝓤 H A sheet-of.ended (sheet-of.clauses 𝓤 H A mem run) tt (t, tt) tt x) (fact 𝓤 (x ≡ sheetOf t))
   sheet-said t x = exE 𝓤 _ (λ ws. snd∗ 𝓤 (sem 𝓤 H A (lasts sheet-of.ended tt (t, tt) ws)) (fact 𝓤 (x ≡ sheetOf t)))
 
   exits : (x : Sheet) (u : Val) → x ≡ readSheet (now s) → ent 𝓤 (⋆ 𝓤 H A (‵ (R.the-row .own x (u ∷ [])) ∷ Token ∷ ‵ Own ∷ [])) (Post u)
@@ -224,60 +224,60 @@ module _ {M : Type 1} (𝓤 : URA M) (H : Heap 𝓤) (A : Atoms 𝓤) (W : Given
 
   -- The loop's state, and its order: less is left to read.
   record State : Type 0 where
-    pub turn : Turn
+    pub step : Step
     pub reader : Reader
-    pub holds : TurnHolds (now s) turn
+    pub holds : StepHolds (now s) step
     pub sheet : reader .sheet ≡ s
-    pub stands : turn .more ≡ true → reader .at ≡ turn .reading .at
-    pub turn-is : Is U.the-row turn (U′.lowered turn ∷ [])
+    pub stands : step .more ≡ true → reader .at ≡ step .reading .at
+    pub step-is : Is U.the-row step (U′.lowered step ∷ [])
     pub reader-is : Is B reader (T′.lowered reader ∷ [])
 
   abbrev Nearer : State → State → Type 0
-  Nearer y x = left (now s) (y .turn) < left (now s) (x .turn)
+  Nearer y x = left (now s) (y .step) < left (now s) (x .step)
 
   Nearer-wf : WellFounded Nearer
-  Nearer-wf = InvImage·wf (λ (x : State). left (now s) (x .turn)) (Nat·lt-wfRel .wf)
+  Nearer-wf = InvImage·wf (λ (x : State). left (now s) (x .step)) (Nat·lt-wfRel .wf)
 
   -- a struct's machine value is the one that its laws spell
-  turn-value : (t : Turn) (u : Val) → Is U.the-row t (u ∷ []) → u ≡ U′.lowered t
-  turn-value t u is = ap only (U′.lowers .val-is t _ is)
+  step-value : (t : Step) (u : Val) → Is U.the-row t (u ∷ []) → u ≡ U′.lowered t
+  step-value t u is = ap only (U′.lowers .val-is t _ is)
 
   reader-value : (r : Reader) (u : Val) → Is B r (u ∷ []) → u ≡ T′.lowered r
   reader-value r u is = ap only (LL.tells D L r _ is)
 
   -- the state that the loop begins in
-  begun : (r : Reader) → r .sheet ≡ s → r .at ≡ 0 → Is B r (T′.lowered r ∷ []) → (t : Turn) → t ≡ firstTurn → Is U.the-row t (U′.lowered t ∷ []) → State
+  begun : (r : Reader) → r .sheet ≡ s → r .at ≡ 0 → Is B r (T′.lowered r ∷ []) → (t : Step) → t ≡ firstStep → Is U.the-row t (U′.lowered t ∷ []) → State
   begun r es ea ir t et it =
-      record { turn = t; reader = r; holds = subst (TurnHolds (now s)) (sym et) (first-holds (now s)); sheet = es; stands = λ _. ea ∙ sym first-at ∙ sym (ap (λ (x : Turn). x .reading .at) et); turn-is = it; reader-is = ir }
+      record { step = t; reader = r; holds = subst (StepHolds (now s)) (sym et) (first-holds (now s)); sheet = es; stands = λ _. ea ∙ sym first-at ∙ sym (ap (λ (x : Step). x .reading .at) et); step-is = it; reader-is = ir }
 
   -- a turn that takes a field
-  module _ (x : State) (more : x .turn .more ≡ true) where
-    field-is : (f : Field) → f ≡ fieldAt (now (x .reader .sheet)) (x .reader .at) → f ≡ fieldAt (now s) (x .turn .reading .at)
+  module _ (x : State) (more : x .step .more ≡ true) where
+    field-is : (f : Field) → f ≡ fieldAt (now (x .reader .sheet)) (x .reader .at) → f ≡ fieldAt (now s) (x .step .reading .at)
     field-is f e = e ∙ ap (λ (y : RefT (List ℕ)). fieldAt (now y) (x .reader .at)) (x .sheet) ∙ ap (fieldAt (now s)) (x .stands more)
 
-    asks : (f : Field) → f ≡ fieldAt (now (x .reader .sheet)) (x .reader .at) → TurnAsked (now s) (x .turn) f
+    asks : (f : Field) → f ≡ fieldAt (now (x .reader .sheet)) (x .reader .at) → StepAsked (now s) (x .step) f
     asks f e = record { progress = x .holds .goes more; field = field-is f e }
 
-    module _ (f : Field) (ef : f ≡ fieldAt (now (x .reader .sheet)) (x .reader .at)) (t : Turn) (et : t ≡ turnAt (now s) (x .turn .reading) f) (it : Is U.the-row t (U′.lowered t ∷ []))
+    module _ (f : Field) (ef : f ≡ fieldAt (now (x .reader .sheet)) (x .reader .at)) (t : Step) (et : t ≡ stepAt (now s) (x .step .reading) f) (it : Is U.the-row t (U′.lowered t ∷ []))
         (r : Reader) (er : Moved (x .reader) r) (ir : Is B r (T′.lowered r ∷ [])) where
       follows : State
       follows =
           record {
-            turn = t;
+            step = t;
             reader = r;
-            holds = subst (TurnHolds (now s)) (sym et) (next-holds (now s) (x .turn .reading) (x .holds .goes more) f (field-is f ef));
+            holds = subst (StepHolds (now s)) (sym et) (next-holds (now s) (x .step .reading) (x .holds .goes more) f (field-is f ef));
             sheet = er .0 ∙ x .sheet;
-            stands = λ g. er .1 ∙ ap (endOf (x .reader .at)) (sym ef) ∙ ap (λ (i : ℕ). endOf i f) (x .stands more) ∙ sym (next-at (now s) (x .turn .reading) f (sym (ap (λ (y : Turn). y .more) et) ∙ g)) ∙ sym (ap (λ (y : Turn). y .reading .at) et);
-            turn-is = it;
+            stands = λ g. er .1 ∙ ap (endOf (x .reader .at)) (sym ef) ∙ ap (λ (i : ℕ). endOf i f) (x .stands more) ∙ sym (next-at (now s) (x .step .reading) f (sym (ap (λ (y : Step). y .more) et) ∙ g)) ∙ sym (ap (λ (y : Step). y .reading .at) et);
+            step-is = it;
             reader-is = ir;
           }
 
       nearer : Nearer follows x
       unfolding follows
-      nearer = rw (left-more (now s) (x .turn) more, et) (next-less (now s) (x .turn .reading) (x .holds .goes more) f (field-is f ef))
+      nearer = rw (left-more (now s) (x .step) more, et) (next-less (now s) (x .step .reading) (x .holds .goes more) f (field-is f ef))
 
   -- the answer, where no field is due
-  answers : (x : State) → x .turn .more ≡ false → (y : Sheet) → y ≡ sheetOf (x .turn) → y ≡ readSheet (now s)
+  answers : (x : State) → x .step .more ≡ false → (y : Sheet) → y ≡ sheetOf (x .step) → y ≡ readSheet (now s)
   answers x e y h = h ∙ x .holds .done e
 
   module _ (𝓣 : Tables 𝓤 H) (l₀ l₁ l₂ l₃ l₄ l₅ l₆ l₇ : ℕ) where
@@ -298,7 +298,7 @@ module _ {M : Type 1} (𝓤 : URA M) (H : Heap 𝓤) (A : Atoms 𝓤) (W : Given
     At x =
         ‵ (Held (x .reader)) ∷ Token ∷ ‵ Own
         ∷ ‵ (froom (T′.mir erased) l₇ 0) ∷ ‵ (fdies (T′.mir erased) l₇) ∷ ‵ (froom (T′.mir erased) l₆ 0) ∷ ‵ (fdies (T′.mir erased) l₆) ∷ ‵ (froom S′.mir l₅ 0) ∷ ‵ (fdies S′.mir l₅) ∷ ‵ (froom tyBool l₄ 0) ∷ ‵ (fdies tyBool l₄)
-        ∷ ‵ (fat fullShare U′.mir l₃ 0 (U′.lowered (x .turn))) ∷ ‵ (fdies U′.mir l₃) ∷ ‵ (fat fullShare (T′.mir erased) l₂ 0 (T′.lowered (x .reader))) ∷ ‵ (fdies (T′.mir erased) l₂)
+        ∷ ‵ (fat fullShare U′.mir l₃ 0 (U′.lowered (x .step))) ∷ ‵ (fdies U′.mir l₃) ∷ ‵ (fat fullShare (T′.mir erased) l₂ 0 (T′.lowered (x .reader))) ∷ ‵ (fdies (T′.mir erased) l₂)
         ∷ ‵ (fat fullShare slice l₁ 0 v) ∷ ‵ (fdies slice l₁) ∷ ‵ (froom R′.mir l₀ 0) ∷ ‵ (fdies R′.mir l₀) ∷ []
 
     -- a turn's postcondition: less is left to read, or the loop is left and the rest of the body runs
@@ -306,24 +306,24 @@ module _ {M : Type 1} (𝓤 : URA M) (H : Heap 𝓤) (A : Atoms 𝓤) (W : Given
     Turned x = afterTurn 𝓤 H (Below 𝓤 H A Nearer At x) (afterBlock 𝓤 H (afterSeq 𝓤 H (Wp 𝓤 H C Λ En mir-of.t-4 (atReturn 𝓤 H En Post)) (atReturn 𝓤 H En Post)))
 
     -- the types of the values that are stored
-    turn-typed : (t : Turn) (u : Val) → Is U.the-row t (u ∷ []) → Holds (hasTy U′.mir u) × WT u
-    turn-typed t u is = LL.lawful U.the-type U′.the-laws 𝓤 H A W .typed t _ is .0
+    step-typed : (t : Step) (u : Val) → Is U.the-row t (u ∷ []) → Holds (hasTy U′.mir u) × WT u
+    step-typed t u is = LL.lawful U.the-type U′.the-laws 𝓤 H A W .typed t _ is .0
 
     reader-typed : (r : Reader) (u : Val) → Is B r (u ∷ []) → Holds (hasTy (T′.mir erased) u) × WT u
     reader-typed r u is = LL.lawful (T.the-type αᵉ) (T′.the-laws αᵉ) 𝓤 H A W .typed r _ is .0
 
-    module _ (fm : FmC 𝓤 H (W .laws) C) (known-next : Triple 𝓤 (C #next-field) (NextField 𝓤 H A mem run)) (known-turn : Triple 𝓤 (C #next-turn) (NextTurn 𝓤 H A mem run)) (known-past : Triple 𝓤 (C #past) (Past 𝓤 H A mem run)) (known-sheet : Triple 𝓤 (C #sheet-of) (SheetOf 𝓤 H A mem run)) where
+    module _ (fm : FmC 𝓤 H (W .laws) C) (known-next : Triple 𝓤 (C #next-field) (NextField 𝓤 H A mem run)) (known-step : Triple 𝓤 (C #next-step) (NextStep 𝓤 H A mem run)) (known-past : Triple 𝓤 (C #past) (Past 𝓤 H A mem run)) (known-sheet : Triple 𝓤 (C #sheet-of) (SheetOf 𝓤 H A mem run)) where
       -- no field is due: the loop is left, and the answer made
-      leaves : (x : State) → x .turn .more ≡ false → Sq W (At x) (runs C Λ En mir-of.turn-1 (anyQ (Turned x)))
+      leaves : (x : State) → x .step .more ≡ false → Sq W (At x) (runs C Λ En mir-of.turn-1 (anyQ (Turned x)))
       unfolding afterTurn
       leaves x e =
           assigns ! (of-opd ! (load ! (from ! (fld ! refl (stop !))) (look-in ! 11 (sub ! 0 refl (whole !))))) (from ! (stop !)) (init ! 9 refl (tt, tt)) $
           rewrite ! 9 (λ (b : Bool). ‵ (fat fullShare tyBool l₄ 0 (vbool b))) e refl $
           leaves-loop ! (load ! (from ! (stop !)) (look ! 9 refl)) $ exec ! C Λ En mir-of.t-4 (atRet En Post) $
-          drop ! $ use0 W (raw (SheetOf 𝓤 H A mem run .pre (to-sheet (x .turn)))) (goes-sheet (x .turn) (x .turn-is)) $
-          calls-at ! fm (SheetOf 𝓤 H A mem run) known-sheet (to-sheet (x .turn)) (and-then ! (load ! (from ! (stop !)) (look ! 11 refl)) (no-more !)) (λ u.
-          use1 W (later (some (λ (y : Sheet). (‵ ftrue ⊛ ‵ (R.the-row .own y (u ∷ []))) ⊛ raw (ensured 𝓤 H A sheet-of.ended (sheet-of.clauses 𝓤 H A mem run) tt (x .turn, tt) tt y)))) (id⊢ 𝓤 _) $ await ! tt $ pick ! (λ y.
-          split ! $ move ! (1 ∷ []) $ use1 W (raw (fact 𝓤 (y ≡ sheetOf (x .turn)))) (sheet-said (x .turn) y) $ heard ! (y ≡ sheetOf (x .turn)) (λ g. split ! $ drop ! $
+          drop ! $ use0 W (raw (SheetOf 𝓤 H A mem run .pre (to-sheet (x .step)))) (goes-sheet (x .step) (x .step-is)) $
+          calls-at ! fm (SheetOf 𝓤 H A mem run) known-sheet (to-sheet (x .step)) (and-then ! (load ! (from ! (stop !)) (look ! 11 refl)) (no-more !)) (λ u.
+          use1 W (later (some (λ (y : Sheet). (‵ ftrue ⊛ ‵ (R.the-row .own y (u ∷ []))) ⊛ raw (ensured 𝓤 H A sheet-of.ended (sheet-of.clauses 𝓤 H A mem run) tt (x .step, tt) tt y)))) (id⊢ 𝓤 _) $ await ! tt $ pick ! (λ y.
+          split ! $ move ! (1 ∷ []) $ use1 W (raw (fact 𝓤 (y ≡ sheetOf (x .step)))) (sheet-said (x .step) y) $ heard ! (y ≡ sheetOf (x .step)) (λ g. split ! $ drop ! $
           -- [the sheet; the token; what s owns; room for _7; …; room for _6; …; room for _5; …; _4; …; _3; …; _2; …; _1; …; room for _0; …]
           peeks ! R.the-row (Is R.the-row) (shows 𝓤 H A R.the-row) y (u ∷ []) (λ is.
           land ! (from ! (stop !)) (init ! 17 refl (LL.lawful R.the-type R′.the-laws 𝓤 H A W .typed y _ is .0)) $
@@ -332,7 +332,7 @@ module _ {M : Type 1} (𝓤 : URA M) (H : Heap 𝓤) (A : Atoms 𝓤) (W : Given
           by ! (exits y u (answers x e y g))))))
 
       -- a field is due: it is taken, and the reader is moved past it
-      takes : (x : State) → x .turn .more ≡ true → Sq W (At x) (runs C Λ En mir-of.turn-1 (anyQ (Turned x)))
+      takes : (x : State) → x .step .more ≡ true → Sq W (At x) (runs C Λ En mir-of.turn-1 (anyQ (Turned x)))
       unfolding afterTurn follows
       takes x e =
           assigns ! (of-opd ! (load ! (from ! (fld ! refl (stop !))) (look-in ! 11 (sub ! 0 refl (whole !))))) (from ! (stop !)) (init ! 9 refl (tt, tt)) $
@@ -347,15 +347,15 @@ module _ {M : Type 1} (𝓤 : URA M) (H : Heap 𝓤) (A : Atoms 𝓤) (W : Given
           -- [the field; the token; what the reader owns; what s owns; room for _7; …; _6; …; room for _5; …]
           peeks ! S.the-row (Is S.the-row) (shows 𝓤 H A S.the-row) f (u ∷ []) (λ is.
           land ! (from ! (stop !)) (init ! 8 refl (EL.lawful S.the-type S′.the-laws 𝓤 H A W tt .typed f _ is .0)) $
-          move ! (0 ∷ 1 ∷ 3 ∷ []) $ use3 W (raw (NextTurn 𝓤 H A mem run .pre (to-turn (x .turn) f u)) ⊛ ‵ Own) (goes-turn (x .turn) f u (x .turn-is) (asks x e f ef)) $ split ! $
+          move ! (0 ∷ 1 ∷ 3 ∷ []) $ use3 W (raw (NextStep 𝓤 H A mem run .pre (to-step (x .step) f u)) ⊛ ‵ Own) (goes-step (x .step) f u (x .step-is) (asks x e f ef)) $ split ! $
           -- [what the call asks; what s owns; what the reader owns; room for _7; …; _6; …; _5; …; _4; …; _3; …; _2; …; _1; …]
-          calls-at ! fm (NextTurn 𝓤 H A mem run) known-turn (to-turn (x .turn) f u) (and-then ! (load ! (from ! (stop !)) (look ! 15 refl)) (and-then ! (load ! (from ! (stop !)) (look ! 11 refl)) (and-then ! (load ! (from ! (stop !)) (look ! 7 refl)) (no-more !)))) (λ w.
-          use1 W (later (some (λ (t : Turn). (Token ⊛ ‵ (U.the-row .own t (w ∷ []))) ⊛ raw (ensured 𝓤 H A next-turn.ended (next-turn.clauses 𝓤 H A mem run) (κ, tt) (s, (x .turn, (f, tt))) tt t)))) (id⊢ 𝓤 _) $ await ! tt $ pick ! (λ t.
-          split ! $ move ! (1 ∷ []) $ use1 W (raw (fact 𝓤 (t ≡ turnAt (now s) (x .turn .reading) f))) (turn-said (x .turn) f t) $ heard ! (t ≡ turnAt (now s) (x .turn .reading) f) (λ et. split ! $ move ! (1 ∷ []) $
-          -- [the turn; the token; what s owns; what the reader owns; room for _7; …; _6; …; _5; …; _4; …; _3; …]
+          calls-at ! fm (NextStep 𝓤 H A mem run) known-step (to-step (x .step) f u) (and-then ! (load ! (from ! (stop !)) (look ! 15 refl)) (and-then ! (load ! (from ! (stop !)) (look ! 11 refl)) (and-then ! (load ! (from ! (stop !)) (look ! 7 refl)) (no-more !)))) (λ w.
+          use1 W (later (some (λ (t : Step). (Token ⊛ ‵ (U.the-row .own t (w ∷ []))) ⊛ raw (ensured 𝓤 H A next-step.ended (next-step.clauses 𝓤 H A mem run) (κ, tt) (s, (x .step, (f, tt))) tt t)))) (id⊢ 𝓤 _) $ await ! tt $ pick ! (λ t.
+          split ! $ move ! (1 ∷ []) $ use1 W (raw (fact 𝓤 (t ≡ stepAt (now s) (x .step .reading) f))) (step-said (x .step) f t) $ heard ! (t ≡ stepAt (now s) (x .step .reading) f) (λ et. split ! $ move ! (1 ∷ []) $
+          -- [the step; the token; what s owns; what the reader owns; room for _7; …; _6; …; _5; …; _4; …; _3; …]
           peeks ! U.the-row (Is U.the-row) (shows 𝓤 H A U.the-row) t (w ∷ []) (λ it.
-          land ! (from ! (stop !)) (store ! 12 refl (turn-typed t w it)) $
-          rewrite ! 12 (λ (z : Val). ‵ (fat fullShare U′.mir l₃ 0 z)) (turn-value t w it) refl $ drop ! $
+          land ! (from ! (stop !)) (store ! 12 refl (step-typed t w it)) $
+          rewrite ! 12 (λ (z : Val). ‵ (fat fullShare U′.mir l₃ 0 z)) (step-value t w it) refl $ drop ! $
           assigns ! (of-opd ! (load ! (from ! (stop !)) (look ! 13 refl))) (from ! (stop !)) (init ! 3 refl (reader-typed (x .reader) _ (x .reader-is))) $
           move ! (2 ∷ 0 ∷ []) $ use2 W (raw (Past 𝓤 H A mem run .pre (to-past (x .reader)))) (goes-past (x .reader)) $
           -- [what the call asks; what s owns; _7; …; _6; …; _5; …; _4; …; _3; …; _2; …; _1; …; room for _0; …]
@@ -369,13 +369,13 @@ module _ {M : Type 1} (𝓤 : URA M) (H : Heap 𝓤) (A : Atoms 𝓤) (W : Given
           rewrite ! 0 (λ (y : Val). ‵ (B .own r (y ∷ []))) (reader-value r z ir) refl $
           forget ! 3 refl $ forget ! 5 refl $ forget ! 7 refl $ forget ! 9 refl $
           again ! Nearer At x
-          (follows x e f ef t et (subst (λ (y : Val). Is U.the-row t (y ∷ [])) (turn-value t w it) it) r er (subst (λ (y : Val). Is B r (y ∷ [])) (reader-value r z ir) ir))
-          (nearer x e f ef t et (subst (λ (y : Val). Is U.the-row t (y ∷ [])) (turn-value t w it) it) r er (subst (λ (y : Val). Is B r (y ∷ [])) (reader-value r z ir) ir))))))))))))))
+          (follows x e f ef t et (subst (λ (y : Val). Is U.the-row t (y ∷ [])) (step-value t w it) it) r er (subst (λ (y : Val). Is B r (y ∷ [])) (reader-value r z ir) ir))
+          (nearer x e f ef t et (subst (λ (y : Val). Is U.the-row t (y ∷ [])) (step-value t w it) it) r er (subst (λ (y : Val). Is B r (y ∷ [])) (reader-value r z ir) ir))))))))))))))
 
       turns : (x : State) → Sq W (At x) (runs C Λ En mir-of.turn-1 (anyQ (Turned x)))
-      turns x = go (x .turn .more) refl
+      turns x = go (x .step .more) refl
         where
-          go : (b : Bool) → x .turn .more ≡ b → Sq W (At x) (runs C Λ En mir-of.turn-1 (anyQ (Turned x)))
+          go : (b : Bool) → x .step .more ≡ b → Sq W (At x) (runs C Λ En mir-of.turn-1 (anyQ (Turned x)))
           go true e = takes x e
           go false e = leaves x e
 
@@ -383,11 +383,11 @@ module _ {M : Type 1} (𝓤 : URA M) (H : Heap 𝓤) (A : Atoms 𝓤) (W : Given
       looped : (x : State) → Sq W (At x) (runs C Λ En mir-of.t-3 (atRet En Post))
       looped x = first ! $ blocks ! $ loops ! 𝓣 Nearer Nearer-wf At turns x
 
-  walk : (𝓣 : Tables 𝓤 H) → FmC 𝓤 H (W .laws) (𝓣 .C) → Triple 𝓤 (𝓣 .C #set-on) (SetOn 𝓤 H A mem run) → Triple 𝓤 (𝓣 .C #first-turn) (FirstTurn 𝓤 H A mem run) → Triple 𝓤 (𝓣 .C #next-field) (NextField 𝓤 H A mem run)
-      → Triple 𝓤 (𝓣 .C #next-turn) (NextTurn 𝓤 H A mem run) → Triple 𝓤 (𝓣 .C #past) (Past 𝓤 H A mem run) → Triple 𝓤 (𝓣 .C #sheet-of) (SheetOf 𝓤 H A mem run)
+  walk : (𝓣 : Tables 𝓤 H) → FmC 𝓤 H (W .laws) (𝓣 .C) → Triple 𝓤 (𝓣 .C #set-on) (SetOn 𝓤 H A mem run) → Triple 𝓤 (𝓣 .C #first-step) (FirstStep 𝓤 H A mem run) → Triple 𝓤 (𝓣 .C #next-field) (NextField 𝓤 H A mem run)
+      → Triple 𝓤 (𝓣 .C #next-step) (NextStep 𝓤 H A mem run) → Triple 𝓤 (𝓣 .C #past) (Past 𝓤 H A mem run) → Triple 𝓤 (𝓣 .C #sheet-of) (SheetOf 𝓤 H A mem run)
       → Is (ShrSlice (named 0) κ u8) s (v ∷ []) → ent 𝓤 (onEntry 𝓤 H A read.signature (κ, tt) (q, tt) (s, tt) (v ∷ [], tt)) (WpFn 𝓤 H (𝓣 .C) (𝓣 .Λ) code.function (v ∷ []) Post)
   unfolding begun
-  walk 𝓣 fm known-set-on known-first known-next known-turn known-past known-sheet p =
+  walk 𝓣 fm known-set-on known-first known-next known-step known-past known-sheet p =
       qed W (raw (onEntry 𝓤 H A read.signature (κ, tt) (q, tt) (s, tt) (v ∷ [], tt)) ∷ []) ∵ enter ! (𝓣 .C) (𝓣 .Λ) code.function (v ∷ []) _ $
       alloc1 ! (λ l₀. alloc1 ! (λ l₁. alloc1 ! (λ l₂. alloc1 ! (λ l₃. alloc1 ! (λ l₄. alloc1 ! (λ l₅. alloc1 ! (λ l₆. alloc1 ! (λ l₇. alloc0 ! $ params1 ! $ pass1 ! (init ! 12 refl (shr-slice-lawful 𝓤 H A W (named 0) κ u8 .typed s (v ∷ []) p .0)) $ pass0 ! $
       move ! (16 ∷ []) $ use1 W (raw (SetOn 𝓤 H A mem run .pre to-set-on) ⊛ ‵ Own) goes-set-on $ split ! $
@@ -399,22 +399,22 @@ module _ {M : Type 1} (𝓤 : URA M) (H : Heap 𝓤) (A : Atoms 𝓤) (W : Given
       land ! (from ! (stop !)) (init ! 13 refl (LL.lawful (T.the-type αᵉ) (T′.the-laws αᵉ) 𝓤 H A W .typed r _ ir .0)) $
       rewrite ! 13 (λ (y : Val). ‵ (fat fullShare (T′.mir erased) l₂ 0 y)) (reader-value r u ir) refl $
       rewrite ! 0 (λ (y : Val). ‵ (B .own r (y ∷ []))) (reader-value r u ir) refl $
-      use0 W (raw (FirstTurn 𝓤 H A mem run .pre to-first)) goes-first $
-      calls-at ! fm (FirstTurn 𝓤 H A mem run) known-first to-first (no-more !) (λ w.
-      use1 W (later (some (λ (t : Turn). (‵ ftrue ⊛ ‵ (U.the-row .own t (w ∷ []))) ⊛ raw (ensured 𝓤 H A first-turn.ended (first-turn.clauses 𝓤 H A mem run) tt tt tt t)))) (id⊢ 𝓤 _) $ await ! tt $ pick ! (λ t.
-      split ! $ move ! (1 ∷ []) $ use1 W (raw (fact 𝓤 (t ≡ firstTurn))) (first-said t) $ heard ! (t ≡ firstTurn) (λ et. split ! $ drop ! $
-      -- [the turn; what the reader owns; the token; what s owns; room for _7; …; room for _6; …; room for _5; …; room for _4; …; room for _3; …]
+      use0 W (raw (FirstStep 𝓤 H A mem run .pre to-first)) goes-first $
+      calls-at ! fm (FirstStep 𝓤 H A mem run) known-first to-first (no-more !) (λ w.
+      use1 W (later (some (λ (t : Step). (‵ ftrue ⊛ ‵ (U.the-row .own t (w ∷ []))) ⊛ raw (ensured 𝓤 H A first-step.ended (first-step.clauses 𝓤 H A mem run) tt tt tt t)))) (id⊢ 𝓤 _) $ await ! tt $ pick ! (λ t.
+      split ! $ move ! (1 ∷ []) $ use1 W (raw (fact 𝓤 (t ≡ firstStep))) (first-said t) $ heard ! (t ≡ firstStep) (λ et. split ! $ drop ! $
+      -- [the step; what the reader owns; the token; what s owns; room for _7; …; room for _6; …; room for _5; …; room for _4; …; room for _3; …]
       peeks ! U.the-row (Is U.the-row) (shows 𝓤 H A U.the-row) t (w ∷ []) (λ it.
       land ! (from ! (stop !)) (init ! 12 refl (LL.lawful U.the-type U′.the-laws 𝓤 H A W .typed t _ it .0)) $
-      rewrite ! 12 (λ (y : Val). ‵ (fat fullShare U′.mir l₃ 0 y)) (turn-value t w it) refl $ drop ! $
-      looped 𝓣 l₀ l₁ l₂ l₃ l₄ l₅ l₆ l₇ fm known-next known-turn known-past known-sheet
-      (begun r (e .0) (e .1) (subst (λ (y : Val). Is B r (y ∷ [])) (reader-value r u ir) ir) t et (subst (λ (y : Val). Is U.the-row t (y ∷ [])) (turn-value t w it) it))))))))))))))))))
+      rewrite ! 12 (λ (y : Val). ‵ (fat fullShare U′.mir l₃ 0 y)) (step-value t w it) refl $ drop ! $
+      looped 𝓣 l₀ l₁ l₂ l₃ l₄ l₅ l₆ l₇ fm known-next known-step known-past known-sheet
+      (begun r (e .0) (e .1) (subst (λ (y : Val). Is B r (y ∷ [])) (reader-value r u ir) ir) t et (subst (λ (y : Val). Is U.the-row t (y ∷ [])) (step-value t w it) it))))))))))))))))))
 
-module _ {M : Type 1} (𝓤 : URA M) (H : Heap 𝓤) (A : Atoms 𝓤) (W : Given 𝓤 H A) (mem : Memory → SProp 𝓤) (run : Routine → Fun 𝓤) (𝓣 : Tables 𝓤 H) (known-set-on : Triple 𝓤 (𝓣 .C #set-on) (SetOn 𝓤 H A mem run)) (known-first : Triple 𝓤 (𝓣 .C #first-turn) (FirstTurn 𝓤 H A mem run))
-    (known-next : Triple 𝓤 (𝓣 .C #next-field) (NextField 𝓤 H A mem run)) (known-turn : Triple 𝓤 (𝓣 .C #next-turn) (NextTurn 𝓤 H A mem run)) (known-past : Triple 𝓤 (𝓣 .C #past) (Past 𝓤 H A mem run)) (known-sheet : Triple 𝓤 (𝓣 .C #sheet-of) (SheetOf 𝓤 H A mem run)) where
+module _ {M : Type 1} (𝓤 : URA M) (H : Heap 𝓤) (A : Atoms 𝓤) (W : Given 𝓤 H A) (mem : Memory → SProp 𝓤) (run : Routine → Fun 𝓤) (𝓣 : Tables 𝓤 H) (known-set-on : Triple 𝓤 (𝓣 .C #set-on) (SetOn 𝓤 H A mem run)) (known-first : Triple 𝓤 (𝓣 .C #first-step) (FirstStep 𝓤 H A mem run))
+    (known-next : Triple 𝓤 (𝓣 .C #next-field) (NextField 𝓤 H A mem run)) (known-step : Triple 𝓤 (𝓣 .C #next-step) (NextStep 𝓤 H A mem run)) (known-past : Triple 𝓤 (𝓣 .C #past) (Past 𝓤 H A mem run)) (known-sheet : Triple 𝓤 (𝓣 .C #sheet-of) (SheetOf 𝓤 H A mem run)) where
   read-walks : Walks 𝓤 H A read.ended stayed (WpFn 𝓤 H (𝓣 .C) (𝓣 .Λ) code.function) (read.clauses 𝓤 H A mem run)
   read-walks = walked 𝓤 H A read.ended stayed (read.clauses 𝓤 H A mem run) (WpFn 𝓤 H (𝓣 .C) (𝓣 .Λ) code.function) (λ κs. (slice-vals, tt)) (λ κs. (shr-slice-tells (named 0) (κs .0) u8, tt))
-      (λ κs qs bounds a g are. via 𝓤 _ (fst∗ 𝓤 _ (emp 𝓤)) (walk 𝓤 H A W mem run (κs .0) (qs .0) (a .0) 𝓣 (fmOf 𝓤 H (W .laws) 𝓣) known-set-on known-first known-next known-turn known-past known-sheet (are .0)))
+      (λ κs qs bounds a g are. via 𝓤 _ (fst∗ 𝓤 _ (emp 𝓤)) (walk 𝓤 H A W mem run (κs .0) (qs .0) (a .0) 𝓣 (fmOf 𝓤 H (W .laws) 𝓣) known-set-on known-first known-next known-step known-past known-sheet (are .0)))
 
   read-meets : Meets 𝓤 H A read.signature (WpFn 𝓤 H (𝓣 .C) (𝓣 .Λ) code.function) (read.spec 𝓤 H A mem run)
   read-meets = walk-meets 𝓤 H A read.ended stayed W (goes-none-slice 𝓤 H A W 1 (0 ∷ []) tt (plain (λ _. u8)) yes, tt) (read.clauses 𝓤 H A mem run) (WpFn 𝓤 H (𝓣 .C) (𝓣 .Λ) code.function) (WpFn-mono 𝓤 H (W .laws) 𝓣 code.function) read-walks
@@ -426,8 +426,8 @@ read-spec 𝓤 H 𝓜 𝓖 𝓡 =
     (tables 𝓤 H 𝓜 𝓡 code.env .C) (tables 𝓤 H 𝓜 𝓡 code.env .Λ) #read code.function (code.unfolded 𝓤 H 𝓜 𝓡)
     (read-meets 𝓤 H (𝓖 .A) (givenOf 𝓤 H 𝓜 𝓖) (𝓜 .mem) (𝓡 .run) (tablesOf 𝓤 H 𝓜 (tables 𝓤 H 𝓜 𝓡 code.env))
     (cited 𝓤 H (SetOn 𝓤 H (𝓖 .A) (𝓜 .mem) (𝓡 .run)) 𝓜 𝓡 code.env #set-on set-on-def.routine code.calls-field·reader·set-on (set-on-thm.met 𝓤 H 𝓜 𝓖 𝓡))
-    (cited 𝓤 H (FirstTurn 𝓤 H (𝓖 .A) (𝓜 .mem) (𝓡 .run)) 𝓜 𝓡 code.env #first-turn first-turn-def.routine code.calls-sheet-reader·first-turn (first-turn-thm.met 𝓤 H 𝓜 𝓖 𝓡))
+    (cited 𝓤 H (FirstStep 𝓤 H (𝓖 .A) (𝓜 .mem) (𝓡 .run)) 𝓜 𝓡 code.env #first-step first-step-def.routine code.calls-sheet-reader·first-step (first-step-thm.met 𝓤 H 𝓜 𝓖 𝓡))
     (cited 𝓤 H (NextField 𝓤 H (𝓖 .A) (𝓜 .mem) (𝓡 .run)) 𝓜 𝓡 code.env #next-field next-field-def.routine code.calls-field·reader·next-field (next-field-thm.met 𝓤 H 𝓜 𝓖 𝓡))
-    (cited 𝓤 H (NextTurn 𝓤 H (𝓖 .A) (𝓜 .mem) (𝓡 .run)) 𝓜 𝓡 code.env #next-turn next-turn-def.routine code.calls-sheet-reader·next-turn (next-turn-thm.met 𝓤 H 𝓜 𝓖 𝓡))
+    (cited 𝓤 H (NextStep 𝓤 H (𝓖 .A) (𝓜 .mem) (𝓡 .run)) 𝓜 𝓡 code.env #next-step next-step-def.routine code.calls-sheet-reader·next-step (next-step-thm.met 𝓤 H 𝓜 𝓖 𝓡))
     (cited 𝓤 H (Past 𝓤 H (𝓖 .A) (𝓜 .mem) (𝓡 .run)) 𝓜 𝓡 code.env #past past-def.routine code.calls-field·reader·past (past-thm.met 𝓤 H 𝓜 𝓖 𝓡))
     (cited 𝓤 H (SheetOf 𝓤 H (𝓖 .A) (𝓜 .mem) (𝓡 .run)) 𝓜 𝓡 code.env #sheet-of sheet-of-def.routine code.calls-sheet-reader·sheet-of (sheet-of-thm.met 𝓤 H 𝓜 𝓖 𝓡)))

@@ -1,4 +1,4 @@
--- `sheet_of` meets its contract: refused with the number and place of the turn, or accepted.
+-- `sheet_of` meets its contract: refused with the number and place of the step, or accepted.
 use Rattle.sheet_reader.specs.Loop.{sheet-refused, sheet-accepted}
 use borrow.Author.Needs.{needs}
 use Rattle.sheet_reader.proofs.sheet_of.Statement.{statement}

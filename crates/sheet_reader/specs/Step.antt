@@ -1,4 +1,4 @@
--- The reading of a sheet, turn by turn: each takes the field that the reader gives, until the sheet is refused or ends.
+-- The reading of a sheet, step by step: each takes the field that the reader gives, until the sheet is refused or ends.
 use Prim.Native.Nat.{ℕ}
 use mathlib.Core.Path.{_≡_}
 use mathlib.Core.Bool.{true, false, cond}
@@ -13,30 +13,30 @@ use Rattle.sheet.specs.Read.{fieldNumber, endNumber, placeOf, refused, accepted
 use Rattle.sheet.specs.Progress.{Progress}
 use Rattle.sheet.specs.declared.Reading.{Reading}
 use Rattle.sheet.specs.declared.Sheet.{Sheet}
-use Rattle.sheet_reader.specs.declared.Turn.{Turn}
+use Rattle.sheet_reader.specs.declared.Step.{Step}
 
-unfoldable pub firstTurn : Turn
-firstTurn = record { more = true; number = 0; place = 0; reading = startReading }
+unfoldable pub firstStep : Step
+firstStep = record { more = true; number = 0; place = 0; reading = startReading }
 
--- a turn that ends the reading with a number and a place, 0 where the sheet is sound; and one behind which a field is due
-unfoldable pub ended : Reading → ℕ → ℕ → Turn
+-- a step that ends the reading with a number and a place, 0 where the sheet is sound; and one behind which a field is due
+unfoldable pub ended : Reading → ℕ → ℕ → Step
 ended st number place = record { more = false; number = number; place = place; reading = st }
 
-unfoldable pub goesOn : Reading → Turn
+unfoldable pub goesOn : Reading → Step
 goesOn st = record { more = true; number = 0; place = 0; reading = st }
 
-unfoldable pub turnAt : List ℕ → Reading → Field → Turn
-turnAt s st End = ended st (endNumber (st .section) (st .members)) (st .head)
-turnAt s st Cut = ended st fieldCut (st .at)
-turnAt s st (Whole tag len) =
+unfoldable pub stepAt : List ℕ → Reading → Field → Step
+stepAt s st End = ended st (endNumber (st .section) (st .members)) (st .head)
+stepAt s st Cut = ended st fieldCut (st .at)
+stepAt s st (Whole tag len) =
     cond (eqb (fieldNumber s st tag len) 0) (goesOn (nextReading s st tag len))
     (ended st (fieldNumber s st tag len) (placeOf (fieldNumber s st tag len) (st .head) (st .at)))
 
 -- the answer of a reading that has ended
-unfoldable pub sheetOf : Turn → Sheet
+unfoldable pub sheetOf : Step → Sheet
 sheetOf t = cond (eqb (t .number) 0) (accepted (t .reading)) (refused (t .number) (t .place))
 
--- what a turn asks: the reading has come here, and the field is the one that stands there
-pub record TurnAsked (s : List ℕ) (t : Turn) (f : Field) : Type 0 where
+-- what a step asks: the reading has come here, and the field is the one that stands there
+pub record StepAsked (s : List ℕ) (t : Step) (f : Field) : Type 0 where
   pub progress : Progress s (t .reading)
   pub field : f ≡ fieldAt s (t .reading .at)

@@ -1,8 +1,8 @@
--- `next_turn` meets its contract: each way out is the turn that the definition gives for the field.
-use Rattle.sheet_reader.specs.Loop.{field-pre, progress-pre, turn-at-end, turn-at-cut, turn-at-refused, turn-at-next}
+-- `next_step` meets its contract: each way out is the step that the definition gives for the field.
+use Rattle.sheet_reader.specs.Loop.{field-pre, progress-pre, step-at-end, step-at-cut, step-at-refused, step-at-next}
 use borrow.Author.Needs.{needs}
-use Rattle.sheet_reader.proofs.next_turn.Statement.{statement}
-use Rattle.sheet_reader.proofs.next_turn.Tie as tie
+use Rattle.sheet_reader.proofs.next_step.Statement.{statement}
+use Rattle.sheet_reader.proofs.next_step.Tie as tie
 
 enum-told : tie.Need-enum-told
 enum-told c = search needs
@@ -23,22 +23,22 @@ place-of-requires : tie.Need-place-of-requires
 place-of-requires c κs = search needs
 
 returns : tie.Need-returns
-returns c = search turn-at-refused
+returns c = search step-at-refused
 
 next-reading-requires : tie.Need-next-reading-requires
 next-reading-requires c κs = search progress-pre
 
 returns-2 : tie.Need-returns-2
-returns-2 c = search turn-at-end
+returns-2 c = search step-at-end
 
 returns-3 : tie.Need-returns-3
-returns-3 c = search turn-at-cut
+returns-3 c = search step-at-cut
 
 returns-4 : tie.Need-returns-4
-returns-4 c = search turn-at-next
+returns-4 c = search step-at-next
 
-pub next-turn-spec : {M : Type 1} → statement M
-next-turn-spec =
+pub next-step-spec : {M : Type 1} → statement M
+next-step-spec =
     tie.close
     (tie.spec
     enum-told
