@@ -18,7 +18,7 @@ ghost use mathlib.Core.Path.{_≡_};
 ghost use Rattle.sheet.specs.Read.{readSheet};
 ghost use Rattle.sheet_reader.specs.Step.{StepAsked, firstStep, stepAt, sheetOf};
 
-// What a step of the reading leaves: whether a field is due next; if not, the number and place of the refusal, 0 and 0 where there is none; and the reading.
+// What a step of the reading leaves: whether a field is due next; if not, the number and place of the refusal, number 0 where there is none; and the reading.
 pub struct Step {
     pub more: bool,
     pub number: u64,

@@ -191,7 +191,7 @@ module _ {M : Type 1} (𝓤 : URA M) (H : Heap 𝓤) (A : Atoms 𝓤) (W : Given
   past-said : (r x : Reader) → ent 𝓤 (ensured 𝓤 H A past.ended (past.clauses 𝓤 H A mem run) (κ, tt) (r, tt) tt x) (fact 𝓤 (Moved r x))
   past-said r x = exE 𝓤 _ (λ ws. snd∗ 𝓤 (sem 𝓤 H A (lasts past.ended (κ, tt) (r, tt) ws)) (fact 𝓤 (Moved r x)))
 
-  -- `next_step`, at a turn and a field with the machine value u
+  -- `next_step`, at a step and a field with the machine value u
   abbrev to-step : Step → Field → Val → NextStep 𝓤 H A mem run .Ghost
   to-step t f u = (((κ, tt), (q, tt), tt, (s, (t, (f, tt))), (v ∷ [], (U′.lowered t ∷ [], (u ∷ [], tt)))), tt)
 
@@ -250,7 +250,7 @@ module _ {M : Type 1} (𝓤 : URA M) (H : Heap 𝓤) (A : Atoms 𝓤) (W : Given
   begun r es ea ir t et it =
       record { step = t; reader = r; holds = subst (StepHolds (now s)) (sym et) (first-holds (now s)); sheet = es; stands = λ _. ea ∙ sym first-at ∙ sym (ap (λ (x : Step). x .reading .at) et); step-is = it; reader-is = ir }
 
-  -- a turn that takes a field
+  -- a step that takes a field
   module _ (x : State) (more : x .step .more ≡ true) where
     field-is : (f : Field) → f ≡ fieldAt (now (x .reader .sheet)) (x .reader .at) → f ≡ fieldAt (now s) (x .step .reading .at)
     field-is f e = e ∙ ap (λ (y : RefT (List ℕ)). fieldAt (now y) (x .reader .at)) (x .sheet) ∙ ap (fieldAt (now s)) (x .stands more)
