@@ -114,8 +114,9 @@ class AllowedCase(JudgeCase):
 
 
 def answers(program, cases):
-    """What the program answers to each case. Where it ends too early, the answers that are missing are empty or cut."""
-    out = subprocess.run([program], input=b"".join(case.request() for case in cases), stdout=subprocess.PIPE).stdout
+    """What the program answers to each case. Where it does not end well, its last answer is cut and those it did not come to are empty."""
+    done = subprocess.run([program], input=b"".join(case.request() for case in cases), stdout=subprocess.PIPE)
+    out = done.stdout if done.returncode == 0 else done.stdout[:-1]
     ends = list(itertools.accumulate((case.answer_length() for case in cases), initial=0))
     return [out[start:end] for start, end in zip(ends, ends[1:])]
 
@@ -123,7 +124,7 @@ def answers(program, cases):
 def first_difference(cases, found):
     """The index and the fault of the first answer that is otherwise than is due, or None."""
     for index, (case, answer) in enumerate(zip(cases, found)):
-        fault = case.fault(answer) if len(answer) == case.answer_length() else "the program ended before it answered"
+        fault = case.fault(answer) if len(answer) == case.answer_length() else "the program did not end well"
         if fault:
             return index, fault
     return None

@@ -163,10 +163,10 @@ def times_exchanged(rng, sheet, plan):
 
 
 def one_more(rng, sheet, plan):
-    """A member stands once more, at its place or at the end."""
+    """A member too many, at any place or at the end: one that stands already, or zeros."""
     _, _, members = rng.choice(plan.sections)
-    at = rng.randrange(len(members))
-    members.insert(rng.choice((at, len(members))), list(members[at]))
+    at, member = rng.randrange(len(members)), rng.choice(members)
+    members.insert(rng.choice((at, len(members))), rng.choice((list(member), [0] * len(member))))
 
 
 def one_less(rng, sheet, plan):

@@ -3,8 +3,19 @@
 
     second.py HARNESS [COUNT] [SEED]
 
-runs all cases (kinds.py) through the program HARNESS (harness.c over the exported functions) and compares (compare.py). COUNT sets how many cases are
-drawn from SEED. The first difference ends the run with status 1 and is printed with the seed and the case.
+runs all cases through the program HARNESS (harness.c over the exported functions) and compares. COUNT sets how many cases are drawn from SEED. The first
+difference ends the run with status 1 and is printed with the seed and the case.
+
+    reader.py      sheets, read and checked
+    timetable.py   the rules: times of a choice, figures, plan bytes; distances.py: the flight's
+    best.py        the least figures of sections of any size
+    brute.py       the least figures of small sections, by trying everything
+    judge.py       the judge
+    tiny.py        every tiny sheet and plan of bounded kinds
+    sheets.py      sheets that are drawn; plans.py: plans with idle time, and with faults
+    kinds.py       all cases
+    compare.py     what is due in each case, and whether an answer is that
+    wrong.py       shows that every wrong program of wrong.txt is found; model/ is the right one that they are made from
 """
 import sys
 

@@ -63,23 +63,23 @@ static size_t cheapest(const struct beginnings *l) {
     return best;
 }
 
-/* The last strips of the batches of the best plan, found from the last batch back. Returns their number. */
-static size_t trace(const struct mosaic *m, size_t *last) {
-    size_t batches = 0, reversed[MOST_STRIPS];
-    for (size_t q = m->strips, k = cheapest(&behind[q]); q > 0;) {
-        const struct beginning b = behind[q].item[k];
-        reversed[batches++] = q;
-        q = b.strips_before;
-        k = b.index_before;
-    }
-    for (size_t i = 0; i < batches; i++)
-        last[i] = reversed[batches - 1 - i];
-    return batches;
+/* Stores the last strips of the batches that lead to a beginning of q strips. Returns their number. */
+static size_t trace(size_t q, size_t index, size_t *last) {
+    if (q == 0)
+        return 0;
+    size_t batches = trace(behind[q].item[index].strips_before, behind[q].item[index].index_before, last);
+    last[batches] = q;
+    return batches + 1;
 }
 
-static void fill_behind(const struct mosaic *m, const u64 *ready) {
-    for (size_t q = 0; q <= m->strips; q++)
+static void clear_behind(size_t strips) {
+    for (size_t q = 0; q <= strips; q++)
         behind[q].count = 0;
+}
+
+/* Strip by strip: once all beginnings of i strips are found, each is extended. */
+static void fill_behind(const struct mosaic *m, const u64 *ready) {
+    clear_behind(m->strips);
     add_beginning(&behind[0], (struct beginning){0, 0, 0, 0});
     for (size_t i = 0; i < m->strips; i++)
         for (size_t k = 0; k < behind[i].count; k++)
@@ -91,7 +91,7 @@ struct mosaic_plan plan_mosaic(const struct mosaic *m) {
     struct mosaic_plan plan = {0};
     ready_times(m, ready);
     fill_behind(m, ready);
-    plan.batches = trace(m, plan.last);
+    plan.batches = trace(m->strips, cheapest(&behind[m->strips]), plan.last);
     for (size_t k = 0, i = 0; k < plan.batches; i = plan.last[k++]) {
         free = finish_of(m, ready, free, i, plan.last[k]);
         plan.finish[k] = free;
