@@ -165,4 +165,5 @@ def full_sheet(rng):
 
 def longest_planned():
     """A sheet whose plan takes 1,095 bytes: 40 batches, 18 strips, 32 blocks."""
-    return mosaic_head(1, 0) + strip([9, 1]) * 40 + sorting_head(3) + b"".join(job(desk, 1, 1) for desk in (1, 2, 3)) * 6 + flight([(1, 0, 1)] * 32, int("10" * 32, 2))
+    strips, jobs = strip([9, 1]) * 40, b"".join(job(desk, 1, 1) for desk in (1, 2, 3)) * 6
+    return mosaic_head(1, 0) + strips + sorting_head(3) + jobs + flight([(1, 0, 1)] * 32, int("10" * 32, 2))

@@ -7,7 +7,7 @@ struct beginning {
     size_t strips_before, index_before;
 };
 
-/* A beginning's free time is fixed by the last batch that waited for a strip (first and last strip) and by the mounts since. */
+/* A beginning's free time is fixed by the last batch that waited for a strip, which is one of 820 runs, and by the number of mounts from it on. */
 enum { MOST_BEGINNINGS = 820 * 40 };
 
 struct beginnings {
