@@ -1,7 +1,7 @@
 """The least figures of small sheets by trying everything.
 
-`every_choice` tries every batching, every interleaving and every proper order, each with its earliest starts. `every_timetable`, for tiny sheets, tries
-timetables: in mosaic and sorting also those that wait one minute at one or two starts, in flight every row of starts up to a time behind which no start
+`of_choices` tries every batching, every interleaving and every proper order, each with its earliest starts. `of_timetables`, for tiny sheets, tries idle
+timetables too: in mosaic and sorting those that wait one minute at one or two starts, in flight every row of starts up to a time behind which no start
 is needed.
 """
 import itertools
@@ -81,12 +81,12 @@ def ends_by_order(blocks):
     return ends
 
 
-def every_choice(sheet):
+def of_choices(sheet):
     """The least figures: 0 for an absent section, None for a flight whose order is impossible."""
     return (least_mosaic(sheet, 0) if sheet.strips else 0, least_sorting(sheet, 0) if sheet.jobs else 0, least_flight(sheet) if sheet.blocks else 0)
 
 
-def every_timetable(sheet, ends=None):
+def of_timetables(sheet, ends=None):
     """The same. `ends` is what ends_by_order gives for the sheet's blocks."""
     flight = 0
     if sheet.blocks:

@@ -20,12 +20,12 @@ def agreed(sheet, figures):
     return figures
 
 
-def of_every_choice(sheet):
-    return agreed(sheet, brute.every_choice(sheet))
+def of_choices(sheet):
+    return agreed(sheet, brute.of_choices(sheet))
 
 
-def of_every_timetable(sheet):
-    return agreed(sheet, brute.every_timetable(sheet))
+def of_timetables(sheet):
+    return agreed(sheet, brute.of_timetables(sheet))
 
 
 def tiny_flights():
@@ -33,7 +33,7 @@ def tiny_flights():
     for blocks, orders in tiny.flights():
         ends = brute.ends_by_order(blocks)
         for number in orders:
-            yield PlanCase(sheets.flight(blocks, number), least=lambda sheet, ends=ends: agreed(sheet, brute.every_timetable(sheet, ends)))
+            yield PlanCase(sheets.flight(blocks, number), least=lambda sheet, ends=ends: agreed(sheet, brute.of_timetables(sheet, ends)))
 
 
 def long_sheets():
@@ -56,8 +56,8 @@ def long_plans():
 
 def fixed():
     """Name and cases of the kinds that are the same for every seed."""
-    yield "every tiny mosaic", (PlanCase(sheet, least=of_every_timetable) for sheet in tiny.mosaics())
-    yield "every tiny sorting", (PlanCase(sheet, least=of_every_timetable) for sheet in tiny.sortings())
+    yield "every tiny mosaic", (PlanCase(sheet, least=of_timetables) for sheet in tiny.mosaics())
+    yield "every tiny sorting", (PlanCase(sheet, least=of_timetables) for sheet in tiny.sortings())
     yield "every tiny flight", tiny_flights()
     yield "every row of up to four fields", map(PlanCase, tiny.field_rows())
     yield "every row of up to five bytes", map(PlanCase, tiny.byte_rows())
@@ -82,7 +82,7 @@ def small_sheets(rng, count):
     for _ in range(count):
         sheet = sheets.small_sheet(rng)
         wrong = plans.damaged(rng, sheet)
-        yield PlanCase(sheet, ROOM + rng.choice((0, 0, 7)), of_every_choice)
+        yield PlanCase(sheet, ROOM + rng.choice((0, 0, 7)), of_choices)
         yield PlanCase(wrong)
         yield PlanCase(rng.choice((sheet, wrong)), rng.randrange(ROOM))
 
