@@ -22,7 +22,7 @@ import sys
 import compare
 import kinds
 
-COUNT, SEED = 2000, 1987
+COUNT, SEED = 4000, 1987
 
 
 def compare_all(program, count, seed):
