@@ -1,13 +1,16 @@
 /* Runs planning and judging calls that stand on standard input and writes what they answer.
  * A call: one byte ('P' or 'J'), the sheet's length in four bytes and the sheet; for 'P' the plan buffer's length in four bytes;
- * for 'J' the plan's length in four bytes and the plan. The buffer is filled with A5 first.
- * An answer: for 'P' three numbers of eight bytes and the whole buffer; for 'J' five numbers of eight bytes. */
+ * for 'J' the plan's length in four bytes and the plan. The buffer and the bytes behind it are filled with A5 first.
+ * An answer: for 'P' three numbers of eight bytes, the whole buffer and 16 bytes behind it; for 'J' five numbers of eight bytes.
+ * A call that changes its sheet, or the plan that is judged, ends the program. */
 #include "sevulamon.h"
 
 #include <stdio.h>
 #include <string.h>
 
-static uint8_t sheet[1 << 20], plan[1 << 20];
+enum { MOST = 1 << 20, BEHIND = 16 };
+
+static uint8_t sheet[MOST], plan[MOST + BEHIND], given_sheet[MOST], given_plan[MOST];
 
 static int read_bytes(uint8_t *to, size_t count) {
     return fread(to, 1, count, stdin) == count;
@@ -25,31 +28,43 @@ static void write_number(uint64_t value) {
         putchar((int)(value & 255));
 }
 
+static void call_planner(size_t sheet_length, size_t room) {
+    memset(plan, 0xA5, room + BEHIND);
+    struct sevulamon_answer answer = sevulamon_plan(sheet, sheet_length, plan, room);
+    write_number(answer.number);
+    write_number(answer.place);
+    write_number(answer.length);
+    fwrite(plan, 1, room + BEHIND, stdout);
+}
+
+static int call_judge(size_t sheet_length, size_t plan_length) {
+    if (!read_bytes(plan, plan_length))
+        return 0;
+    memcpy(given_plan, plan, plan_length);
+    struct sevulamon_judged judged = sevulamon_judge(sheet, sheet_length, plan, plan_length);
+    write_number(judged.number);
+    write_number(judged.place);
+    write_number(judged.mosaic);
+    write_number(judged.sorting);
+    write_number(judged.flight);
+    return memcmp(given_plan, plan, plan_length) == 0;
+}
+
 int main(void) {
     for (int kind = getchar(); kind != EOF; kind = getchar()) {
         size_t sheet_length = read_length();
-        if (sheet_length > sizeof sheet || !read_bytes(sheet, sheet_length))
+        if (sheet_length > MOST || !read_bytes(sheet, sheet_length))
             return 1;
+        memcpy(given_sheet, sheet, sheet_length);
         size_t plan_length = read_length();
-        if (plan_length > sizeof plan)
+        if (plan_length > MOST)
             return 1;
-        if (kind == 'P') {
-            memset(plan, 0xA5, plan_length);
-            struct sevulamon_answer answer = sevulamon_plan(sheet, sheet_length, plan, plan_length);
-            write_number(answer.number);
-            write_number(answer.place);
-            write_number(answer.length);
-            fwrite(plan, 1, plan_length, stdout);
-        } else {
-            if (!read_bytes(plan, plan_length))
-                return 1;
-            struct sevulamon_judged judged = sevulamon_judge(sheet, sheet_length, plan, plan_length);
-            write_number(judged.number);
-            write_number(judged.place);
-            write_number(judged.mosaic);
-            write_number(judged.sorting);
-            write_number(judged.flight);
-        }
+        if (kind == 'P')
+            call_planner(sheet_length, plan_length);
+        else if (!call_judge(sheet_length, plan_length))
+            return 1;
+        if (memcmp(given_sheet, sheet, sheet_length) != 0)
+            return 1;
     }
     return 0;
 }

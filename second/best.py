@@ -1,0 +1,124 @@
+"""The least figures of a sheet's sections, of any size.
+
+Mosaic: forward from strip to strip, every pair (time at which the bench is free, figure) that no other pair beats. Sorting: forward over the
+numbers of strips taken of each desk, every row (figure, free times of the desks) that no other row beats. Flight without an order: the timetable
+in which passes of two kinds may overlap, and from there a branch on each overlap that is met, one pass first or the other.
+"""
+import itertools
+
+import distances
+import timetable
+
+
+def unbeaten(pairs):
+    """Of pairs (time, figure) those that no other comes before in both."""
+    out = []
+    for time, figure in sorted(pairs):
+        if not out or figure < out[-1][1]:
+            out.append((time, figure))
+    return out
+
+
+def best_mosaic(sheet):
+    ready, n = timetable.ready_times(sheet), len(sheet.strips)
+    pairs = [[(0, 0)]] + [[] for _ in range(n)]
+    for done in range(n):
+        beginnings, work = unbeaten(pairs[done]), sheet.mount
+        for last in range(done, n):
+            work += sheet.strips[last][1]
+            finishes = [(max(free, ready[last]) + work, figure) for free, figure in beginnings]
+            pairs[last + 1] += [(finish, figure + (last + 1 - done) * finish) for finish, figure in finishes]
+    return min(figure for _, figure in pairs[n])
+
+
+def unbeaten_rows(rows):
+    """Of rows (figure, three free times) those that no other comes before in all four."""
+    out = []
+    for row in sorted(rows):
+        _, a, b, c = row
+        if not any(x <= a and y <= b and z <= c for _, x, y, z in out):
+            out.append(row)
+    return out
+
+
+def scan_sums(queue):
+    return [0] + list(itertools.accumulate(scan for scan, _ in queue))
+
+
+def rows_behind(rows, desk, scanned, time, soonest):
+    """The rows once a strip of the desk (1 to 3) is scanned. A desk is not needed before its next strip's scan can end."""
+    out = set()
+    for row in rows:
+        finish = max(row[desk], scanned) + time
+        after = [row[0] + finish, *row[1:]]
+        after[desk] = finish
+        out.add((after[0], *[max(free, need) if need else 0 for free, need in zip(after[1:], soonest)]))
+    return out
+
+
+def best_sorting(sheet):
+    queues = [sheet.queue(desk) for desk in (1, 2, 3)]
+    sums = [scan_sums(queue) for queue in queues]
+    rows = {}
+    for taken in itertools.product(*[range(len(queue) + 1) for queue in queues]):
+        scanned = sum(sums[d][k] for d, k in enumerate(taken))
+        soonest = [scanned + queue[k][0] if k < len(queue) else None for queue, k in zip(queues, taken)]
+        found = set() if any(taken) else {(0, 0, 0, 0)}
+        for d, k in enumerate(taken):
+            if k:
+                before = taken[:d] + (k - 1,) + taken[d + 1:]
+                found |= rows_behind(rows[before], d + 1, scanned, queues[d][k - 1][1], soonest)
+        rows[taken] = unbeaten_rows(found)
+    return rows[tuple(map(len, queues))][0][0]
+
+
+def overlap(blocks, firsts):
+    """The first and the second pass of two blocks that overlap, as (block of the second, block of the first), or None."""
+    for i, block in enumerate(blocks):
+        start = firsts[i] + distances.offset(block)
+        for j in range(i + 1, len(blocks)):
+            if firsts[j] < start + block[2] and start < firsts[j] + blocks[j][0]:
+                return i, j
+    return None
+
+
+def kinds_in_turn(blocks):
+    """The distances where first passes take the blocks in turn, and second passes too."""
+    far = distances.apart(len(blocks))
+    for i in range(len(blocks) - 1):
+        for kind in (0, 1):
+            far = distances.ask_passes(far, blocks, (i, kind), (i + 1, kind))
+    return far
+
+
+def best_free_flight(blocks):
+    best, waiting = None, [kinds_in_turn(blocks)]
+    while waiting:
+        far = waiting.pop()
+        if far is None:
+            continue
+        firsts = distances.least(far, [0] * len(blocks))
+        end = distances.end(blocks, firsts)
+        if best is not None and end >= best:
+            continue
+        pair = overlap(blocks, firsts)
+        if pair is None:
+            best = end
+            continue
+        i, j = pair
+        waiting.append(distances.ask_passes(far, blocks, (i, 1), (j, 0)))
+        waiting.append(distances.ask_passes(far, blocks, (j, 0), (i, 1)))
+    return best
+
+
+def best_flight(sheet):
+    """The least figure, or None where the given order is impossible."""
+    if sheet.order is None:
+        return best_free_flight(sheet.blocks)
+    far = distances.in_order(sheet.blocks, sheet.order)
+    return None if far is None else distances.end(sheet.blocks, distances.least(far, [0] * len(sheet.blocks)))
+
+
+def best(sheet):
+    """The least figure of each section, 0 for an absent one, None for a flight whose order is impossible."""
+    return (best_mosaic(sheet) if sheet.strips else 0, best_sorting(sheet) if sheet.jobs else 0, best_flight(sheet) if sheet.blocks else 0)

@@ -1,0 +1,94 @@
+"""The least figures of small sheets by trying everything.
+
+`of_choices` tries every batching, every interleaving and every proper order, each with its earliest starts. `of_timetables`, for tiny sheets, tries idle
+timetables too: in mosaic and sorting those that wait one minute at one or two starts, in flight every row of starts up to a time behind which no start
+is needed.
+"""
+import itertools
+
+import distances
+import reader
+import timetable
+
+
+def batchings(n):
+    """Every row of last strips."""
+    for size in range(n):
+        for cuts in itertools.combinations(range(1, n), size):
+            yield [*cuts, n]
+
+
+def interleavings(counts):
+    """Every scanner list of desk numbers, for these numbers of strips of desks 1, 2, ..."""
+    if not any(counts):
+        yield []
+    for d, count in enumerate(counts):
+        if count:
+            for rest in interleavings(counts[:d] + (count - 1,) + counts[d + 1:]):
+                yield [d + 1, *rest]
+
+
+def proper_orders(n):
+    numbers = (sum(1 << k for k in seconds) for seconds in itertools.combinations(range(2 * n), n))
+    return [order for order in numbers if reader.proper(n, order)]
+
+
+def counts_of(sheet):
+    return tuple(len(sheet.queue(desk)) for desk in (1, 2, 3))
+
+
+def waits(starts, most):
+    """Every row of waits before so many starts: one minute at no more than `most` of them, 0 at the others. Each is a function that gives them in turn."""
+    for size in range(most + 1):
+        for late in itertools.combinations(range(starts), size):
+            yield iter([int(k in late) for k in range(starts)]).__next__
+
+
+def least_mosaic(sheet, most):
+    return min(timetable.mosaic_figure(timetable.batches_of(sheet, lasts, wait)) for lasts in batchings(len(sheet.strips)) for wait in waits(len(lasts), most))
+
+
+def least_sorting(sheet, most):
+    lists = interleavings(counts_of(sheet))
+    return min(timetable.sorting_figure(sheet, timetable.jobs_of(sheet, desks, wait)) for desks in lists for wait in waits(2 * len(desks), most))
+
+
+def least_flight(sheet):
+    """Over every order that may be chosen; None where none has a timetable."""
+    blocks, ends = sheet.blocks, []
+    for order in proper_orders(len(blocks)) if sheet.order is None else [sheet.order]:
+        far = distances.in_order(blocks, order)
+        if far is not None:
+            ends.append(distances.end(blocks, distances.least(far, [0] * len(blocks))))
+    return min(ends, default=None)
+
+
+def lawful_passes(blocks, firsts):
+    """Whether first passes take the blocks in turn, second passes too, and no two passes overlap."""
+    seconds = [first + distances.offset(block) for first, block in zip(firsts, blocks)]
+    spans = sorted([(f, f + block[0]) for f, block in zip(firsts, blocks)] + [(s, s + block[2]) for s, block in zip(seconds, blocks)])
+    apart = all(end <= start for (_, end), (start, _) in zip(spans, spans[1:]))
+    return apart and sorted(firsts) == list(firsts) and sorted(seconds) == seconds
+
+
+def ends_by_order(blocks):
+    """The least end of every order that has a timetable, by trying every row of starts. No block needs to start behind the time of all blocks in turn."""
+    latest, ends = sum(map(sum, blocks)), {}
+    for firsts in itertools.product(range(latest), repeat=len(blocks)):
+        if lawful_passes(blocks, firsts):
+            order, end = distances.order_of(blocks, firsts), distances.end(blocks, firsts)
+            ends[order] = min(end, ends.get(order, end))
+    return ends
+
+
+def of_choices(sheet):
+    """The least figures: 0 for an absent section, None for a flight whose order is impossible."""
+    return (least_mosaic(sheet, 0) if sheet.strips else 0, least_sorting(sheet, 0) if sheet.jobs else 0, least_flight(sheet) if sheet.blocks else 0)
+
+
+def of_timetables(sheet, ends=None):
+    """The same. `ends` is what ends_by_order gives for the sheet's blocks."""
+    flight = 0
+    if sheet.blocks:
+        flight = min(ends.values()) if sheet.order is None else ends.get(sheet.order)
+    return (least_mosaic(sheet, 2) if sheet.strips else 0, least_sorting(sheet, 2) if sheet.jobs else 0, flight)

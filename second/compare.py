@@ -1,0 +1,130 @@
+"""Cases, and their comparison with what a program answers. The program is harness.c over the two exported functions.
+
+A planning call is compared by value: number, place, length, every byte of the plan but which of several best choices it takes, and every other byte of
+the buffer and of the bytes behind it. A judging call is compared by its five numbers.
+"""
+import functools
+import itertools
+import struct
+import subprocess
+
+import best
+import distances
+import judge
+import reader
+import timetable
+
+ROOM = 1095
+BEHIND = 16
+FILL = b"\xA5"
+
+
+def earliest(sheet, plan):
+    """The plan that takes the same batches, scanner list and order as an allowed one and starts everything as early as they allow."""
+    places = {tag: members for tag, _, members in judge.parts_of(sheet, plan)[0]}
+    batches = timetable.batches_of(sheet, [plan[at + 3] for at in places[0x90]]) if sheet.strips else []
+    jobs = timetable.jobs_of(sheet, [plan[at + 3] for at in places[0xA0]]) if sheet.jobs else []
+    order, firsts = None, []
+    if sheet.blocks:
+        order = judge.number(plan, places[0xB0][0] - 8, 8)
+        firsts = distances.least(distances.in_order(sheet.blocks, order), [0] * len(sheet.blocks))
+    return timetable.plan_of(sheet, batches, jobs, order, firsts).bytes()
+
+
+class PlanCase:
+    """A sheet to be planned into a buffer of `room` bytes; `least` gives the figures due for a sound sheet."""
+
+    def __init__(self, sheet, room=ROOM, least=best.best):
+        self.sheet, self.room, self.least = sheet, room, least
+
+    def request(self):
+        return b"P" + struct.pack("<I", len(self.sheet)) + self.sheet + struct.pack("<I", self.room)
+
+    def answer_length(self):
+        return 24 + self.room + BEHIND
+
+    @functools.cached_property
+    def due(self):
+        """Number and place of the refusal, or 0 and 0; the sheet and its figures where it is accepted."""
+        if self.room < ROOM:
+            return (2, 0), None, None
+        try:
+            sheet = reader.read(self.sheet)
+        except reader.Refused as refused:
+            return (refused.number, refused.place), None, None
+        figures = self.least(sheet)
+        return ((11, sheet.order_at) if None in figures else (0, 0)), sheet, figures
+
+    def fault(self, answer):
+        """What is wrong with the answer, or None."""
+        (number, place, length), buffer = struct.unpack_from("<3Q", answer), answer[24:]
+        refusal, sheet, figures = self.due
+        if (number, place) != refusal:
+            return "number %d and place %d were due, not %d and %d" % (*refusal, number, place)
+        if number and length:
+            return "length 0 was due, not %d" % length
+        if buffer[length:] != FILL * (len(buffer) - length):
+            return "a byte that is no part of a plan was written"
+        return None if number else self.plan_fault(sheet, figures, buffer[:length])
+
+    def plan_fault(self, sheet, figures, plan):
+        verdict = judge.judge_plan(sheet, plan)
+        if verdict[0]:
+            return "the plan is not allowed: %d at %d" % verdict[:2]
+        if verdict[2:] != figures:
+            return "figures %s were due, not %s" % (figures, verdict[2:])
+        return None if plan == earliest(sheet, plan) else "a start is later than it need be"
+
+    def shown(self):
+        return "sheet %s\nplan buffer of %d bytes" % (self.sheet.hex(), self.room)
+
+
+class JudgeCase:
+    """A plan to be judged for a sheet."""
+
+    def __init__(self, sheet, plan):
+        self.sheet, self.plan = sheet, plan
+
+    def request(self):
+        return b"J" + struct.pack("<I", len(self.sheet)) + self.sheet + struct.pack("<I", len(self.plan)) + self.plan
+
+    def answer_length(self):
+        return 40
+
+    @functools.cached_property
+    def due(self):
+        return judge.judge(self.sheet, self.plan)
+
+    def fault(self, answer):
+        numbers = struct.unpack("<5Q", answer)
+        return None if numbers == self.due else "%s was due, not %s" % (self.due, numbers)
+
+    def shown(self):
+        return "sheet %s\nplan %s" % (self.sheet.hex(), self.plan.hex())
+
+
+class AllowedCase(JudgeCase):
+    """A plan that must be allowed."""
+
+    @functools.cached_property
+    def due(self):
+        verdict = judge.judge(self.sheet, self.plan)
+        assert verdict[:2] == (0, 0), "the second program turns its own plan back: %s\n%s" % (verdict, self.shown())
+        return verdict
+
+
+def answers(program, cases):
+    """What the program answers to each case. Where it does not end well, its last answer is cut and those it did not come to are empty."""
+    done = subprocess.run([program], input=b"".join(case.request() for case in cases), stdout=subprocess.PIPE)
+    out = done.stdout if done.returncode == 0 else done.stdout[:-1]
+    ends = list(itertools.accumulate((case.answer_length() for case in cases), initial=0))
+    return [out[start:end] for start, end in zip(ends, ends[1:])]
+
+
+def first_difference(cases, found):
+    """The index and the fault of the first answer that is otherwise than is due, or None."""
+    for index, (case, answer) in enumerate(zip(cases, found)):
+        fault = case.fault(answer) if len(answer) == case.answer_length() else "the program did not end well"
+        if fault:
+            return index, fault
+    return None

@@ -1,0 +1,173 @@
+"""All kinds of cases. The exhaustive ones are the same for every seed; of the others `count` sets the number, and the seed draws them."""
+import itertools
+import random
+
+import best
+import brute
+import plans
+import reader
+import sheets
+import tiny
+from compare import AllowedCase, JudgeCase, PlanCase, ROOM
+from reader import field
+
+CHUNK = 250
+
+
+def agreed(sheet, figures):
+    """The figures, once the two methods of this program agree."""
+    assert figures == best.best(sheet), "the second program's own methods differ: %s" % (figures,)
+    return figures
+
+
+def of_choices(sheet):
+    return agreed(sheet, brute.of_choices(sheet))
+
+
+def of_timetables(sheet):
+    return agreed(sheet, brute.of_timetables(sheet))
+
+
+def tiny_flights():
+    """Each row of blocks with its orders; the ends of all its timetables are found once."""
+    for blocks, orders in tiny.flights():
+        ends = brute.ends_by_order(blocks)
+        for number in orders:
+            yield PlanCase(sheets.flight(blocks, number), least=lambda sheet, ends=ends: agreed(sheet, brute.of_timetables(sheet, ends)))
+
+
+def long_sheets():
+    """Fields behind which, or within which, the sheet passes 65,536 bytes, whole, cut and with more behind them; and the longest plan."""
+    yield PlanCase(sheets.longest_planned())
+    for start, length, tag in itertools.product((b"", tiny.ONES["m"], tiny.ONES["f"]), (65529, 65532, 65533, 65534, 65535), (0x10, 0x20, 0x31, 0x99)):
+        whole = start + field(tag, bytes(length))
+        yield PlanCase(whole)
+        yield PlanCase(whole[:-1])
+        yield PlanCase(whole + start)
+
+
+def long_plans():
+    """Plans with 7,000 members, right or with something behind them."""
+    for section in ("m", "s", "f"):
+        plan = tiny.HEADS[section] + tiny.MEMBERS[section] * 7000
+        for tail in (b"", b"\x91", tiny.REFUSAL, plan):
+            yield JudgeCase(tiny.ONES[section], plan + tail)
+
+
+def fixed():
+    """Name and cases of the kinds that are the same for every seed."""
+    yield "every tiny mosaic", (PlanCase(sheet, least=of_timetables) for sheet in tiny.mosaics())
+    yield "every tiny sorting", (PlanCase(sheet, least=of_timetables) for sheet in tiny.sortings())
+    yield "every tiny flight", tiny_flights()
+    yield "every row of up to four fields", map(PlanCase, tiny.field_rows())
+    yield "every row of up to five bytes", map(PlanCase, tiny.byte_rows())
+    yield "every number of members", map(PlanCase, tiny.counts())
+    yield "every change of one byte of a sheet", map(PlanCase, tiny.changes(tiny.SMALL))
+    yield "every beginning of a sheet", map(PlanCase, tiny.beginnings(tiny.SMALL))
+    yield "every place with numbers about the bounds of times", map(PlanCase, tiny.bounds())
+    yield "every length of the plan buffer", itertools.starmap(PlanCase, tiny.buffers())
+    yield "every row of up to four plan fields", itertools.starmap(JudgeCase, tiny.plan_rows())
+    yield "every change of one byte of a plan", (JudgeCase(tiny.SMALL, plan) for plan in tiny.changes(tiny.small_plan()))
+    yield "every beginning of a plan", (JudgeCase(tiny.SMALL, plan) for plan in tiny.beginnings(tiny.small_plan()))
+    yield "sheets of more than 65,536 bytes", long_sheets()
+    yield "plans of more than 65,536 bytes", long_plans()
+
+
+def share(count, part):
+    return max(1, count // part)
+
+
+def small_sheets(rng, count):
+    """Each also damaged, and with too small a buffer."""
+    for _ in range(count):
+        sheet = sheets.small_sheet(rng)
+        wrong = plans.damaged(rng, sheet)
+        yield PlanCase(sheet, ROOM + rng.choice((0, 0, 7)), of_choices)
+        yield PlanCase(wrong)
+        yield PlanCase(rng.choice((sheet, wrong)), rng.randrange(ROOM))
+
+
+def judged(rng, sheet):
+    """A plan with idle time, the same with each fault of meaning, damaged, and for a damaged sheet; at the ceiling or behind it."""
+    parsed = reader.read(sheet)
+    plan = plans.idle_plan(rng, parsed)
+    allowed = AllowedCase if parsed.order in (None, plan.order) else JudgeCase
+    yield allowed(sheet, plan.bytes())
+    for fault in plans.FAULTS:
+        yield JudgeCase(sheet, plans.with_fault(rng, parsed, plan, fault))
+    yield JudgeCase(sheet, plans.damaged(rng, plan.bytes()))
+    yield JudgeCase(plans.damaged(rng, sheet), plan.bytes())
+    over = rng.choice((0, 1))
+    plans.move_to_ceiling(rng, parsed, plan, over)
+    yield (JudgeCase if over else allowed)(sheet, plan.bytes())
+
+
+def plans_for_small(rng, count):
+    for _ in range(share(count, 4)):
+        yield from judged(rng, sheets.small_sheet(rng))
+
+
+def plans_for_full(rng, count):
+    for _ in range(share(count, 40)):
+        yield from judged(rng, sheets.full_sheet(rng))
+
+
+def large_sheets(rng, count):
+    return (PlanCase(sheets.large_sheet(rng)) for _ in range(share(count, 10)))
+
+
+def full_sheets(rng, count):
+    return (PlanCase(sheets.full_sheet(rng)) for _ in range(share(count, 40)))
+
+
+def of_families(rng, count, families, section, size):
+    """Sheets with one full section, the same number of each family."""
+    return (PlanCase(section(rng, family, size)) for family in families for _ in range(share(count, 100)))
+
+
+def mosaics(rng, count):
+    return of_families(rng, count, sheets.MOSAICS, sheets.mosaic, 40)
+
+
+def sortings(rng, count):
+    return of_families(rng, count, sheets.SORTINGS, sheets.sorting, [6, 6, 6])
+
+
+def free_flights(rng, count):
+    return of_families(rng, count, sheets.FLIGHTS, sheets.free_flight, 8)
+
+
+def ordered_flights(rng, count):
+    return of_families(rng, 2 * count, sheets.FLIGHTS, sheets.ordered_flight, 32)
+
+
+DRAWN = {
+    "small sheets": small_sheets, "plans for small sheets": plans_for_small, "mosaics of 40 strips": mosaics, "sortings of 6 + 6 + 6 strips": sortings,
+    "flights of 8 free blocks": free_flights, "flights of 32 blocks in order": ordered_flights, "large sheets": large_sheets,
+    "full sheets": full_sheets, "plans for full sheets": plans_for_full,
+}
+
+
+def drawn(count, seed):
+    """Name and cases of the kinds that are drawn, each kind from the seed and its name."""
+    for name, cases in DRAWN.items():
+        yield name, cases(random.Random("%d %s" % (seed, name)), count)
+
+
+def rows_of(name, cases):
+    """The cases of a kind in rows of at most CHUNK: the kind's name, the number of the first case, the row."""
+    first = 0
+    for row in iter(lambda: list(itertools.islice(cases, CHUNK)), []):
+        yield name, first, row
+        first += len(row)
+
+
+def chunks(count, seed):
+    """All cases, a row of each kind in turn, so that every kind is met early."""
+    waiting = [rows_of(name, cases) for name, cases in itertools.chain(fixed(), drawn(count, seed))]
+    while waiting:
+        kind = waiting.pop(0)
+        row = next(kind, None)
+        if row:
+            yield row
+            waiting.append(kind)

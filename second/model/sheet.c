@@ -1,0 +1,187 @@
+/* The model's reader: every check of a field in the order in which they are due, and what the field adds. */
+#include "sheet.h"
+
+enum tag { MOSAIC_HEAD = 0x10, MOSAIC_STRIP = 0x11, SORTING_HEAD = 0x20, SORTING_STRIP = 0x21, FLIGHT_HEAD = 0x30, BLOCK = 0x31, ORDER = 0x32 };
+
+/* The head of the section that stands open, 0 where none does, its place and its members. */
+struct reading {
+    uint8_t open;
+    size_t head, members;
+};
+
+void ready_times(const struct mosaic *m, u64 *ready) {
+    u64 sum[MOST_STATIONS] = {0};
+    for (size_t j = 0; j < m->strips; j++) {
+        ready[j] = 0;
+        for (size_t k = 0; k < m->stations; k++) {
+            sum[k] += m->station[j][k];
+            ready[j] = later(ready[j], sum[k]);
+        }
+    }
+}
+
+u64 bench_times(const struct mosaic *m, size_t from, size_t to) {
+    u64 sum = 0;
+    for (size_t j = from; j < to; j++)
+        sum += m->bench[j];
+    return sum;
+}
+
+bool proper(size_t blocks, u64 order) {
+    size_t firsts = 0, seconds = 0;
+    for (size_t k = 0; k < 2 * blocks; k++) {
+        if (order >> k & 1)
+            seconds++;
+        else
+            firsts++;
+        if (firsts < seconds)
+            return false;
+    }
+    return firsts == seconds && (blocks == MOST_BLOCKS || order >> 2 * blocks == 0);
+}
+
+static bool is_head(uint8_t tag) {
+    return tag == MOSAIC_HEAD || tag == SORTING_HEAD || tag == FLIGHT_HEAD;
+}
+
+static bool permitted(uint8_t tag, const struct reading *r, const struct sheet *s) {
+    if (s->flight.ordered)
+        return false;
+    if (is_head(tag))
+        return tag > r->open;
+    if (tag == ORDER)
+        return r->open == FLIGHT_HEAD && r->members > 0;
+    return (tag == MOSAIC_STRIP || tag == SORTING_STRIP || tag == BLOCK) && tag == r->open + 1;
+}
+
+static size_t length_due(uint8_t tag, size_t stations) {
+    switch (tag) {
+    case MOSAIC_HEAD: return 3;
+    case MOSAIC_STRIP: return 2 * stations + 2;
+    case SORTING_HEAD: return 1;
+    case SORTING_STRIP: return 5;
+    case FLIGHT_HEAD: return 0;
+    case BLOCK: return 6;
+    default: return 8;
+    }
+}
+
+static bool within(u64 low, u64 value, u64 high) {
+    return low <= value && value <= high;
+}
+
+static bool time_in_range(const uint8_t *bytes, u64 least) {
+    return within(least, number_at(bytes, 2), MOST_TIME);
+}
+
+static bool strip_in_range(const uint8_t *c, size_t stations) {
+    for (size_t k = 0; k < stations; k++)
+        if (!time_in_range(c + 2 * k, 0))
+            return false;
+    return time_in_range(c + 2 * stations, 1);
+}
+
+static bool in_range(uint8_t tag, const uint8_t *c, const struct sheet *s) {
+    switch (tag) {
+    case MOSAIC_HEAD: return within(1, c[0], MOST_STATIONS) && time_in_range(c + 1, 0);
+    case MOSAIC_STRIP: return strip_in_range(c, s->mosaic.stations);
+    case SORTING_HEAD: return within(1, c[0], MOST_DESKS);
+    case SORTING_STRIP: return within(1, c[0], s->sorting.desks) && time_in_range(c + 1, 1) && time_in_range(c + 3, 1);
+    case BLOCK: return time_in_range(c, 1) && time_in_range(c + 2, 0) && time_in_range(c + 4, 1);
+    default: return true;
+    }
+}
+
+static bool too_many(uint8_t tag, const uint8_t *c, const struct sheet *s) {
+    switch (tag) {
+    case MOSAIC_STRIP: return s->mosaic.strips == MOST_STRIPS;
+    case SORTING_STRIP: return s->sorting.counts[c[0] - 1] == MOST_OF_DESK;
+    case BLOCK: return s->flight.blocks == MOST_BLOCKS;
+    default: return false;
+    }
+}
+
+/* 8 or 10 where the open section may not end here. */
+static struct refusal check_end(const struct reading *r, const struct sheet *s) {
+    if (r->members == 0)
+        return (struct refusal){SEVULAMON_NO_MEMBERS, r->head};
+    if (s->flight.blocks > FREE_BLOCKS && !s->flight.ordered)
+        return (struct refusal){SEVULAMON_ORDER_MISSING, r->head};
+    return (struct refusal){0, 0};
+}
+
+/* 4, 5, 6, 7 or 9 of a field, or 0. */
+static u64 check_field(uint8_t tag, const uint8_t *c, size_t length, const struct reading *r, const struct sheet *s) {
+    if (!permitted(tag, r, s))
+        return SEVULAMON_TAG_NOT_PERMITTED;
+    if (length != length_due(tag, s->mosaic.stations))
+        return SEVULAMON_LENGTH_WRONG;
+    if (!in_range(tag, c, s))
+        return SEVULAMON_OUT_OF_RANGE;
+    if (too_many(tag, c, s))
+        return SEVULAMON_TOO_MANY;
+    if (tag == ORDER && !proper(s->flight.blocks, number_at(c, 8)))
+        return SEVULAMON_ORDER_NOT_PROPER;
+    return 0;
+}
+
+static void add_strip(struct mosaic *m, const uint8_t *c) {
+    for (size_t k = 0; k < m->stations; k++)
+        m->station[m->strips][k] = number_at(c + 2 * k, 2);
+    m->bench[m->strips++] = number_at(c + 2 * m->stations, 2);
+}
+
+static void add_job(struct sorting *s, const uint8_t *c) {
+    size_t d = c[0] - 1u, k = s->counts[d]++;
+    s->scan[d][k] = number_at(c + 1, 2);
+    s->desk[d][k] = number_at(c + 3, 2);
+    s->strips++;
+}
+
+static void add_block(struct flight *f, const uint8_t *c) {
+    f->first[f->blocks] = number_at(c, 2);
+    f->delay[f->blocks] = number_at(c + 2, 2);
+    f->second[f->blocks++] = number_at(c + 4, 2);
+}
+
+/* What a field that passed its checks adds. */
+static void add_field(struct sheet *s, uint8_t tag, const uint8_t *c, size_t at) {
+    switch (tag) {
+    case MOSAIC_HEAD:
+        s->mosaic.stations = c[0];
+        s->mosaic.mount = number_at(c + 1, 2);
+        break;
+    case MOSAIC_STRIP: add_strip(&s->mosaic, c); break;
+    case SORTING_HEAD: s->sorting.desks = c[0]; break;
+    case SORTING_STRIP: add_job(&s->sorting, c); break;
+    case BLOCK: add_block(&s->flight, c); break;
+    case ORDER:
+        s->flight.ordered = true;
+        s->flight.order = number_at(c, 8);
+        s->flight.order_place = at;
+        break;
+    }
+}
+
+struct refusal read_sheet(const uint8_t *bytes, size_t length, struct sheet *s) {
+    struct reading r = {0, 0, 0};
+    for (size_t at = 0; at < length;) {
+        size_t left = length - at, content = left < 3 ? 0 : number_at(bytes + at + 1, 2);
+        if (left < 3 || left - 3 < content)
+            return (struct refusal){SEVULAMON_FIELD_CUT, at};
+        uint8_t tag = bytes[at];
+        struct refusal end = is_head(tag) && r.open ? check_end(&r, s) : (struct refusal){0, 0};
+        if (end.number != 0)
+            return end;
+        u64 number = check_field(tag, bytes + at + 3, content, &r, s);
+        if (number != 0)
+            return (struct refusal){number, at};
+        add_field(s, tag, bytes + at + 3, at);
+        if (is_head(tag))
+            r = (struct reading){tag, at, 0};
+        else
+            r.members++;
+        at += 3 + content;
+    }
+    return check_end(&r, s);
+}

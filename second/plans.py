@@ -1,0 +1,259 @@
+"""Plans for the judge: lawful ones with random choices and idle time, and the same with faults.
+
+A fault of meaning keeps the layout and changes numbers, or adds, drops or exchanges members or sections; a fault of bytes changes the bytes blindly.
+"""
+import copy
+
+import distances
+import timetable
+from timetable import CEILING
+
+
+def random_lasts(rng, n):
+    """Last strips of a random batching of few or many batches."""
+    chance = rng.choice((0.1, 0.5, 0.9))
+    return [k for k in range(1, n) if rng.random() < chance] + [n]
+
+
+def random_list(rng, sheet):
+    desks = [desk for desk, _, _ in sheet.jobs]
+    rng.shuffle(desks)
+    return desks
+
+
+def random_order(rng, n):
+    """A proper order number of n blocks."""
+    order = firsts = seconds = 0
+    for k in range(2 * n):
+        if seconds < firsts and (firsts == n or rng.random() < 0.5):
+            order |= 1 << k
+            seconds += 1
+        else:
+            firsts += 1
+    return order
+
+
+def spans_of(blocks, firsts):
+    """Start and end of every pass of the blocks that are placed."""
+    pairs = timetable.passes_of(blocks, firsts)
+    return [(start, start + time) for (first, second), (a, _, b) in zip(pairs, blocks) for start, time in ((first, a), (second, b))]
+
+
+def first_fit(blocks, firsts, start):
+    """The earliest time from `start` on at which the next block follows the blocks placed and is clear of all their passes."""
+    block, spans, moved = blocks[len(firsts)], spans_of(blocks, firsts), True
+    gap = distances.offset(block)
+    if spans:
+        start = max(start, spans[-2][1], spans[-1][1] - gap)
+    while moved:
+        ends = [end for begin, end in spans if begin < start + block[0] and start < end]
+        ends += [end - gap for begin, end in spans if begin < start + gap + block[2] and start + gap < end]
+        moved = bool(ends)
+        start = max(ends, default=start)
+    return start
+
+
+def random_firsts(rng, blocks):
+    """Starts of the first passes of a lawful timetable in some order, with or without idle time."""
+    most, firsts = rng.choice((0, 0, 3, 30, 20000)), []
+    for _ in blocks:
+        firsts.append(first_fit(blocks, firsts, (firsts[-1] if firsts else 0) + rng.randint(0, most)))
+    return firsts
+
+
+def waiting_firsts(rng, blocks, order):
+    """Starts that keep an order, some blocks made to wait, or None where the order is impossible."""
+    far, most = distances.in_order(blocks, order), rng.choice((0, 3, 100, 20000))
+    return far and distances.least(far, [rng.choice((0, rng.randint(0, most))) for _ in blocks])
+
+
+def random_flight(rng, sheet):
+    """Order number and first starts: the given order, or a random one; where that is impossible, the order of a random timetable."""
+    order = random_order(rng, len(sheet.blocks)) if sheet.order is None else sheet.order
+    firsts = waiting_firsts(rng, sheet.blocks, order)
+    if firsts is None:
+        firsts = random_firsts(rng, sheet.blocks)
+        order = distances.order_of(sheet.blocks, firsts)
+    return order, firsts
+
+
+def idle_plan(rng, sheet):
+    """A plan with idle time that is lawful unless the given order is impossible: then its flight keeps another order."""
+    most = rng.choice((0, 1, 20, 5000))
+
+    def wait():
+        return rng.choice((0, rng.randint(0, most)))
+
+    batches = timetable.batches_of(sheet, random_lasts(rng, len(sheet.strips)), wait) if sheet.strips else []
+    jobs = timetable.jobs_of(sheet, random_list(rng, sheet), wait) if sheet.jobs else []
+    order, firsts = random_flight(rng, sheet) if sheet.blocks else (None, [])
+    return timetable.plan_of(sheet, batches, jobs, order, firsts)
+
+
+# The places of the times in a member.
+TIMES = {0x90: (1, 2), 0xA0: (2, 3), 0xB0: (0, 1)}
+
+
+def figure_of(sheet, tag, members):
+    if tag == 0x90:
+        return timetable.mosaic_figure(members)
+    if tag == 0xA0:
+        return timetable.sorting_figure(sheet, members)
+    return distances.end(sheet.blocks, [first for first, _ in members])
+
+
+def last_end(sheet, tag, members):
+    if tag == 0x90:
+        return members[-1][2]
+    if tag == 0xA0:
+        return max(begin + sheet.queue(desk)[number - 1][1] for desk, number, _, begin in members)
+    return figure_of(sheet, tag, members)
+
+
+def shift(tag, members, by):
+    """Moves members; the figure stays."""
+    for member in members:
+        for column in TIMES[tag]:
+            member[column] += by
+
+
+def move_to_ceiling(rng, sheet, plan, over):
+    """One section ends at the ceiling, or `over` behind it: all of it, or in mosaic and sorting its last members, are moved there."""
+    tag, head, members = rng.choice(plan.sections)
+    first = 0 if tag == 0xB0 else rng.randrange(len(members))
+    shift(tag, members[first:], CEILING + over - last_end(sheet, tag, members[first:]))
+    head[0] = figure_of(sheet, tag, members)
+
+
+# Faults of meaning: each changes a plan.
+
+def one_off(rng, sheet, plan):
+    """One time of one member is one earlier or later."""
+    tag, _, members = rng.choice(plan.sections)
+    rng.choice(members)[rng.choice(TIMES[tag])] += rng.choice((-1, 1))
+
+
+def member_moved(rng, sheet, plan):
+    """All times of one member are one earlier or later, and the figure is that of the members then."""
+    tag, head, members = rng.choice(plan.sections)
+    shift(tag, [rng.choice(members)], rng.choice((-1, -1, 1)))
+    head[0] = figure_of(sheet, tag, members)
+
+
+def tail_moved(rng, sheet, plan):
+    """All times from one member on are some earlier, and the figure is that of the members then."""
+    tag, head, members = rng.choice(plan.sections)
+    shift(tag, members[rng.randrange(len(members)):], -rng.choice((1, 1, 2, 5)))
+    head[0] = figure_of(sheet, tag, members)
+
+
+def exchanged(rng, sheet, plan):
+    """Two members change places."""
+    _, _, members = rng.choice(plan.sections)
+    i, j = rng.randrange(len(members)), rng.randrange(len(members))
+    members[i], members[j] = members[j], members[i]
+
+
+def times_exchanged(rng, sheet, plan):
+    """Two members change their times."""
+    tag, _, members = rng.choice(plan.sections)
+    one, other = rng.choice(members), rng.choice(members)
+    for column in TIMES[tag]:
+        one[column], other[column] = other[column], one[column]
+
+
+def one_more(rng, sheet, plan):
+    """A member too many, at any place or at the end: one that stands already, or zeros."""
+    _, _, members = rng.choice(plan.sections)
+    at, member = rng.randrange(len(members)), rng.choice(members)
+    members.insert(rng.choice((at, len(members))), rng.choice((list(member), [0] * len(member))))
+
+
+def one_less(rng, sheet, plan):
+    """A member is missing."""
+    _, _, members = rng.choice(plan.sections)
+    members.pop(rng.randrange(len(members)))
+
+
+def last_missing(rng, sheet, plan):
+    """The last member is missing, and the figure is that of the others."""
+    tag, head, members = rng.choice(plan.sections)
+    members.pop()
+    head[0] = figure_of(sheet, tag, members) if members else 0
+
+
+def renumbered(rng, sheet, plan):
+    """Another last strip, desk or strip number; in flight another time."""
+    tag, _, members = rng.choice(plan.sections)
+    member, column = rng.choice(members), rng.choice((0, 1)) if tag == 0xA0 else 0
+    member[column] = rng.choice((0, member[column] - 1, member[column] + 1, 255))
+
+
+def untrue(rng, sheet, plan):
+    """A figure is off, or 0."""
+    _, head, _ = rng.choice(plan.sections)
+    head[0] = rng.choice((head[0] - 1, head[0] + 1, head[0] + (1 << 24), 0))
+
+
+def other_number(rng, sheet, plan):
+    """The number of another order, or of none."""
+    tag, head, members = plan.sections[-1]
+    if tag == 0xB0:
+        head[1] = rng.choice((random_order(rng, len(members)), head[1] ^ 1 << rng.randrange(64), head[1] ^ 3 << rng.randrange(63), 0))
+
+
+def other_flight(rng, sheet, plan):
+    """The flight in another order, lawful unless an order is given, and with that order's number."""
+    tag, head, members = plan.sections[-1]
+    if tag == 0xB0:
+        firsts = random_firsts(rng, sheet.blocks)
+        members[:] = timetable.passes_of(sheet.blocks, firsts)
+        head[:] = [distances.end(sheet.blocks, firsts), distances.order_of(sheet.blocks, firsts)]
+
+
+def near_the_top(rng, sheet, plan):
+    """A member's times stand just below the greatest number of four bytes, or pass it and lose their upper bits."""
+    tag, _, members = rng.choice(plan.sections)
+    member = rng.choice(members)
+    shift(tag, [member], (1 << 32) - rng.choice((1, 2, member[TIMES[tag][1]], member[TIMES[tag][0]] + 1)))
+
+
+def section_displaced(rng, sheet, plan):
+    """A section is missing, stands first or stands first and last."""
+    section, kind = plan.sections.pop(rng.randrange(len(plan.sections))), rng.choice(("missing", "first", "twice"))
+    if kind != "missing":
+        plan.sections.insert(0, section)
+    if kind == "twice":
+        plan.sections.append(section)
+
+
+FAULTS = (
+    one_off, member_moved, tail_moved, exchanged, times_exchanged, one_more, one_less, last_missing, renumbered, untrue, other_number, other_flight,
+    near_the_top, section_displaced,
+)
+
+
+def with_fault(rng, sheet, plan, fault):
+    """The bytes of the plan with a fault of meaning."""
+    plan = copy.deepcopy(plan)
+    fault(rng, sheet, plan)
+    return plan.bytes()
+
+
+def damaged(rng, data):
+    """The bytes, of a sheet or a plan, with one to three blind faults."""
+    out = bytearray(data)
+    for _ in range(rng.randint(1, 3)):
+        at, kind = rng.randrange(len(out) + 1), rng.choice(("set", "cut", "insert", "step", "repeat"))
+        if kind == "set":
+            out[at:at + 1] = [rng.choice((0, 1, 0x10, 0x20, 0x30, 0x31, 0x32, 0x91, 255, rng.randrange(256)))]
+        elif kind == "cut":
+            del out[at:]
+        elif kind == "insert":
+            out[at:at] = [rng.randrange(256)]
+        elif kind == "step":
+            out[at:at + 1] = [(byte + rng.choice((1, 255))) % 256 for byte in out[at:at + 1]]
+        else:
+            cut = rng.randrange(len(out) + 1)
+            out[at:at] = out[cut:cut + rng.randint(1, 12)]
+    return bytes(out)

@@ -1,0 +1,174 @@
+"""The reader of sheets: the checks of each field in the order in which they are due, and what a sound sheet says."""
+import struct
+
+MOST_TIME = 10_000
+HEADS = (0x10, 0x20, 0x30)
+MEMBER_OF = {0x11: 0x10, 0x21: 0x20, 0x31: 0x30}
+
+
+class Refused(Exception):
+    """A sheet that is turned back, with number and place."""
+
+    def __init__(self, number, place):
+        super().__init__(number, place)
+        self.number, self.place = number, place
+
+
+class Sheet:
+    """What a sound sheet says. The members of an absent section are None.
+
+    strips: (station times, bench time); jobs: (desk, scan time, desk time); blocks: (first pass, delay, second pass).
+    """
+
+    def __init__(self):
+        self.stations = self.mount = self.desks = None
+        self.strips = self.jobs = self.blocks = None
+        self.order = self.order_at = None
+
+    def queue(self, desk):
+        """Scan and desk times of the strips of one desk, in order."""
+        return [(scan, time) for d, scan, time in self.jobs if d == desk]
+
+
+def word(data, at):
+    return data[at] | data[at + 1] << 8
+
+
+def words(content, first):
+    return [word(content, at) for at in range(first, len(content), 2)]
+
+
+def field(tag, content=b""):
+    return bytes([tag]) + struct.pack("<H", len(content)) + content
+
+
+def proper(n, order):
+    """Whether the order number is proper for n blocks: the passes open never fall below 0 and end at 0."""
+    if order >> 2 * n:
+        return False
+    height = 0
+    for k in range(2 * n):
+        height += -1 if order >> k & 1 else 1
+        if height < 0:
+            return False
+    return height == 0
+
+
+class Reader:
+    """Takes in one field after another. `open` is the head tag of the section that stands open, `head` its place, `members` its list."""
+
+    def __init__(self):
+        self.sheet = Sheet()
+        self.open, self.head, self.members = None, 0, []
+
+    def read_field(self, data, at):
+        """Checks one field and takes it in. Returns where the next one stands."""
+        if len(data) - at < 3 or len(data) - at - 3 < word(data, at + 1):
+            raise Refused(3, at)
+        tag, after = data[at], at + 3 + word(data, at + 1)
+        content = data[at + 3:after]
+        if tag in HEADS and self.open is not None:
+            self.end_section()
+        if not self.permitted(tag):
+            raise Refused(4, at)
+        if len(content) != self.length_due(tag):
+            raise Refused(5, at)
+        number = self.take(tag, content, at)
+        if number:
+            raise Refused(number, at)
+        if tag in HEADS:
+            self.open, self.head, self.members = tag, at, self.members_of(tag)
+        return after
+
+    def end_section(self):
+        """8 or 10 where the open section may not end; 8 at 0 where no section stands open."""
+        if not self.members:
+            raise Refused(8, self.head)
+        if self.open == 0x30 and self.sheet.order is None and len(self.members) > 8:
+            raise Refused(10, self.head)
+
+    def permitted(self, tag):
+        if self.sheet.order is not None:
+            return False
+        if tag in HEADS:
+            return self.open is None or tag > self.open
+        if tag == 0x32:
+            return self.open == 0x30 and len(self.members) > 0
+        return tag in MEMBER_OF and MEMBER_OF[tag] == self.open
+
+    def length_due(self, tag):
+        if tag == 0x11:
+            return 2 * self.sheet.stations + 2
+        return {0x10: 3, 0x20: 1, 0x21: 5, 0x30: 0, 0x31: 6, 0x32: 8}[tag]
+
+    def members_of(self, tag):
+        return {0x10: self.sheet.strips, 0x20: self.sheet.jobs, 0x30: self.sheet.blocks}[tag]
+
+    def take(self, tag, content, at):
+        """6, 7 or 9 of a field, or 0 once the field is taken in."""
+        if tag == 0x10:
+            return self.take_mosaic(content)
+        if tag == 0x11:
+            return self.take_strip(words(content, 0))
+        if tag == 0x20:
+            return self.take_sorting(content[0])
+        if tag == 0x21:
+            return self.take_job(content[0], *words(content, 1))
+        if tag == 0x31:
+            return self.take_block(*words(content, 0))
+        if tag == 0x32:
+            return self.take_order(int.from_bytes(content, "little"), at)
+        self.sheet.blocks = []
+        return 0
+
+    def take_mosaic(self, content):
+        stations, mount = content[0], word(content, 1)
+        if not 1 <= stations <= 4 or mount > MOST_TIME:
+            return 6
+        self.sheet.stations, self.sheet.mount, self.sheet.strips = stations, mount, []
+        return 0
+
+    def take_strip(self, times):
+        if max(times) > MOST_TIME or times[-1] < 1:
+            return 6
+        if len(self.members) == 40:
+            return 7
+        self.members.append((times[:-1], times[-1]))
+        return 0
+
+    def take_sorting(self, desks):
+        if not 1 <= desks <= 3:
+            return 6
+        self.sheet.desks, self.sheet.jobs = desks, []
+        return 0
+
+    def take_job(self, desk, scan, time):
+        if not 1 <= desk <= self.sheet.desks or not 1 <= scan <= MOST_TIME or not 1 <= time <= MOST_TIME:
+            return 6
+        if len(self.sheet.queue(desk)) == 6:
+            return 7
+        self.members.append((desk, scan, time))
+        return 0
+
+    def take_block(self, first, delay, second):
+        if not 1 <= first <= MOST_TIME or delay > MOST_TIME or not 1 <= second <= MOST_TIME:
+            return 6
+        if len(self.members) == 32:
+            return 7
+        self.members.append((first, delay, second))
+        return 0
+
+    def take_order(self, order, at):
+        if not proper(len(self.members), order):
+            return 9
+        self.sheet.order, self.sheet.order_at = order, at
+        return 0
+
+
+def read(data):
+    """What a sheet says, or Refused."""
+    reader, at = Reader(), 0
+    while at < len(data):
+        at = reader.read_field(data, at)
+    reader.end_section()
+    return reader.sheet

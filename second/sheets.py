@@ -1,0 +1,169 @@
+"""Sheets: their fields, random small ones, and full sections of several families.
+
+A family is a row of functions, each of which draws a time.
+"""
+import struct
+
+import distances
+import plans
+from reader import field
+
+
+def mosaic_head(stations, mount):
+    return field(0x10, struct.pack("<BH", stations, mount))
+
+
+def strip(times):
+    """Station times, then the bench time."""
+    return field(0x11, struct.pack("<%dH" % len(times), *times))
+
+
+def sorting_head(desks):
+    return field(0x20, bytes([desks]))
+
+
+def job(desk, scan, time):
+    return field(0x21, struct.pack("<BHH", desk, scan, time))
+
+
+def block(first, delay, second):
+    return field(0x31, struct.pack("<3H", first, delay, second))
+
+
+def order(number):
+    return field(0x32, struct.pack("<Q", number))
+
+
+def flight(blocks, number=None):
+    """A whole section; without an order number it is free."""
+    out = field(0x30) + b"".join(block(*times) for times in blocks)
+    return out if number is None else out + order(number)
+
+
+def span(low, high):
+    return lambda rng: rng.randint(low, high)
+
+
+def either(*values):
+    return lambda rng: rng.choice(values)
+
+
+# Mount, station and bench times.
+MOSAICS = {
+    "equal times": (span(7, 7), span(7, 7), span(7, 7)),
+    "small times": (span(0, 5), span(0, 5), span(1, 5)),
+    "large times": (span(0, 10000), span(0, 10000), span(1, 10000)),
+    "long stations": (span(0, 1000), span(0, 10000), span(1, 1000)),
+    "long bench": (span(0, 1000), span(0, 1000), span(1, 10000)),
+    "long mounts": (span(9000, 10000), span(0, 500), span(1, 500)),
+    "no mounts": (span(0, 0), span(0, 100), span(1, 100)),
+    "cameras off": (span(1, 60), either(0, 0, 0, 50), span(1, 20)),
+    "all ready at 0": (span(1, 300), span(0, 0), span(1, 30)),
+}
+
+# Scan and desk times.
+SORTINGS = {
+    "equal times": (span(4, 4), span(9, 9)),
+    "small times": (span(1, 5), span(1, 5)),
+    "large times": (span(1, 10000), span(1, 10000)),
+    "long scans": (span(1, 10000), span(1, 1000)),
+    "long desks": (span(1, 1000), span(1, 10000)),
+    "three desks busy": (span(1, 3333), span(1, 10000)),
+    "1 or 10,000": (either(1, 10000), either(1, 10000)),
+}
+
+# First pass, delay, second pass.
+FLIGHTS = {
+    "equal times": (span(5, 5), span(20, 20), span(5, 5)),
+    "small times": (span(1, 4), span(0, 9), span(1, 4)),
+    "large times": (span(1, 10000), span(0, 10000), span(1, 10000)),
+    "long delays": (span(1, 100), span(0, 10000), span(1, 100)),
+    "short delays": (span(50, 100), span(0, 60), span(50, 100)),
+}
+
+
+def mosaic(rng, family, strips):
+    mount, station, bench = MOSAICS[family]
+    stations = rng.randint(1, 4)
+    rows = [[station(rng) for _ in range(stations)] + [bench(rng)] for _ in range(strips)]
+    return mosaic_head(stations, mount(rng)) + b"".join(map(strip, rows))
+
+
+def sorting(rng, family, counts):
+    """So many strips of each desk, the desks mixed in the sheet."""
+    scan, time = SORTINGS[family]
+    turns = [desk + 1 for desk, count in enumerate(counts) for _ in range(count)]
+    rng.shuffle(turns)
+    return sorting_head(len(counts)) + b"".join(job(desk, scan(rng), time(rng)) for desk in turns)
+
+
+def blocks_of(rng, family, n):
+    first, delay, second = FLIGHTS[family]
+    return [(first(rng), delay(rng), second(rng)) for _ in range(n)]
+
+
+def free_flight(rng, family, n):
+    return flight(blocks_of(rng, family, n))
+
+
+def with_other_delay(rng, blocks):
+    """One delay is one shorter or longer."""
+    i = rng.randrange(len(blocks))
+    first, delay, second = blocks[i]
+    return blocks[:i] + [(first, min(10000, max(0, delay + rng.choice((-1, 1)))), second)] + blocks[i + 1:]
+
+
+def ordered_flight(rng, family, n):
+    """With the order of some timetable, which may be spoilt by a delay that is one off; with any proper order; or block after block."""
+    blocks, kind = blocks_of(rng, family, n), rng.choice(("possible", "possible", "one off", "any", "in turn"))
+    if kind == "any":
+        return flight(blocks, plans.random_order(rng, n))
+    if kind == "in turn":
+        return flight(blocks, int("10" * n, 2))
+    number = distances.order_of(blocks, plans.random_firsts(rng, blocks))
+    return flight(with_other_delay(rng, blocks) if kind == "one off" else blocks, number)
+
+
+def any_family(rng, families):
+    return rng.choice(list(families))
+
+
+def random_counts(rng, most):
+    """Numbers of strips of one to three desks, not all 0."""
+    counts = [rng.randint(0, most) for _ in range(rng.randint(1, 3))]
+    if not any(counts):
+        counts[rng.randrange(len(counts))] = 1
+    return counts
+
+
+def random_sheet(rng, strips, of_desk, free, ordered):
+    """One to three sections of any families, with at most so many members."""
+    sections, out = rng.choice(("m", "s", "f", "ms", "mf", "sf", "msf", "msf")), b""
+    if "m" in sections:
+        out += mosaic(rng, any_family(rng, MOSAICS), rng.randint(1, strips))
+    if "s" in sections:
+        out += sorting(rng, any_family(rng, SORTINGS), random_counts(rng, of_desk))
+    if "f" in sections:
+        kind, most = rng.choice(((free_flight, free), (ordered_flight, ordered)))
+        out += kind(rng, any_family(rng, FLIGHTS), rng.randint(1, most))
+    return out
+
+
+def small_sheet(rng):
+    return random_sheet(rng, strips=6, of_desk=3, free=4, ordered=6)
+
+
+def large_sheet(rng):
+    return random_sheet(rng, strips=40, of_desk=6, free=8, ordered=32)
+
+
+def full_sheet(rng):
+    """All three sections, as large as they can be."""
+    kind, n = rng.choice(((free_flight, 8), (ordered_flight, 32), (ordered_flight, 32)))
+    return mosaic(rng, any_family(rng, MOSAICS), 40) + sorting(rng, any_family(rng, SORTINGS), [6, 6, 6]) + kind(rng, any_family(rng, FLIGHTS), n)
+
+
+def longest_planned():
+    """A sheet whose plan takes 1,095 bytes: 40 batches, 18 strips, 32 blocks."""
+    strips, jobs = strip([9, 1]) * 40, b"".join(job(desk, 1, 1) for desk in (1, 2, 3)) * 6
+    return mosaic_head(1, 0) + strips + sorting_head(3) + jobs + flight([(1, 0, 1)] * 32, int("10" * 32, 2))

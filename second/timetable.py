@@ -1,0 +1,93 @@
+"""Timetables by the rules: the times of a choice (batches, scanner list, pass order) with given waits, the figures, and the plan's bytes."""
+import struct
+
+import distances
+
+CEILING = 10_000_000
+
+
+def no_wait():
+    return 0
+
+
+def ready_times(sheet):
+    sums, out = [0] * sheet.stations, []
+    for stations, _ in sheet.strips:
+        sums = [x + y for x, y in zip(sums, stations)]
+        out.append(max(sums))
+    return out
+
+
+def batches_of(sheet, lasts, wait=no_wait):
+    """Last strip, mount start and finish of each batch, each mount as early as it may and `wait` later."""
+    ready, free, done, out = ready_times(sheet), 0, 0, []
+    for last in lasts:
+        start = max(free, ready[last - 1]) + wait()
+        free = start + sheet.mount + sum(bench for _, bench in sheet.strips[done:last])
+        out.append([last, start, free])
+        done = last
+    return out
+
+
+def jobs_of(sheet, desks, wait=no_wait):
+    """Desk, number, scan start and desk start of each strip of a scanner list, each start as early as it may and `wait` later."""
+    queues = {desk: sheet.queue(desk) for desk in (1, 2, 3)}
+    scanner, free, done, out = 0, [0] * 4, [0] * 4, []
+    for desk in desks:
+        scan, time = queues[desk][done[desk]]
+        done[desk] += 1
+        start = scanner + wait()
+        scanner = start + scan
+        begin = max(scanner, free[desk]) + wait()
+        free[desk] = begin + time
+        out.append([desk, done[desk], start, begin])
+    return out
+
+
+def passes_of(blocks, firsts):
+    """First and second start of each block."""
+    return [[first, first + distances.offset(block)] for first, block in zip(firsts, blocks)]
+
+
+def mosaic_figure(batches):
+    lasts = [0] + [last for last, _, _ in batches]
+    return sum((last - before) * finish for before, (last, _, finish) in zip(lasts, batches))
+
+
+def sorting_figure(sheet, jobs):
+    return sum(begin + sheet.queue(desk)[number - 1][1] for desk, number, _, begin in jobs)
+
+
+class Plan:
+    """The numbers of a plan: of each section its tag, its head's numbers and its members' numbers. `order` is None where there is no flight."""
+
+    FORMATS = {0x90: ("I", "BII"), 0xA0: ("I", "BBII"), 0xB0: ("IQ", "II")}
+    GREATEST = {"B": 0xFF, "I": 0xFFFFFFFF, "Q": 0xFFFFFFFFFFFFFFFF}
+
+    def __init__(self, sections, order):
+        self.sections, self.order = sections, order
+
+    def packed(self, tag, form, numbers):
+        """A field. A number that does not fit loses its upper bits."""
+        fitted = [number & self.GREATEST[width] for number, width in zip(numbers, form)]
+        return bytes([tag]) + struct.pack("<H" + form, struct.calcsize("<" + form), *fitted)
+
+    def bytes(self):
+        out = []
+        for tag, head, members in self.sections:
+            of_head, of_member = self.FORMATS[tag]
+            out.append(self.packed(tag, of_head, head))
+            out += [self.packed(tag + 1, of_member, member) for member in members]
+        return b"".join(out)
+
+
+def plan_of(sheet, batches, jobs, order, firsts):
+    """The plan of a sheet with these timetables and their true figures."""
+    sections = []
+    if sheet.strips:
+        sections.append((0x90, [mosaic_figure(batches)], batches))
+    if sheet.jobs:
+        sections.append((0xA0, [sorting_figure(sheet, jobs)], jobs))
+    if sheet.blocks:
+        sections.append((0xB0, [distances.end(sheet.blocks, firsts), order], passes_of(sheet.blocks, firsts)))
+    return Plan(sections, order)
