@@ -169,6 +169,8 @@ table =
     ∷ row (ofFlight (blocksOf true 0xA (1 ∷ 1 ∷ []) (0 ∷ 5 ∷ []) (1 ∷ 1 ∷ [])) 0xA (starts 0 1 ∷ starts 2 8 ∷ [])) (lawful 9)
     -- two passes at once
     ∷ row (ofFlight (blocksOf true 0xA (1 ∷ 1 ∷ []) (0 ∷ 5 ∷ []) (1 ∷ 1 ∷ [])) 0xA (starts 0 1 ∷ starts 1 7 ∷ [])) refused
+    -- a second pass that starts, in its order's turn, before the second pass before it has ended
+    ∷ row (ofFlight (blocksOf false 0 (1 ∷ 1 ∷ []) (5 ∷ 5 ∷ []) (3 ∷ 1 ∷ [])) 0xC (starts 0 6 ∷ starts 1 7 ∷ [])) refused
     -- "000's eight blocks .., order F2C4: first starts 0, 6, 8, 9, 12, 19, 21, 22; figure 30."
     ∷ row
     (ofFlight
