@@ -18,6 +18,10 @@ room-again : {n : ℕ} {first second delay rows₀ starts₀ rows starts : List 
     → length rows ≡ length rows₀ → length starts ≡ length starts₀ → SearchRoom n first second delay rows starts
 room-again r e d = record { times = r .times; rows-length = e ∙ r .rows-length; starts-length = d ∙ r .starts-length }
 
+-- Where every first pass is taken, a second pass is left.
+second-left : (n left x : ℕ) → (left ≡ 0 → ⊥) → left ≤ 2 * n → n ≤ firsts x (2 * n - left) → seconds x (2 * n - left) < firsts x (2 * n - left)
+second-left n left x more within l = omega (arith, more, firsts-seconds x (2 * n - left))
+
 module _ {n left x : ℕ} {first second delay rows₀ starts₀ : List ℕ} (asked : SearchAsked n left x first second delay rows₀ starts₀) where
   pub leaf-asked : left ≡ 0 → TryAsked n x first second delay rows₀ starts₀
   leaf-asked e = record { room = asked .room; proper = whole-proper (rw whole at (asked .begun)) }
@@ -38,10 +42,6 @@ module _ {n left x : ℕ} {first second delay rows₀ starts₀ : List ℕ} (ask
     short : left - 1 ≤ 2 * n
     short = omega (arith, asked .within)
 
-    -- Where every first pass is taken, a second pass is left.
-    second-left : n ≤ firsts x (2 * n - left) → seconds x (2 * n - left) < firsts x (2 * n - left)
-    second-left l = omega (arith, more, asked .within, firsts-seconds x (2 * n - left))
-
     pub first-asked : (a : ℕ) → a ≡ firsts x (2 * n - left) → a < n → SearchAsked n (left - 1) x first second delay rows₀ starts₀
     first-asked a e l = record { room = asked .room; within = short; begun = rw next at (first-child (asked .begun) (omega arith)) }
 
@@ -50,44 +50,45 @@ module _ {n left x : ℕ} {first second delay rows₀ starts₀ : List ℕ} (ask
 
     pub only-second-asked : (a y : ℕ) → a ≡ firsts x (2 * n - left) → n ≤ a → y ≡ x + 2 ^ (2 * n - left)
         → SearchAsked n (left - 1) y first second delay rows₀ starts₀
-    only-second-asked a y e l d = record { room = asked .room; within = short; begun = second-begun y (second-left (omega arith)) d }
+    only-second-asked a y e l d = record { room = asked .room; within = short; begun = second-begun y (second-left n left x more (asked .within) (omega arith)) d }
 
     pub second-asked : {rows starts : List ℕ} → length rows ≡ length rows₀ → length starts ≡ length starts₀
         → (a b y : ℕ) → a ≡ firsts x (2 * n - left) → b ≡ seconds x (2 * n - left) → b < a → y ≡ x + 2 ^ (2 * n - left)
         → SearchAsked n (left - 1) y first second delay rows starts
     second-asked lr ls a b y e d l s = record { room = room-again (asked .room) lr ls; within = short; begun = second-begun y (omega arith) s }
 
-    step : left ≡ suc (left - 1)
-    step = omega (arith, more)
+-- What each way gives.
+module _ (n left x : ℕ) (first second delay : List ℕ) (more : left ≡ 0 → ⊥) (best r : Incumbent) where
+  step : left ≡ suc (left - 1)
+  step = omega (arith, more)
 
-    module _ (best r : Incumbent) where
-      abbrev O : Orders
-      O = ordersOf (freeSection n first second delay)
+  abbrev O : Orders
+  O = ordersOf (freeSection n first second delay)
 
-      pub only-second : (a y : ℕ) → a ≡ firsts x (2 * n - left) → n ≤ a → y ≡ x + 2 ^ (2 * n - left)
-          → r ≡ searched (ordersOf (freeSection n first second delay)) (left - 1) y best
-          → r ≡ searched (ordersOf (freeSection n first second delay)) left x best
-      unfolding ordersOf
-      only-second a y e l d q =
-          q ∙ ap (λ (z : ℕ). searched O (left - 1) z best) d ∙ sym (rw (← step) at (searched-second O (left - 1) x best (rw (← step, ← e) l) (rw (← step) (second-left (omega arith)))))
+  pub only-second : left ≤ 2 * n → (a y : ℕ) → a ≡ firsts x (2 * n - left) → n ≤ a → y ≡ x + 2 ^ (2 * n - left)
+      → r ≡ searched (ordersOf (freeSection n first second delay)) (left - 1) y best
+      → r ≡ searched (ordersOf (freeSection n first second delay)) left x best
+  unfolding ordersOf
+  only-second within a y e l d q =
+      q ∙ ap (λ (z : ℕ). searched O (left - 1) z best) d ∙ sym (rw (← step) at (searched-second O (left - 1) x best (rw (← step, ← e) l) (rw (← step) (second-left n left x more within (omega arith)))))
 
-      pub only-first : (a b : ℕ) → a ≡ firsts x (2 * n - left) → b ≡ seconds x (2 * n - left) → a < n → a ≤ b
-          → r ≡ searched (ordersOf (freeSection n first second delay)) (left - 1) x best
-          → r ≡ searched (ordersOf (freeSection n first second delay)) left x best
-      unfolding ordersOf
-      only-first a b e d h l q =
-          q ∙ sym (rw (← step) at (searched-first O (left - 1) x best (rw (← step, ← e) h) (rw (← step, ← e, ← d) l)))
+  pub only-first : (a b : ℕ) → a ≡ firsts x (2 * n - left) → b ≡ seconds x (2 * n - left) → a < n → a ≤ b
+      → r ≡ searched (ordersOf (freeSection n first second delay)) (left - 1) x best
+      → r ≡ searched (ordersOf (freeSection n first second delay)) left x best
+  unfolding ordersOf
+  only-first a b e d h l q =
+      q ∙ sym (rw (← step) at (searched-first O (left - 1) x best (rw (← step, ← e) h) (rw (← step, ← e, ← d) l)))
 
-      pub first-then-second : (after : Incumbent) (a b y : ℕ) → a ≡ firsts x (2 * n - left) → b ≡ seconds x (2 * n - left) → a < n → b < a → y ≡ x + 2 ^ (2 * n - left)
-          → after ≡ searched (ordersOf (freeSection n first second delay)) (left - 1) x best
-          → r ≡ searched (ordersOf (freeSection n first second delay)) (left - 1) y after
-          → r ≡ searched (ordersOf (freeSection n first second delay)) left x best
-      unfolding ordersOf
-      first-then-second after a b y e d h l s p q =
-          q
-          ∙ ap (searched O (left - 1) y) p
-          ∙ ap (λ (z : ℕ). searched O (left - 1) z (searched O (left - 1) x best)) s
-          ∙ sym (rw (← step) at (searched-both O (left - 1) x best (rw (← step, ← e) h) (rw (← step, ← e, ← d) l)))
+  pub first-then-second : (after : Incumbent) (a b y : ℕ) → a ≡ firsts x (2 * n - left) → b ≡ seconds x (2 * n - left) → a < n → b < a → y ≡ x + 2 ^ (2 * n - left)
+      → after ≡ searched (ordersOf (freeSection n first second delay)) (left - 1) x best
+      → r ≡ searched (ordersOf (freeSection n first second delay)) (left - 1) y after
+      → r ≡ searched (ordersOf (freeSection n first second delay)) left x best
+  unfolding ordersOf
+  first-then-second after a b y e d h l s p q =
+      q
+      ∙ ap (searched O (left - 1) y) p
+      ∙ ap (λ (z : ℕ). searched O (left - 1) z (searched O (left - 1) x best)) s
+      ∙ sym (rw (← step) at (searched-both O (left - 1) x best (rw (← step, ← e) h) (rw (← step, ← e, ← d) l)))
 
 pub search-end : (O : Orders) (left x : ℕ) (best r : Incumbent) → left ≡ 0 → r ≡ tried O x best → r ≡ searched O left x best
 search-end O left x best r e q = q ∙ sym (searched-end O x best) ∙ ap (λ (m : ℕ). searched O m x best) (sym e)

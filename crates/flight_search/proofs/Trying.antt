@@ -61,16 +61,17 @@ times-good times proper = record {
   most-low = times .delay-low;
 }
 
-module _ {n w : ℕ} {first second delay rows₀ starts₀ : List ℕ} (asked : TryAsked n w first second delay rows₀ starts₀) where
-  pub try-rooms : Rooms (orderedFlight n w 0 first second delay delay) rows₀ starts₀
-  try-rooms = record {
-    room = record { good = times-good (asked .room .times) (asked .proper); rows-length = asked .room .rows-length };
-    starts-length = asked .room .starts-length;
-  }
+pub try-rooms : {n w : ℕ} {first second delay rows starts : List ℕ} → TryAsked n w first second delay rows starts
+    → Rooms (orderedFlight n w 0 first second delay delay) rows starts
+try-rooms asked = record {
+  room = record { good = times-good (asked .room .times) (asked .proper); rows-length = asked .room .rows-length };
+  starts-length = asked .room .starts-length;
+}
 
+module _ {n w : ℕ} {first second delay : List ℕ} (times : BlockTimes n first second delay) (proper : Proper n w) where
   module _ {rows starts : List ℕ} {found : Bool} (least : Least (orderedFlight n w 0 first second delay delay) rows starts found) where
     pub figure-fits : getD starts (2 * n - 1) 0 + getD second (n - 1) 0 < 2 ^ 64
-    figure-fits = rw (least .starts) (omega (arith, least-low (orderedFlight n w 0 first second delay delay) (times-good (asked .room .times) (asked .proper)) (2 * n - 1), asked .room .times .second-low (n - 1)))
+    figure-fits = rw (least .starts) (omega (arith, least-low (orderedFlight n w 0 first second delay delay) (times-good times proper) (2 * n - 1), times .second-low (n - 1)))
 
     same-possible : ordersOf (freeSection n first second delay) .possible w ≡ found
     unfolding ordersOf possibleIn
@@ -78,27 +79,30 @@ module _ {n w : ℕ} {first second delay rows₀ starts₀ : List ℕ} (asked : 
 
     same-figure : ordersOf (freeSection n first second delay) .figure w ≡ getD starts (2 * n - 1) 0 + getD second (n - 1) 0
     unfolding ordersOf orderFigure leastStarts
-    same-figure = rw (ne-eqb n 0 (λ e. omega (arith, asked .room .times .some)), least .starts)
+    same-figure = rw (ne-eqb n 0 (λ e. omega (arith, times .some)), least .starts)
 
     module _ (b : Incumbent) where
       pub try-impossible : not found ≡ true → b ≡ tried (ordersOf (freeSection n first second delay)) w b
       try-impossible e = stays-impossible (ordersOf (freeSection n first second delay)) w b (same-possible ∙ not-true found e)
 
       module _ (e : not found ≡ false) where
-        pub try-stays : b .possible ≡ true → b .figure ≤ getD starts (2 * n - 1) 0 + getD second (n - 1) 0
+        pub try-stays : not (b .possible) ≡ false → b .figure ≤ getD starts (2 * n - 1) 0 + getD second (n - 1) 0
             → b ≡ tried (ordersOf (freeSection n first second delay)) w b
-        try-stays p l = stays-better (ordersOf (freeSection n first second delay)) w b (same-possible ∙ not-false found e) p (rw same-figure l)
+        try-stays p l = stays-better (ordersOf (freeSection n first second delay)) w b (same-possible ∙ not-false found e) (not-false (b .possible) p) (rw same-figure l)
 
-        pub try-replaces : b .possible ≡ true → getD starts (2 * n - 1) 0 + getD second (n - 1) 0 < b .figure
+        pub try-replaces : not (b .possible) ≡ false → getD starts (2 * n - 1) 0 + getD second (n - 1) 0 < b .figure
             → _≡_ {A = Incumbent} (record { possible = true; figure = getD starts (2 * n - 1) 0 + getD second (n - 1) 0; order = w })
             (tried (ordersOf (freeSection n first second delay)) w b)
         try-replaces p l =
             ap (λ (v : ℕ). record { possible = true; figure = v; order = w }) (sym same-figure)
-            ∙ replaced-worse (ordersOf (freeSection n first second delay)) w b (same-possible ∙ not-false found e) p (rw same-figure l)
+            ∙ replaced-worse (ordersOf (freeSection n first second delay)) w b (same-possible ∙ not-false found e) (not-false (b .possible) p) (rw same-figure l)
 
-        pub try-first : b .possible ≡ false
+        pub try-first : not (b .possible) ≡ true
             → _≡_ {A = Incumbent} (record { possible = true; figure = getD starts (2 * n - 1) 0 + getD second (n - 1) 0; order = w })
             (tried (ordersOf (freeSection n first second delay)) w b)
         try-first p =
             ap (λ (v : ℕ). record { possible = true; figure = v; order = w }) (sym same-figure)
-            ∙ replaced-none (ordersOf (freeSection n first second delay)) w b (same-possible ∙ not-false found e) p
+            ∙ replaced-none (ordersOf (freeSection n first second delay)) w b (same-possible ∙ not-false found e) (not-true (b .possible) p)
+
+-- For a figure that is compared with the incumbent's.
+pub ruleset tries = (try-stays, try-replaces)

@@ -32,16 +32,15 @@ fn try_order<'a>(
     let last = 2 * n - 1;
     let block = n - 1;
     let figure = starts[last] + second[block];
-    if best.possible {
-        if best.figure <= figure {
-            return best;
-        }
-    }
-    Incumbent {
+    let found = Incumbent {
         possible: true,
         figure: figure,
         order: order,
+    };
+    if !best.possible {
+        return found;
     }
+    if best.figure <= figure { best } else { found }
 }
 
 // All proper orders that begin with x and have `left` passes more, those with a first pass next before those with a second pass next.

@@ -67,14 +67,11 @@ pub fn step(jobs: &[u64], s: State, d: usize) -> State
 pub fn keep_better(s: State, b: Incumbent) -> Incumbent
     ensures { λ r. ⌜ r ≡ keep s b ⌝ }
 {
-    if s.cost < b.figure {
-        Incumbent {
-            figure: s.cost,
-            path: s.path,
-        }
-    } else {
-        b
-    }
+    let found = Incumbent {
+        figure: s.cost,
+        path: s.path,
+    };
+    if s.cost < b.figure { found } else { b }
 }
 
 pub fn start_state(jobs: &[u64]) -> State

@@ -20,9 +20,9 @@ pub extern "C" fn mosaic_best(
     let times = *station;
     let benches = *bench;
     let m = MosaicSection {
-        stations,
-        mount,
-        strips,
+        stations: stations,
+        mount: mount,
+        strips: strips,
         station: times,
         bench: benches,
     };

@@ -159,6 +159,8 @@ samples =
     ∷ row (ofFlight (blocksOf true 0xA (1 ∷ 1 ∷ []) (2 ∷ 2 ∷ []) (1 ∷ 1 ∷ [])) 0xC (starts 0 3 ∷ starts 1 4 ∷ [])) refused
     -- two passes at once
     ∷ row (ofFlight (blocksOf true 0xA (1 ∷ 1 ∷ []) (0 ∷ 5 ∷ []) (1 ∷ 1 ∷ [])) 0xA (starts 0 1 ∷ starts 1 7 ∷ [])) refused
+    -- a second pass that starts, in its order's turn, before the second pass before it has ended
+    ∷ row (ofFlight (blocksOf false 0 (1 ∷ 1 ∷ []) (5 ∷ 5 ∷ []) (3 ∷ 1 ∷ [])) 0xC (starts 0 6 ∷ starts 1 7 ∷ [])) refused
     ∷ []
 
 unfoldable pub allTested : List Sample → Bool

@@ -124,15 +124,15 @@ module _ {J : List ℕ} {s : State} {M : List ℕ} where
       go (yes m) = rw (lt-ltb (getD (s .taken) d 0) (getD J d 0) m) (one (ltb (boundOf J M (stepOf J s d)) (boundOf J M (stepOf J s chosen))) (serve-at (h .going) (h .desk) m))
       go (no n) = rw (le-ltb (getD (s .taken) d 0) (getD J d 0) (omega arith)) (h .serves)
 
-  pub choosing-second : {a : ℕ} → Going J s M → a ≡ firstDesk J s → Choosing J s a 1 M
-  choosing-second g e = record { going = g; serves = subst (CanServe J s) (sym e) (first-serves g); desk = omega arith }
+  pub choosing-second : {a d : ℕ} → Going J s M → d < 3 → a ≡ firstDesk J s → Choosing J s a d M
+  choosing-second g p e = record { going = g; serves = subst (CanServe J s) (sym e) (first-serves g); desk = p }
 
-  pub choosing-third : {a b : ℕ} → Going J s M → a ≡ firstDesk J s → b ≡ betterDesk J M s a 1 → Choosing J s b 2 M
-  choosing-third g e f = record { going = g; serves = subst (CanServe J s) (sym f) (better-serves (choosing-second g e)); desk = omega arith }
+  pub choosing-third : {a b c d : ℕ} → Going J s M → c < 3 → d < 3 → a ≡ firstDesk J s → b ≡ betterDesk J M s a c → Choosing J s b d M
+  choosing-third g q p e f = record { going = g; serves = subst (CanServe J s) (sym f) (better-serves (choosing-second g q e)); desk = p }
 
   greedy-serves : Going J s M → CanServe J s (greedyDesk J M s)
   unfolding greedyDesk
-  greedy-serves g = better-serves (choosing-third g refl refl)
+  greedy-serves g = better-serves (choosing-third {c = 1} g (omega arith) (omega arith) refl refl)
 
   pub bounded-step : {d : ℕ} {n : State} → Going J s M → CanServe J s d → n ≡ stepOf J s d → Bounded J n M
   bounded-step {d} {n} g c e = record {

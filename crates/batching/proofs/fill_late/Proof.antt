@@ -1,5 +1,6 @@
 -- `fill_late` meets its contract. Invariant: the batches of the strips after i or a later strip are done.
 use mathlib.Core.Path.{refl}
+use native.Mathlib.Omega.{arith}
 use borrow.Author.Needs.{needs}
 use Rattle.batching.proofs.LateLaws.{AllSoFar, all-start, all-after, all-step, all-end}
 use Rattle.batching.proofs.fill_late.Statement.{statement}
@@ -21,13 +22,13 @@ slice-aggregate-fill-late-after : tie.Need-slice-aggregate-fill-late-after Inv-l
 slice-aggregate-fill-late-after c = search needs
 
 fill-late-after-requires : tie.Need-fill-late-after-requires Inv-loop μ-loop
-fill-late-after-requires c κs = search all-after
+fill-late-after-requires c κs = all-after (c .before .before .before .before .before .before .before .pre) (c .before .before .before .loop .inv) (omega arith)
 
 loop-less : tie.Need-loop-less Inv-loop μ-loop
 loop-less c = search needs
 
 loop-again : tie.Need-loop-again Inv-loop μ-loop
-loop-again c = search all-step
+loop-again c = all-step (c .before .before .before .before .before .before .before .before .before .before .before .pre) (c .before .before .before .before .before .before .before .loop .inv) (omega arith) (c .before .before .before .fill-late-after .ensures) (search needs) (search needs)
 
 same-length : tie.Need-same-length Inv-loop μ-loop
 same-length c = search needs

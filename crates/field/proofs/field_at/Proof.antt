@@ -1,5 +1,6 @@
 -- `field_at` meets its contract: each way through its tests tells what stands at the offset, as in the definition.
 use Rattle.field.specs.Fields.{field-end, field-short, field-past, field-whole}
+use native.Mathlib.Omega.{arith}
 use borrow.Author.Needs.{needs}
 use Rattle.field.proofs.field_at.Statement.{statement}
 use Rattle.field.proofs.field_at.Tie as tie
@@ -11,7 +12,7 @@ sub-if2 : tie.Need-sub-if2
 sub-if2 c = search needs
 
 returns-2 : tie.Need-returns-2
-returns-2 c = search field-short
+returns-2 c = field-short _ _ (omega arith) (omega arith)
 
 add-number : tie.Need-add-number
 add-number c = search needs

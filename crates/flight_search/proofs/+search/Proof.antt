@@ -372,10 +372,7 @@ search-returns-4 : (t : ℕ) → search-lts.Need-returns-4 (
   search-below t,
   search′.Post,
 ) (search-at t) search′.Post
-search-returns-4 t c = let here = c .before .before .before .before .before .before .before .before .before .before .before .before .before in
-    first-then-second (here .before .before .before .before .before .before .before .before .before .before .before .before .pre .1) (here .before .before .before .before .before .before .if1 .left) _ _ _ _ _ _
-    (here .before .before .before .before .before .firsts-before .ensures) (here .before .before .before .before .seconds-before .ensures) (here .before .before .before .if2 .left) (c .before .before .before .before .before .before .before .before .if3 .left) (c .before .before .before .before .before .before .before .append-second2 .ensures)
-    (here .search2 .ensures) (c .before .before .before .before .search3 .ensures)
+search-returns-4 t c = search first-then-second
 
 pub +search-spec : {M : Type 1} → statement M
 +search-spec = close μ-search λ t. search-lts.spec (

@@ -1,6 +1,6 @@
 -- `flight_search::try_order` meets its contract: the order is not possible, or is no better than the incumbent, or replaces it.
 use borrow.Author.Needs.{needs}
-use Rattle.flight_search.proofs.Trying.{try-rooms, figure-fits, try-impossible, try-stays, try-replaces, try-first}
+use Rattle.flight_search.proofs.Trying.{try-rooms, figure-fits, try-impossible, try-first, tries}
 use Rattle.flight_search.proofs.try_order.Statement.{statement}
 use Rattle.flight_search.proofs.try_order.Tie as tie
 
@@ -47,7 +47,7 @@ same-length-4 : tie.Need-same-length-4
 same-length-4 c = search needs
 
 returns-2 : tie.Need-returns-2
-returns-2 c = search try-stays
+returns-2 c = search try-first
 
 same-length-5 : tie.Need-same-length-5
 same-length-5 c = search needs
@@ -56,7 +56,7 @@ same-length-6 : tie.Need-same-length-6
 same-length-6 c = search needs
 
 returns-3 : tie.Need-returns-3
-returns-3 c = search try-replaces
+returns-3 c = search tries
 
 same-length-7 : tie.Need-same-length-7
 same-length-7 c = search needs
@@ -65,7 +65,7 @@ same-length-8 : tie.Need-same-length-8
 same-length-8 c = search needs
 
 returns-4 : tie.Need-returns-4
-returns-4 c = search try-first
+returns-4 c = search tries
 
 pub try-order-spec : {M : Type 1} → statement M
 try-order-spec =

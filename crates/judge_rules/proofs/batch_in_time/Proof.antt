@@ -1,8 +1,16 @@
 -- `batch_in_time` meets its contract: each way through its tests is one through the definition.
+use mathlib.Core.Path.{_≡_}
+use mathlib.Core.Bool.{Bool, false}
+use Prim.Native.Nat.{ℕ, _≤_}
+use borrow.Author.Tests.{le-leb, ne-eqb}
 use Rattle.field.specs.Branch.{branches}
 use Rattle.judge_rules.specs.Follows.{batchInTime}
 use Rattle.judge_rules.proofs.batch_in_time.Statement.{statement}
 use Rattle.judge_rules.proofs.batch_in_time.Tie as tie
+
+finish-untrue : (ready before start finish due : ℕ) → ready ≤ start → before ≤ start → (finish ≡ due → ⊥) → _≡_ {A = Bool} false (batchInTime ready before start finish due)
+unfolding batchInTime
+finish-untrue ready before start finish due a b d = rw (le-leb _ _ a, le-leb _ _ b, ne-eqb _ _ d)
 
 returns : tie.Need-returns
 unfolding batchInTime
@@ -13,8 +21,7 @@ unfolding batchInTime
 returns-2 c = search branches depth 14
 
 returns-3 : tie.Need-returns-3
-unfolding batchInTime
-returns-3 c = search branches depth 14
+returns-3 c = search finish-untrue
 
 returns-4 : tie.Need-returns-4
 unfolding batchInTime

@@ -1,11 +1,12 @@
 -- `block_follows` meets its contract: a block past the last is refused first; else its due start is small enough to be added up.
 use Rattle.judge_rules.specs.Laws.{block-past, block-due, flown-fits, second-fits, end-fits}
+use native.Mathlib.Omega.{arith}
 use borrow.Author.Needs.{needs}
 use Rattle.judge_rules.proofs.block_follows.Statement.{statement}
 use Rattle.judge_rules.proofs.block_follows.Tie as tie
 
 returns : tie.Need-returns
-returns c = search block-past
+returns c = block-past _ _ _ (omega arith)
 
 mul-due : tie.Need-mul-due
 mul-due c = search needs

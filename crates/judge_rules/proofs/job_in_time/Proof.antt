@@ -1,8 +1,16 @@
 -- `job_in_time` meets its contract: each way through its tests is one through the definition.
+use mathlib.Core.Path.{_≡_}
+use mathlib.Core.Bool.{Bool, false}
+use Prim.Native.Nat.{ℕ, _≤_, _<_}
+use borrow.Author.Tests.{le-leb, lt-leb}
 use Rattle.field.specs.Branch.{branches}
 use Rattle.judge_rules.specs.Follows.{jobInTime}
 use Rattle.judge_rules.proofs.job_in_time.Statement.{statement}
 use Rattle.judge_rules.proofs.job_in_time.Tie as tie
+
+desk-taken : (scanner free scan scanned start finish : ℕ) → scanner ≤ scan → scanned ≤ start → start < free → _≡_ {A = Bool} false (jobInTime scanner free scan scanned start finish)
+unfolding jobInTime
+desk-taken scanner free scan scanned start finish a b d = rw (le-leb _ _ a, le-leb _ _ b, lt-leb _ _ d)
 
 returns : tie.Need-returns
 unfolding jobInTime
@@ -13,8 +21,7 @@ unfolding jobInTime
 returns-2 c = search branches depth 14
 
 returns-3 : tie.Need-returns-3
-unfolding jobInTime
-returns-3 c = search branches depth 14
+returns-3 c = search desk-taken
 
 returns-4 : tie.Need-returns-4
 unfolding jobInTime

@@ -1,5 +1,9 @@
 -- `ends_section` meets its contract: each way through its tests is one through the definition.
+use mathlib.Core.Path.{_≡_}
+use mathlib.Core.Bool.{true}
+use Prim.Native.Nat.{ℕ}
 use Rattle.field.specs.Branch.{branches}
+use Rattle.sheet.specs.Tags.{flightHeadTag}
 use Rattle.sheet.specs.Checks.{endsSection}
 use Rattle.sheet_checks.proofs.ends_section.Statement.{statement}
 use Rattle.sheet_checks.proofs.ends_section.Tie as tie
@@ -12,9 +16,12 @@ returns-2 : tie.Need-returns-2
 unfolding endsSection
 returns-2 c = search branches depth 14
 
-returns-3 : tie.Need-returns-3
+flight-head : (tag : ℕ) → tag ≡ flightHeadTag → true ≡ endsSection tag
 unfolding endsSection
-returns-3 c = search branches depth 14
+flight-head tag e = rw e
+
+returns-3 : tie.Need-returns-3
+returns-3 c = search flight-head
 
 returns-4 : tie.Need-returns-4
 unfolding endsSection

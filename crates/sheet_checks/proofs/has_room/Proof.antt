@@ -1,12 +1,20 @@
 -- `has_room` meets its contract: each way through its tests is one through the definition.
+use mathlib.Core.Path.{_≡_}
+use Prim.Native.Nat.{ℕ}
+use lib.Dec.{ltb}
 use Rattle.field.specs.Branch.{branches}
+use Rattle.sheet.specs.Limits.{mostStrips}
+use Rattle.sheet.specs.Tags.{mosaicStripTag}
 use Rattle.sheet.specs.Checks.{hasRoom}
 use Rattle.sheet_checks.proofs.has_room.Statement.{statement}
 use Rattle.sheet_checks.proofs.has_room.Tie as tie
 
-returns : tie.Need-returns
+strips : (tag members ofDesk : ℕ) → tag ≡ mosaicStripTag → ltb members mostStrips ≡ hasRoom tag members ofDesk
 unfolding hasRoom
-returns c = search branches depth 14
+strips tag members ofDesk e = rw e
+
+returns : tie.Need-returns
+returns c = search strips
 
 returns-2 : tie.Need-returns-2
 unfolding hasRoom

@@ -1,6 +1,10 @@
 -- `is_permitted` meets its contract: each way through its tests is one through the definition.
+use mathlib.Core.Path.{_≡_}
+use Prim.Native.Nat.{ℕ}
+use lib.Dec.{ltb}
 use Rattle.field.specs.Branch.{branches}
-use Rattle.sheet.specs.Checks.{permitted}
+use Rattle.sheet.specs.Tags.{sortingHeadTag}
+use Rattle.sheet.specs.Checks.{inSorting, permitted}
 use borrow.Author.Needs.{needs}
 use Rattle.sheet_checks.proofs.is_permitted.Statement.{statement}
 use Rattle.sheet_checks.proofs.is_permitted.Tie as tie
@@ -16,9 +20,12 @@ returns-2 : tie.Need-returns-2
 unfolding permitted
 returns-2 c = search branches depth 14
 
-returns-3 : tie.Need-returns-3
+sorting-head : (tag section members : ℕ) → tag ≡ sortingHeadTag → ltb section inSorting ≡ permitted tag section members
 unfolding permitted
-returns-3 c = search branches depth 14
+sorting-head tag section members e = rw e
+
+returns-3 : tie.Need-returns-3
+returns-3 c = search sorting-head
 
 returns-4 : tie.Need-returns-4
 unfolding permitted

@@ -1,5 +1,8 @@
 -- `place_of` meets its contract: each way through its tests is one through the definition.
+use mathlib.Core.Path.{_≡_}
+use Prim.Native.Nat.{ℕ}
 use Rattle.field.specs.Branch.{branches}
+use Rattle.sheet.specs.Refusals.{orderMissing}
 use Rattle.sheet.specs.Read.{placeOf}
 use Rattle.sheet_checks.proofs.place_of.Statement.{statement}
 use Rattle.sheet_checks.proofs.place_of.Tie as tie
@@ -8,9 +11,12 @@ returns : tie.Need-returns
 unfolding placeOf
 returns c = search branches depth 14
 
-returns-2 : tie.Need-returns-2
+without-order : (number head at : ℕ) → number ≡ orderMissing → head ≡ placeOf number head at
 unfolding placeOf
-returns-2 c = search branches depth 14
+without-order number head at e = rw e
+
+returns-2 : tie.Need-returns-2
+returns-2 c = search without-order
 
 returns-3 : tie.Need-returns-3
 unfolding placeOf

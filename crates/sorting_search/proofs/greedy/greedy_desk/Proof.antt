@@ -8,10 +8,10 @@ first-desk-requires : tie.Need-first-desk-requires
 first-desk-requires c κs = search needs
 
 better-desk-requires : tie.Need-better-desk-requires
-better-desk-requires c κs = search choosing-second
+better-desk-requires c κs = search (choosing-second, needs)
 
 better-desk-requires-2 : tie.Need-better-desk-requires-2
-better-desk-requires-2 c κs = search choosing-third
+better-desk-requires-2 c κs = search (choosing-third, needs)
 
 returns : tie.Need-returns
 returns c = search greedy-is
