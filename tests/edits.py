@@ -46,7 +46,6 @@ SHOWS_NOTHING = (
     "met a bound",
     "no verdict",
     "not yet determined",
-    "was not admitted",
     "Need-",
 )
 
@@ -155,14 +154,13 @@ def faults(edit):
 
 
 def first_refusal(log):
-    """The first thing that the prover refused: the file below the edit's folder, the declaration, and what was said of it."""
+    """The first thing that the prover refused by itself: the file below the edit's folder, the declaration, and what was said of it."""
     said = re.split(r"^(?=\S+:\d+:\d+: (?:error|note): |note: |fn |struct |enum |library |logic)", log, flags=re.M)
-    pattern = r"(?:\S+:\d+:\d+: error: |note: what antt said of a `search` in the proof that rattle made: )(?:\S*/must-fail/[^/]+/[^/]+/)?"
     for one in said:
-        start = re.match(pattern, one)
-        if start:
+        own = re.match(r"\S+:\d+:\d+: error: |note: what antt said of a `search` in the proof that rattle made: ", one)
+        if own and "was not admitted" not in one:
             path = re.search(r"/must-fail/[^/]+/[^/]+/([^:\s]+):\d+:\d+", one)
-            name = re.search(r"`([^`]*)`", one)
+            name = re.search(r"`([^`]*)`", one[own.end():])
             return path.group(1) if path else "", name.group(1) if name else "", one
     return "", "", ""
 
