@@ -90,9 +90,9 @@ module _ (s : SortingSection) (h : SortingSound s) where
         there : 3 + (d * 6 + i) + 36 ≡ 3 + (18 + (18 + (d * 6 + i)))
         there = omega arith
 
--- the instance before its times are written
-abbrev pub counted : List ℕ → List ℕ
-counted counts = set (set (set (replicate 57 1) 0 (getD counts 0 0)) 1 (getD counts 1 0)) 2 (getD counts 2 0)
+-- the instance before its times are written, with so many strips of each desk
+abbrev pub counted : ℕ → ℕ → ℕ → List ℕ
+counted a b c = set (set (set (replicate 57 1) 0 a) 1 b) 2 c
 
 -- the loop that writes them: the first k of each kind are there
 pub record Timed (begun scan desk J : List ℕ) (k : ℕ) : Type 0 where
@@ -103,28 +103,27 @@ pub record Timed (begun scan desk J : List ℕ) (k : ℕ) : Type 0 where
   pub desks : (i : ℕ) → i < k → getD J (21 + i) 0 ≡ getD desk i 0
   pub weights : (i : ℕ) → i < 18 → getD J (39 + i) 0 ≡ 1
 
-module _ (counts : List ℕ) where
-  counted-at : (d : ℕ) → d < 3 → getD (counted counts) d 0 ≡ getD counts d 0
-  counted-at zero l = refl
-  counted-at (suc zero) l = refl
-  counted-at (suc (suc zero)) l = refl
-  counted-at (suc (suc (suc d))) l = absurd (omega arith)
+counted-at : (counts : List ℕ) (d : ℕ) → d < 3 → getD (counted (getD counts 0 0) (getD counts 1 0) (getD counts 2 0)) d 0 ≡ getD counts d 0
+counted-at counts zero l = refl
+counted-at counts (suc zero) l = refl
+counted-at counts (suc (suc zero)) l = refl
+counted-at counts (suc (suc (suc d))) l = absurd (omega arith)
 
-  counted-behind : (x : ℕ) → 3 ≤ x → x < 57 → getD (counted counts) x 0 ≡ 1
-  counted-behind x l m =
-      getD-set-other (set (set (replicate 57 1) 0 (getD counts 0 0)) 1 (getD counts 1 0)) 2 x (getD counts 2 0) 0 (λ e. omega arith)
-      ∙ getD-set-other (set (replicate 57 1) 0 (getD counts 0 0)) 1 x (getD counts 1 0) 0 (λ e. omega arith)
-      ∙ getD-set-other (replicate 57 1) 0 x (getD counts 0 0) 0 (λ e. omega arith)
-      ∙ getD-replicate {A = ℕ} 57 x 1 0 m
+counted-behind : (a b c x : ℕ) → 3 ≤ x → x < 57 → getD (counted a b c) x 0 ≡ 1
+counted-behind a b c x l m =
+    getD-set-other (set (set (replicate 57 1) 0 a) 1 b) 2 x c 0 (λ e. omega arith)
+    ∙ getD-set-other (set (replicate 57 1) 0 a) 1 x b 0 (λ e. omega arith)
+    ∙ getD-set-other (replicate 57 1) 0 x a 0 (λ e. omega arith)
+    ∙ getD-replicate {A = ℕ} 57 x 1 0 m
 
-pub timed-start : {s : SortingSection} → SortingSound s → Timed (counted (s .counts)) (s .scan) (s .desk) (counted (s .counts)) 0
-timed-start {s} h = record {
+pub timed-start : (a b c : ℕ) (scan desk : List ℕ) → Timed (counted a b c) scan desk (counted a b c) 0
+timed-start a b c scan desk = record {
   within = omega arith;
   size = refl;
   counts = λ d l. refl;
   scans = λ i l. absurd (omega arith);
   desks = λ i l. absurd (omega arith);
-  weights = λ i l. counted-behind (s .counts) (39 + i) (omega arith) (omega arith);
+  weights = λ i l. counted-behind a b c (39 + i) (omega arith) (omega arith);
 }
 
 pub timed-more : {begun scan desk J : List ℕ} {k : ℕ} → Timed begun scan desk J k → k < 18 → Timed begun scan desk (set (set J (3 + k) (getD scan k 0)) (21 + k) (getD desk k 0)) (k + 1)
@@ -149,7 +148,7 @@ timed-more {begun} {scan} {desk} {J} {k} w l = record {
     desks i m (yes e) = rw e (getD-set-same (set J (3 + k) (getD scan k 0)) (21 + k) (getD desk k 0) 0 (simp length-set (omega (arith, w .size))))
     desks i m (no e) = other (21 + i) (λ z. omega (arith, w .within)) (λ z. omega arith) ∙ w .desks i (omega arith)
 
-pub timed-end : {s : SortingSection} {J : List ℕ} {k : ℕ} → SortingSound s → Timed (counted (s .counts)) (s .scan) (s .desk) J k → 18 ≤ k → J ≡ instanceOf s
+pub timed-end : {s : SortingSection} {J : List ℕ} {k : ℕ} → SortingSound s → Timed (counted (getD (s .counts) 0 0) (getD (s .counts) 1 0) (getD (s .counts) 2 0)) (s .scan) (s .desk) J k → 18 ≤ k → J ≡ instanceOf s
 timed-end {s} {J} {k} h w l = ext-getD 0 J (instanceOf s) (w .size ∙ sym (instance-length s h)) (λ x m. go x (omega (arith, w .size)) (decLt x 3) (decLt x 21) (decLt x 39))
   where
     join : (x y z : ℕ) → x ≡ y → z ≡ x → getD J y 0 ≡ getD (instanceOf s) z 0 → getD J x 0 ≡ getD (instanceOf s) x 0
