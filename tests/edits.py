@@ -47,6 +47,7 @@ SHOWS_NOTHING = (
     "no verdict",
     "not yet determined",
     "Need-",
+    "mir.Syntax.copy",
 )
 
 
