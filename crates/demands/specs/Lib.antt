@@ -77,6 +77,7 @@ otherwise-sound = sound-exactly
 module _ (sheet plan table planAfter tableEnd : List ℕ) (r : Answer) (call : Called sheet plan table planAfter tableEnd r) where
   -- DEMAND 1. "Buffers: sheet, plan buffer and working table are after each call exactly as the papers state, for all contents and lengths."
   -- The sheet is lent for reading, so it is as it was.
+  -- "Callers owe us no check, and each call ends": no function that users call has a `requires`, and that a call ends is part of its proof.
 
   -- "A refused call writes no plan byte;"
   pub refused-writes-nothing : (r .number ≡ 0 → ⊥) → (planAfter ≡ plan) × (r .length ≡ 0)
@@ -102,7 +103,6 @@ module _ (sheet plan table planAfter tableEnd : List ℕ) (r : Answer) (call : C
 
   pub not-turned-back-otherwise : (r .number ≡ 0 → ⊥) → TurnedBack sheet plan table (r .number) (r .place)
   not-turned-back-otherwise = turned-back-only sheet plan table planAfter tableEnd r call
-  -- "Callers owe us no check, and each call ends": no function that users call has a `requires`, and that a call ends is part of its proof.
 
 -- DEMAND 2. "The judge follows the rules alone:" no crate of the planner is beneath it (crates.txt). A judging call: the sheet, the plan and the answer.
 module _ (sheet plan : List ℕ) (j : Judged) (call : j ≡ judged sheet plan) where

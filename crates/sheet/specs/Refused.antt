@@ -18,18 +18,18 @@ pub record FromThreeToTen (number : ℕ) : Type 0 where
   pub least : 3 ≤ number
   pub most : number ≤ 10
 
-fails-number : (s : List ℕ) (st : Reading) (tag len number place : ℕ) → Fails s st tag len number place → FromThreeToTen number
-fails-number s st tag len number place (no-members h₁ en ep) = record { least = omega arith; most = omega arith }
-fails-number s st tag len number place (order-missing h₁ h₂ en ep) = record { least = omega arith; most = omega arith }
-fails-number s st tag len number place (tag-not-permitted h₁ h₂ h₃ en ep) = record { least = omega arith; most = omega arith }
-fails-number s st tag len number place (length-wrong h₁ h₂ h₃ h₄ en ep) = record { least = omega arith; most = omega arith }
-fails-number s st tag len number place (out-of-range h₁ h₂ h₃ h₄ h₅ en ep) = record { least = omega arith; most = omega arith }
-fails-number s st tag len number place (too-many h₁ h₂ h₃ h₄ h₅ h₆ en ep) = record { least = omega arith; most = omega arith }
-fails-number s st tag len number place (order-not-proper h₁ h₂ h₃ h₄ h₅ h₆ h₇ en ep) = record { least = omega arith; most = omega arith }
+check-number : (s : List ℕ) (st : Reading) (tag len number place : ℕ) → Fails s st tag len number place → FromThreeToTen number
+check-number s st tag len number place (no-members h₁ en ep) = record { least = omega arith; most = omega arith }
+check-number s st tag len number place (order-missing h₁ h₂ en ep) = record { least = omega arith; most = omega arith }
+check-number s st tag len number place (tag-not-permitted h₁ h₂ h₃ en ep) = record { least = omega arith; most = omega arith }
+check-number s st tag len number place (length-wrong h₁ h₂ h₃ h₄ en ep) = record { least = omega arith; most = omega arith }
+check-number s st tag len number place (out-of-range h₁ h₂ h₃ h₄ h₅ en ep) = record { least = omega arith; most = omega arith }
+check-number s st tag len number place (too-many h₁ h₂ h₃ h₄ h₅ h₆ en ep) = record { least = omega arith; most = omega arith }
+check-number s st tag len number place (order-not-proper h₁ h₂ h₃ h₄ h₅ h₆ h₇ en ep) = record { least = omega arith; most = omega arith }
 
 pub cause-number : (s : List ℕ) (st : Reading) (number place : ℕ) → Cause s st number place → FromThreeToTen number
 cause-number s st number place (cut e en ep) = record { least = omega arith; most = omega arith }
-cause-number s st number place (field tag len e f) = fails-number s st tag len number place f
+cause-number s st number place (field tag len e f) = check-number s st tag len number place f
 cause-number s st number place (empty-end e h en ep) = record { least = omega arith; most = omega arith }
 cause-number s st number place (order-missing-end e h q en ep) = record { least = omega arith; most = omega arith }
 
