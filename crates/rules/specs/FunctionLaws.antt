@@ -12,7 +12,7 @@ use Rattle.sheet.specs.Sound.{MosaicSound, SortingSound, FlightSound}
 use Rattle.sheet.specs.declared.MosaicSection.{MosaicSection}
 use Rattle.sheet.specs.declared.SortingSection.{SortingSection}
 use Rattle.sheet.specs.declared.FlightSection.{FlightSection}
-use Rattle.rules.specs.Sums.{sumOver, greatestOver}
+use Rattle.base.specs.Sums.{sumOver, greatestOver}
 use Rattle.rules.specs.Mosaic.{stationSum, ready, benchSum}
 use Rattle.rules.specs.Sorting.{slot, scanTime, deskTime}
 use Rattle.rules.specs.Flight.{passTime, passAt}
