@@ -2,8 +2,8 @@
 // The first member of the flight stands at offset `at` of the plan.
 use base::greater;
 use field::number;
-use rules::flight::pass_at;
-use rules::flight::pass_time;
+use running::flight::pass_at;
+use running::flight::pass_time;
 use sheet::FlightSection;
 ghost use mathlib.Core.Path.{_≡_};
 ghost use Prim.Native.Nat.{_+_, _-_, _*_, _<_};
