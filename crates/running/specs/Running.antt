@@ -5,13 +5,14 @@ use mathlib.Core.Bool.{true}
 use mathlib.Core.List.{List, [], _∷_}
 use lib.ListN.{length, getD, set}
 use Rattle.order.specs.Order.{Proper}
+use Rattle.order.specs.Passes.{passAt}
 use Rattle.sheet.specs.Limits.{ceiling}
 use Rattle.sheet.specs.declared.MosaicSection.{MosaicSection}
 use Rattle.sheet.specs.declared.SortingSection.{SortingSection}
 use Rattle.sheet.specs.declared.FlightSection.{FlightSection}
 use Rattle.rules.specs.Mosaic.{ready, benchSum}
 use Rattle.rules.specs.Sorting.{stripsOf, scanEnd, deskFinish}
-use Rattle.rules.specs.Flight.{passesAt, passStart, passEnd, passAt}
+use Rattle.rules.specs.Flight.{passesAt, passStart, passEnd}
 use Rattle.rules.specs.declared.Batch.{Batch}
 use Rattle.rules.specs.declared.Job.{Job}
 use Rattle.rules.specs.declared.Passes.{Passes}
@@ -72,7 +73,7 @@ pub record FlightHead (f : FlightSection) (order : ℕ) (ps : List Passes) : Typ
   pub every-block : length ps ≡ f .blocks
   pub proper : Proper (f .blocks) order
   pub as-given : f .ordered ≡ true → order ≡ f .order
-  pub in-order : (k : ℕ) → k + 1 < 2 * f .blocks → passEnd f ps (passAt f order k) ≤ passStart f ps (passAt f order (k + 1))
+  pub in-order : (k : ℕ) → k + 1 < 2 * f .blocks → passEnd f ps (passAt (f .blocks) order k) ≤ passStart f ps (passAt (f .blocks) order (k + 1))
 
 pub record FlightRuns (f : FlightSection) (order : ℕ) (ps : List Passes) : Type 0 where
   pub members : (i : ℕ) → i < length ps → BlockFollows f i (passesAt ps i)

@@ -1,8 +1,8 @@
--- `flight_order::time_of` meets its contract: both branches of the definition.
+-- `order::time_of` meets its contract: both branches of the definition.
 use borrow.Author.Needs.{needs}
-use Rattle.flight_order.proofs.Passes.{first-time, second-time}
-use Rattle.flight_order.proofs.time_of.Statement.{statement}
-use Rattle.flight_order.proofs.time_of.Tie as tie
+use Rattle.order.specs.PassLaws.{first-time, second-time}
+use Rattle.order.proofs.time_of.Statement.{statement}
+use Rattle.order.proofs.time_of.Tie as tie
 
 mul-result : tie.Need-mul-result
 mul-result c = search needs
