@@ -3,7 +3,7 @@ ghost use mathlib.Core.Path.{_≡_};
 ghost use Prim.Native.Nat.{_<_, _*_, _-_};
 ghost use Rattle.flight_order.specs.Constraints.{orderedFlight, constraintOf};
 ghost use Rattle.flight_order.specs.Good.{Good};
-ghost use Rattle.flight_order.specs.Contracts.{Rows, Room, Rooms, Least};
+ghost use Rattle.flight_order.specs.Contracts.{Rows, WriteConstraintsPre, LeastStartsPre, Least};
 use order::pass_at;
 use order::time_of;
 
@@ -75,7 +75,7 @@ fn write_constraints<'a>(
     most: &'a [u64],
     rows: &mut [u64],
 )
-    requires { ⌜ Room (orderedFlight n order turn (now first) (now second) (now least) (now most)) (now rows) ⌝ }
+    requires { ⌜ WriteConstraintsPre (orderedFlight n order turn (now first) (now second) (now least) (now most)) (now rows) ⌝ }
     ensures { λ _. ⌜ Rows (orderedFlight n order turn (now (first .entry)) (now (second .entry)) (now (least .entry)) (now (most .entry))) (now (rows .exit)) (4 * n - 1) ⌝ }
 {
     let count = 4 * n - 1;
@@ -103,7 +103,7 @@ pub fn least_starts<'a>(
     rows: &mut [u64],
     starts: &mut [u64],
 ) -> bool
-    requires { ⌜ Rooms (orderedFlight n order turn (now first) (now second) (now least) (now most)) (now rows) (now starts) ⌝ }
+    requires { ⌜ LeastStartsPre (orderedFlight n order turn (now first) (now second) (now least) (now most)) (now rows) (now starts) ⌝ }
     ensures { λ r. ⌜ Least (orderedFlight n order turn (now (first .entry)) (now (second .entry)) (now (least .entry)) (now (most .entry))) (now (rows .exit)) (now (starts .exit)) r ⌝ }
 {
     write_constraints(n, order, turn, first, second, least, most, rows);
