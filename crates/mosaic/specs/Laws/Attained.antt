@@ -10,7 +10,7 @@ use Rattle.sheet.specs.Limits.{mostTime, mostStrips}
 use Rattle.sheet.specs.Sound.{MosaicSound}
 use Rattle.sheet.specs.declared.MosaicSection.{MosaicSection}
 use Rattle.rules.specs.declared.Batch.{Batch}
-use Rattle.rules.specs.Mosaic.{ready}
+use Rattle.rules.specs.Mosaic.{ready, finishDue}
 use Rattle.running.specs.Running.{BatchFollows, MosaicRuns, none, more}
 use Rattle.rules_laws.specs.MosaicRunning.{runningFigure}
 use Rattle.batching.specs.Least.{mountStart, benchStart, finishOf}
@@ -68,13 +68,15 @@ module _ {m : MosaicSection} (S : MosaicSound m) where
       finishes = (omega (arith, finish-most), A .finishes);
     } where
       follows : (p : Batch) → p .last ≡ i → p .finish ≡ free → BatchFollows m p (batchOf (instanceOf m) free i q)
-      follows p e f = unfold batchOf instanceOf finishOf benchStart mountStart in record {
-        rises = omega arith;
+      follows p e f = unfold batchOf instanceOf finishOf benchStart mountStart finishDue in record {
+        lawful = record {
+          rises = omega arith;
+          waits-strip = omega arith;
+          waits-batch = omega arith;
+          finishes = rw e refl;
+          within = omega (arith, finish-most, S .most-strips);
+        };
         known = k;
-        waits-strip = omega arith;
-        waits-batch = omega arith;
-        finishes = rw e refl;
-        within = omega (arith, finish-most, S .most-strips);
       }
 
     -- to close the open batch at strip q

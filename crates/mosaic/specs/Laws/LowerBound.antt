@@ -6,6 +6,7 @@ use native.Mathlib.Nat.{mul-le-mul-left}
 use native.Mathlib.Decide.{decLt}
 use native.Mathlib.Omega.{arith}
 use Rattle.sheet.specs.declared.MosaicSection.{MosaicSection}
+use Rattle.rules.specs.Mosaic.{finishDue}
 use Rattle.rules.specs.declared.Batch.{Batch}
 use Rattle.running.specs.Running.{BatchFollows, MosaicRuns, none, more}
 use Rattle.rules_laws.specs.MosaicRunning.{runningFigure}
@@ -43,10 +44,10 @@ module _ (x : Instance) where
 module _ (m : MosaicSection) where
   batch-cost : (p b : Batch) → BatchFollows m p b
       → leastAt (instanceOf m) (p .last) (p .finish) ≤ (b .last - p .last) * b .finish + leastAt (instanceOf m) (b .last) (b .finish)
-  unfolding instanceOf finishOf benchStart mountStart
+  unfolding instanceOf finishOf benchStart mountStart finishDue
   batch-cost p b B =
-      let c = close-at (instanceOf m) (p .last) (b .last) (p .finish) (b .finish) (B .rises) (B .known)
-      (omega (arith, B .waits-strip, B .waits-batch, B .finishes)) in
+      let c = close-at (instanceOf m) (p .last) (b .last) (p .finish) (b .finish) (B .lawful .rises) (B .known)
+      (omega (arith, B .lawful .waits-strip, B .lawful .waits-batch, B .lawful .finishes)) in
       rw (weight-count m (p .last) (b .last - p .last)) at c
 
   pub lower-after : (bs : List Batch) (p : Batch) → MosaicRuns m p bs → leastAt (instanceOf m) (p .last) (p .finish) ≤ runningFigure p bs
