@@ -14,7 +14,7 @@ use Rattle.field.specs.Bytes.{NumberRead}
 use Rattle.order.specs.Order.{isProper}
 use Rattle.order.specs.Decided.{proper-true}
 use Rattle.sheet.specs.declared.FlightSection.{FlightSection}
-use Rattle.rules.specs.Sums.{greatestOver}
+use Rattle.base.specs.Sums.{greatestOver}
 use Rattle.rules.specs.Flight.{noPasses, passesAt, passStart, passTime, passEnd, clearAt, passAt, flightFigure}
 use Rattle.plan_read.specs.PlanRead.{passesFrom, membersFrom}
 use Rattle.running.specs.FunctionLaws.{PositionPre, TimeTold}

@@ -8,12 +8,12 @@ use mathlib.Core.List.{List, [], _∷_, _++_}
 use lib.ListN.{length, replicate}
 use lib.Dec.{eqb}
 use borrow.Author.Tests.{eqb-true}
-use Rattle.field.specs.Branch.{both}
+use Rattle.base.specs.Branch.{both}
 use Rattle.order.specs.Order.{seconds, firsts, neverMoreSeconds, isProper, Decides}
 use Rattle.sheet.specs.declared.MosaicSection.{MosaicSection}
 use Rattle.sheet.specs.declared.SortingSection.{SortingSection}
 use Rattle.sheet.specs.declared.FlightSection.{FlightSection}
-use Rattle.rules.specs.Sums.{sumOver, greatestOver}
+use Rattle.base.specs.Sums.{sumOver, greatestOver}
 use Rattle.rules.specs.Mosaic.{stationSum, ready, benchSum, noBatch, batchAt, batchBefore, finishDue, MosaicLawful, completion, mosaicFigure}
 use Rattle.rules.specs.Sorting.{stripsOf, slot, scanTime, deskTime, scanEnd, deskFinish, noJob, jobAt, jobsOf, SortingLawful, sortingFigure}
 use Rattle.rules.specs.Flight.{noPasses, passesAt, passStart, passTime, passEnd, secondDue, clearAt, FlightLawful, passAt, Keeps, OrderAllowed, flightFigure}

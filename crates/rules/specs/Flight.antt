@@ -9,7 +9,7 @@ use lib.Dec.{ltb, eqb}
 use Rattle.order.specs.Order.{bit, seconds, firsts, Proper}
 use Rattle.sheet.specs.Limits.{ceiling}
 use Rattle.sheet.specs.declared.FlightSection.{FlightSection}
-use Rattle.rules.specs.Sums.{greatestOver}
+use Rattle.base.specs.Sums.{greatestOver}
 use Rattle.rules.specs.declared.Passes.{Passes}
 
 -- the starts of block i, from 0

@@ -7,7 +7,7 @@ use lib.ListN.{length, getD}
 use lib.Dec.{eqb}
 use Rattle.sheet.specs.Limits.{ceiling}
 use Rattle.sheet.specs.declared.SortingSection.{SortingSection}
-use Rattle.rules.specs.Sums.{sumOver}
+use Rattle.base.specs.Sums.{sumOver}
 use Rattle.rules.specs.declared.Job.{Job}
 
 -- the strips of a desk

@@ -15,7 +15,7 @@ use Rattle.sheet.specs.Sound.{MosaicSound, SortingSound, FlightSound, stripsInA
 use Rattle.sheet.specs.declared.MosaicSection.{MosaicSection}
 use Rattle.sheet.specs.declared.SortingSection.{SortingSection}
 use Rattle.sheet.specs.declared.FlightSection.{FlightSection}
-use Rattle.rules.specs.Sums.{sumOver}
+use Rattle.base.specs.Sums.{sumOver}
 use Rattle.rules.specs.Mosaic.{benchSum, noBatch, batchAt, batchBefore, MosaicLawful, completion, mosaicFigure}
 use Rattle.rules.specs.Sorting.{stripsOf, slot, deskTime, scanEnd, deskFinish, jobAt, jobsOf, SortingLawful, sortingFigure}
 use Rattle.rules.specs.Flight.{passesAt, passEnd, FlightLawful, OrderAllowed, flightFigure}
@@ -23,7 +23,7 @@ use Rattle.running.specs.Running.{BatchFollows, MosaicRuns, none, more}
 use Rattle.rules.specs.declared.Batch.{Batch}
 use Rattle.rules.specs.declared.Job.{Job}
 use Rattle.rules.specs.declared.Passes.{Passes}
-use Rattle.rules_laws.specs.Sums.{sum-most, sum-least, greatest-most, greatest-part}
+use Rattle.base.specs.SumLaws.{sum-most, sum-least, greatest-most, greatest-part}
 use Rattle.rules_laws.specs.Finish.{finish-worked}
 use Rattle.rules_laws.specs.MosaicRunning.{count-within, follows-at, runningFigure}
 use Rattle.rules_laws.specs.Equivalent.{mosaic-runs, mosaic-figure}

@@ -7,11 +7,11 @@ use native.Mathlib.Omega.{arith}
 use lib.ListN.{length, getD}
 use borrow.Author.Tests.{le-leb, lt-leb}
 use Rattle.sheet.specs.declared.MosaicSection.{MosaicSection}
-use Rattle.rules.specs.Sums.{sumOver}
+use Rattle.base.specs.Sums.{sumOver}
 use Rattle.rules.specs.Mosaic.{noBatch, batchAt, batchBefore, BatchLawful, MosaicLawful, completion, mosaicFigure}
 use Rattle.running.specs.Running.{BatchFollows, MosaicRuns, none, more}
 use Rattle.rules.specs.declared.Batch.{Batch}
-use Rattle.rules_laws.specs.Sums.{sum-split, sum-same, sum-const}
+use Rattle.base.specs.SumLaws.{sum-split, sum-same, sum-const}
 
 -- the last strip of every batch is one of the section's
 pub last-within : (m : MosaicSection) (b : Batch) (bs : List Batch) → MosaicRuns m b bs → b .last ≤ m .strips

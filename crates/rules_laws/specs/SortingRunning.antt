@@ -14,12 +14,12 @@ use lib.Dec.{eqb}
 use borrow.Author.Tests.{eq-eqb, ne-eqb}
 use Rattle.sheet.specs.declared.SortingSection.{SortingSection}
 use Rattle.sheet.specs.Sound.{SortingSound}
-use Rattle.rules.specs.Sums.{sumOver}
+use Rattle.base.specs.Sums.{sumOver}
 use Rattle.rules.specs.Sorting.{stripsOf, scanEnd, deskFinish, noJob, jobAt, jobsOf, SortingLawful, sortingFigure}
 use Rattle.running.specs.Running.{JobFollows, freeDesks, afterJob, AllDone, SortingRuns, none, more}
 use Rattle.rules.specs.declared.Job.{Job}
 use Rattle.running.specs.declared.Desks.{Desks}
-use Rattle.rules_laws.specs.Sums.{sum-first}
+use Rattle.base.specs.SumLaws.{sum-first}
 
 -- the jobs of a desk, one job more
 pub jobs-same : (js : List Job) (desk i : ℕ) → jobAt js i .desk ≡ desk → jobsOf js desk (suc i) ≡ jobsOf js desk i + 1

@@ -1,8 +1,9 @@
 // Ready times and bench times of a mosaic.
+use base::greater;
 use rules::Batch;
 use sheet::MosaicSection;
 ghost use mathlib.Core.Path.{_≡_};
-ghost use Prim.Native.Nat.{_<_, _+_, max};
+ghost use Prim.Native.Nat.{_<_, _+_};
 ghost use Rattle.rules.specs.Mosaic.{stationSum, ready, benchSum, finishDue};
 ghost use Rattle.running.specs.FunctionLaws.{StationPre, ReadyPre, BenchPre, FinishPre, SumTold};
 
@@ -19,16 +20,6 @@ fn station_sum(m: MosaicSection, k: usize, j: usize) -> u64
         i += 1;
     }
     sum
-}
-
-// The greater of two numbers.
-pub fn greater(a: u64, b: u64) -> u64
-    ensures { λ r. ⌜ r ≡ max a b ⌝ }
-{
-    if a < b {
-        return b;
-    }
-    a
 }
 
 // When strip j, from 1, is ready.

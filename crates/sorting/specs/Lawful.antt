@@ -1,7 +1,7 @@
 -- The chosen jobs are a lawful timetable, and their figure is the least figure. Each job is read off the state that the list has reached.
 use mathlib.Core.Path.{_≡_, refl, sym, ap, subst, _∙_}
 use mathlib.Core.List.{List}
-use Prim.Native.Nat.{ℕ, zero, suc, _+_, _-_, _*_, _≤_, _<_}
+use Prim.Native.Nat.{ℕ, zero, suc, _+_, _-_, _*_, _≤_, _<_, max}
 use native.Mathlib.Nat.{le-refl}
 use native.Mathlib.Decide.{decLt, ℕ-discrete}
 use native.Mathlib.Omega.{arith}
@@ -9,15 +9,15 @@ use lib.ListN.{length, getD}
 use Rattle.sheet.specs.declared.SortingSection.{SortingSection}
 use Rattle.sheet.specs.Sound.{SortingSound}
 use Rattle.rules.specs.declared.Job.{Job}
-use Rattle.rules.specs.Sums.{sumOver}
+use Rattle.base.specs.Listed.{listed-length, listed-at}
+use Rattle.base.specs.Sums.{sumOver}
 use Rattle.rules.specs.Sorting.{jobAt, jobsOf, noJob, stripsOf, scanEnd, deskFinish, SortingLawful, sortingFigure}
 use Rattle.interleaving.specs.declared.State.{State}
 use Rattle.interleaving.specs.Instance.{Instance, weightOf}
-use Rattle.interleaving.specs.Search.{maxOf, scanned, finish, stepOf, startState}
+use Rattle.interleaving.specs.Search.{scanned, finish, stepOf, startState}
 use Rattle.interleaving.specs.SearchLaws.{max-left, max-right, max-least}
 use Rattle.interleaving.specs.Consistent.{Consistent, consistent-start}
 use Rattle.sorting.specs.Plan.{instanceOf, leastFigure, reached, jobOf, jobsOfList, chosenJobs}
-use Rattle.sorting.specs.Listed.{listed-length, listed-at}
 use Rattle.sorting.specs.Instance.{instance-sound, scan-of, desk-of, weight-of}
 use Rattle.sorting.specs.Route.{rises, reached-consistent, reached-left, reached-lengths, step-time, step-cost, free-same, free-other, taken-is}
 use Rattle.sorting.specs.Chosen.{chosenDesk, chosenState, Chosen, chosen}
@@ -33,7 +33,7 @@ module _ (J : List ℕ) (s : State) (d : ℕ) where
   unfolding jobOf
   job-after-desk = max-left (getD (s .free) d 0) (scanned J s d)
 
-  pub job-start : jobOf J s d .start ≡ maxOf (getD (s .free) d 0) (scanned J s d)
+  pub job-start : jobOf J s d .start ≡ max (getD (s .free) d 0) (scanned J s d)
   unfolding jobOf
   job-start = refl
 
