@@ -12,10 +12,10 @@ use Rattle.order.specs.PassLaws.{pass-known, position, last-pass}
 use Rattle.sheet.specs.Limits.{ceiling}
 use Rattle.sheet.specs.Sound.{FlightSound}
 use Rattle.sheet.specs.declared.FlightSection.{FlightSection}
-use Rattle.rules.specs.Flight.{passStart, passTime, passEnd, FlightLawful, Keeps, flightFigure}
+use Rattle.rules.specs.Flight.{passStart, passTime, passEnd, secondDue, clearAt, Clear, FlightLawful, Keeps, flightFigure}
 use Rattle.rules.specs.declared.Passes.{Passes}
 use Rattle.base.specs.SumLaws.{greatest-most, greatest-part}
-use Rattle.rules_laws.specs.FlightRunning.{start-first, second-start, end-is, next-apart, before-later, all-apart, order-kept}
+use Rattle.rules_laws.specs.FlightRunning.{start-first, second-start, end-is, clear-end, next-apart, before-later, all-apart, order-kept}
 use Rattle.flight_order.specs.Constraints.{exactFlight}
 use Rattle.flight_order.specs.Schedule.{Schedule}
 use Rattle.flight_order.specs.Timetable.{passesWithStarts, passes-length, passes-first, passes-second, start-from, time-is}
@@ -23,12 +23,12 @@ use Rattle.flight_order.specs.Timetable.{passesWithStarts, passes-length
 module _ (f : FlightSection) (w : ℕ) (proper : Proper (f .blocks) w) where
   -- From the rules to the constraints.
   pub lawful-schedule : (ps : List Passes) → FlightLawful f ps → Keeps f w ps → Schedule (exactFlight f w) (passStart f ps)
-  unfolding passEnd
+  unfolding passEnd clearAt secondDue
   lawful-schedule ps law keeps = record { at-least = λ i l. omega (arith, delay i l); at-most = λ i l. omega (arith, delay i l); in-order = order }
     where
       delay : (i : ℕ) → i < f .blocks → passStart f ps (f .blocks + i) ≡ passStart f ps i + (getD (f .first) i 0 + getD (f .delay) i 0)
       delay i l =
-          second-start f ps i ∙ omega (arith, law .exact-delay i l, start-first f ps i l)
+          second-start f ps i ∙ omega (arith, law .delay-kept i l .exact, start-first f ps i l)
 
       order : (j : ℕ) → j + 1 < 2 * f .blocks
           → passStart f ps (passAt (f .blocks) w j) + (timeOf (f .blocks) (f .first) (f .second) (passAt (f .blocks) w j) + 0)
@@ -43,8 +43,8 @@ module _ (f : FlightSection) (w : ℕ) (proper : Proper (f .blocks) w) where
   -- From the constraints to the rules.
   module _ (y : ℕ → ℕ) (schedule : Schedule (exactFlight f w) y) where
     next : (k : ℕ) → k + 1 < 2 * f .blocks
-        → passEnd f (passesWithStarts (f .blocks) y) (passAt (f .blocks) w k) ≤ passStart f (passesWithStarts (f .blocks) y) (passAt (f .blocks) w (k + 1))
-    unfolding passEnd
+        → Clear f (passesWithStarts (f .blocks) y) (passAt (f .blocks) w k) (passAt (f .blocks) w (k + 1))
+    unfolding passEnd clearAt
     next k l =
         rw (
           start-from f y (passAt (f .blocks) w k) (pass-known proper k (omega arith)),
@@ -56,10 +56,12 @@ module _ (f : FlightSection) (w : ℕ) (proper : Proper (f .blocks) w) where
     schedule-keeps sound = order-kept f (passesWithStarts (f .blocks) y) w proper next sound
 
     pub schedule-lawful : ((p : ℕ) → p < 2 * f .blocks → y p + passTime f p ≤ ceiling) → FlightLawful f (passesWithStarts (f .blocks) y)
-    unfolding passEnd
+    unfolding passEnd secondDue
     schedule-lawful low = record {
       every-block = passes-length (f .blocks) y;
-      exact-delay = λ i l. rw (passes-first (f .blocks) y i l, passes-second (f .blocks) y i l) (omega (arith, schedule .at-least i l, schedule .at-most i l));
+      delay-kept = λ i l. record {
+        exact = rw (passes-first (f .blocks) y i l, passes-second (f .blocks) y i l) (omega (arith, schedule .at-least i l, schedule .at-most i l));
+      };
       apart = all-apart f (passesWithStarts (f .blocks) y) w proper next;
       within = λ p l. rw (start-from f y p l) (low p l);
     }
@@ -77,9 +79,9 @@ module _ (f : FlightSection) (w : ℕ) (proper : Proper (f .blocks) w) where
               where
                 same : p ≡ 2 * f .blocks - 1
                 same = sym (a .2) ∙ ap (passAt (f .blocks) w) e ∙ last-pass proper some
-            at (no e) = omega (arith, before, end-is f ps (2 * f .blocks - 1))
+            at (no e) = omega (arith, before, clear-end f ps p, end-is f ps (2 * f .blocks - 1))
               where
-                before : passEnd f ps p ≤ passStart f ps (2 * f .blocks - 1)
+                before : Clear f ps p (2 * f .blocks - 1)
                 before = rw (a .2, last-pass proper some) at (before-later f ps w proper (next-apart f ps w law keeps proper) (a .0) (2 * f .blocks - 1) (omega arith) (omega arith))
 
     pub figure-last : flightFigure f ps ≡ passEnd f ps (2 * f .blocks - 1)

@@ -73,7 +73,7 @@ module _ (f : FlightSection) (w : ℕ) (sound : FlightSound f) (proper : Proper 
           (λ p l. omega (arith, least-end f sound w some proper e p l))
       go (no none) = record {
         every-block = passes-length (f .blocks) (value (leastStarts f w));
-        exact-delay = λ i l. absurd (omega (arith, none));
+        delay-kept = λ i l. absurd (omega (arith, none));
         apart = λ p q lp lq ne. absurd (omega (arith, none));
         within = λ p l. absurd (omega (arith, none));
       }

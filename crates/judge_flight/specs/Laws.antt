@@ -17,7 +17,7 @@ use Rattle.order.specs.Passes.{passAt}
 use Rattle.order.specs.PassLaws.{pass-known}
 use Rattle.sheet.specs.declared.FlightSection.{FlightSection}
 use Rattle.base.specs.Sums.{greatestOver}
-use Rattle.rules.specs.Flight.{noPasses, passesAt, passStart, passTime, passEnd, flightFigure}
+use Rattle.rules.specs.Flight.{noPasses, passesAt, passStart, passTime, passEnd, clearAt, flightFigure}
 use Rattle.plan_read.specs.PlanRead.{passesFrom, membersFrom}
 use Rattle.running.specs.FunctionLaws.{TimeTold}
 use Rattle.rules.specs.declared.Passes.{Passes}
@@ -71,7 +71,7 @@ pub record OrderedSoFar (f : FlightSection) (order : ℕ) (ps : List Passes) (k 
   pub within : k ≤ 2 * f .blocks - 1
   pub so-far : passesInOrder f order ps k ≡ true
 
-order-suc : (f : FlightSection) (order : ℕ) (ps : List Passes) (k : ℕ) → passesInOrder f order ps (suc k) ≡ (passesInOrder f order ps k && leb (passEnd f ps (passAt (f .blocks) order k)) (passStart f ps (passAt (f .blocks) order (k + 1))))
+order-suc : (f : FlightSection) (order : ℕ) (ps : List Passes) (k : ℕ) → passesInOrder f order ps (suc k) ≡ (passesInOrder f order ps k && leb (clearAt f ps (passAt (f .blocks) order k)) (passStart f ps (passAt (f .blocks) order (k + 1))))
 unfolding passesInOrder
 order-suc f order ps k = refl
 
@@ -94,7 +94,8 @@ module _ (f : FlightSection) (order : ℕ) (plan : List ℕ) (at k : ℕ) (a : O
   known-q : q < 2 * f .blocks
   known-q = rw eq (pass-known (a .proper) (k + 1) less)
 
-  end-there : end ≡ passEnd f (passesOf plan at (f .blocks)) (passAt (f .blocks) order k)
+  end-there : end ≡ clearAt f (passesOf plan at (f .blocks)) (passAt (f .blocks) order k)
+  unfolding clearAt
   end-there = te .is ∙ end-is f plan at p known-p ∙ ap (passEnd f (passesOf plan at (f .blocks))) ep
 
   start-there : start ≡ passStart f (passesOf plan at (f .blocks)) (passAt (f .blocks) order (k + 1))

@@ -196,13 +196,16 @@ module _ (s : SortingSection) (h : SortingSound s) where
 
   pub chosen-lawful : SortingLawful s (chosenJobs s)
   chosen-lawful = record {
-    at-desk = λ i l. (omega (arith, desk-is i (at i l)), omega (arith, desk-is i (at i l), of-section i (at i l)));
+    each = λ i l. record {
+      least-desk = omega (arith, desk-is i (at i l));
+      most-desk = omega (arith, desk-is i (at i l), of-section i (at i l));
+      after-scan = omega (arith, scan-end i (at i l), start-is i (at i l), job-after-scan J (S i) (F i));
+      within = omega (arith, chosen-early i (at i l));
+    };
     in-turn = λ i l. in-turn i (at i l);
     all-strips = λ desk p q. ap (jobsOf (chosenJobs s) desk) chosen-length ∙ all-strips desk p q;
     one-scan = λ i k l m. omega (arith, scan-end i (omega (arith, at k m)), time-next i, time-mono (suc i) k (omega arith), scan-is k (at k m));
-    after-scan = λ i l. omega (arith, scan-end i (at i l), start-is i (at i l), job-after-scan J (S i) (F i));
     one-job = λ i k l m e. one-job i k l (at k m) e;
-    within = λ i l. omega (arith, chosen-early i (at i l));
   }
     where
       at : (i : ℕ) → i < length (chosenJobs s) → i < N

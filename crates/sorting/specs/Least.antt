@@ -47,7 +47,7 @@ module _ (s : SortingSection) (h : SortingSound s) (js : List Job) (law : Sortin
   j = instance-sound s h
 
   desk-of-job : (i : ℕ) → i < length js → (jobAt js i .desk ≡ G i + 1) × (G i < 3)
-  desk-of-job i l = (omega (arith, law .at-desk i l), omega (arith, law .at-desk i l, h .most-desks))
+  desk-of-job i l = (omega (arith, law .each i l .least-desk), omega (arith, law .each i l .least-desk, law .each i l .most-desk, h .most-desks))
 
   taken : (i : ℕ) → i ≤ length js → (d : ℕ) → d < 3 → getD (T i .taken) d 0 ≡ jobsOf js (d + 1) i
   taken = taken-is J (startState J) G js (length js) (consistent-start J j .fits .frees) (consistent-start J j .fits .takens) (start-taken J) desk-of-job
@@ -58,7 +58,7 @@ module _ (s : SortingSection) (h : SortingSound s) (js : List Job) (law : Sortin
   serves : Serves J (startState J) G (length js)
   serves i l = (
     desk-of-job i l .1,
-    omega (arith, taken i (omega arith) (G i) (desk-of-job i l .1), jobs-same js (G i + 1) i (desk-of-job i l .0), later i l, all-of (G i) (desk-of-job i l .1) (omega (arith, law .at-desk i l))),
+    omega (arith, taken i (omega arith) (G i) (desk-of-job i l .1), jobs-same js (G i + 1) i (desk-of-job i l .0), later i l, all-of (G i) (desk-of-job i l .1) (omega (arith, law .each i l .least-desk, law .each i l .most-desk))),
   )
     where
       later : (i : ℕ) → i < length js → jobsOf js (G i + 1) (suc i) ≤ jobsOf js (G i + 1) (length js)
@@ -109,7 +109,7 @@ module _ (s : SortingSection) (h : SortingSound s) (js : List Job) (law : Sortin
 
   start-ahead : (i : ℕ) → i < length js → Ahead (T i) i → max (getD (T i .free) (G i) 0) (scanned J (T i) (G i)) ≤ jobAt js i .start
   start-ahead i l a =
-      max-least (getD (T i .free) (G i) 0) (scanned J (T i) (G i)) (jobAt js i .start) (a .free i (le-refl _) l) (omega (arith, a .time i (le-refl _) l, scan-end i l, law .after-scan i l))
+      max-least (getD (T i .free) (G i) 0) (scanned J (T i) (G i)) (jobAt js i .start) (a .free i (le-refl _) l) (omega (arith, a .time i (le-refl _) l, scan-end i l, law .each i l .after-scan))
 
   finish-ahead : (i : ℕ) → i < length js → Ahead (T i) i → finish J (T i) (G i) ≤ deskFinish s (jobAt js i)
   finish-ahead i l a = omega (arith, start-ahead i l a, finish-of i l)
