@@ -16,8 +16,8 @@ use Rattle.order.specs.Decided.{proper-true}
 use Rattle.sheet.specs.declared.FlightSection.{FlightSection}
 use Rattle.rules.specs.Sums.{greatestOver}
 use Rattle.rules.specs.Flight.{noPasses, passesAt, passStart, passTime, passEnd, passAt, flightFigure}
-use Rattle.rules.specs.PlanRead.{passesFrom, membersFrom}
-use Rattle.rules.specs.FunctionLaws.{PositionAsked, TimeTold}
+use Rattle.plan_read.specs.PlanRead.{passesFrom, membersFrom}
+use Rattle.running.specs.FunctionLaws.{PositionAsked, TimeTold}
 use Rattle.rules.specs.declared.Passes.{Passes}
 use Rattle.rules_laws.specs.FlightRunning.{pass-known}
 use Rattle.judge_rules.specs.Follows.{passesInOrder, flightHead}

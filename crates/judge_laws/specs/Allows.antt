@@ -23,8 +23,8 @@ use Rattle.rules.specs.Mosaic.{noBatch, mosaicFigure}
 use Rattle.rules.specs.Sorting.{stripsOf, sortingFigure}
 use Rattle.rules.specs.Flight.{flightFigure}
 use Rattle.rules.specs.Plan.{membersBytes, batchBytes, mosaicBytes, jobBytes, sortingBytes, passesBytes, flightBytes, ifPresent, Plan, planBytes, Allowed}
-use Rattle.rules.specs.PlanRead.{figureFrom, orderFrom, batchFrom, jobFrom, passesFrom, membersFrom}
-use Rattle.rules.specs.Running.{MosaicRuns, freeDesks, AllDone, SortingRuns, FlightRuns}
+use Rattle.plan_read.specs.PlanRead.{figureFrom, orderFrom, batchFrom, jobFrom, passesFrom, membersFrom}
+use Rattle.running.specs.Running.{MosaicRuns, freeDesks, AllDone, SortingRuns, FlightRuns}
 use Rattle.rules.specs.declared.Batch.{Batch}
 use Rattle.rules.specs.declared.Job.{Job}
 use Rattle.rules.specs.declared.Passes.{Passes}

@@ -14,7 +14,7 @@ use Rattle.sheet.specs.Refusals.{layoutWrong, ruleBroken, figureUntrue}
 use Rattle.sheet.specs.Read.{readSheet, refused}
 use Rattle.sheet.specs.Refused.{RefusedFor, refused-for, refused-is, sound-exactly}
 use Rattle.sheet.specs.declared.Sheet.{Sheet}
-use Rattle.rules.specs.PlanRead.{figureFrom}
+use Rattle.plan_read.specs.PlanRead.{figureFrom}
 use Rattle.judge_layout.specs.Layout.{verdict, layoutVerdict}
 use Rattle.judge_layout.specs.declared.Verdict.{Verdict}
 use Rattle.judge_members.specs.Members.{present, memberPlace, begun, memberFollows, afterMember, headFollows, figureOf, headNumber}

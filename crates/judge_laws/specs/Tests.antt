@@ -16,11 +16,11 @@ use Rattle.sheet.specs.declared.SortingSection.{SortingSection}
 use Rattle.sheet.specs.declared.FlightSection.{FlightSection}
 use Rattle.rules.specs.Sorting.{stripsOf}
 use Rattle.rules.specs.Flight.{passStart, passEnd, passAt}
-use Rattle.rules.specs.Running.{BatchFollows, JobFollows, AllDone, BlockFollows, FlightHead}
+use Rattle.running.specs.Running.{BatchFollows, JobFollows, AllDone, BlockFollows, FlightHead}
 use Rattle.rules.specs.declared.Batch.{Batch}
 use Rattle.rules.specs.declared.Job.{Job}
 use Rattle.rules.specs.declared.Passes.{Passes}
-use Rattle.rules.specs.declared.Desks.{Desks}
+use Rattle.running.specs.declared.Desks.{Desks}
 use Rattle.judge_rules.specs.Follows.{batchInRun, batchInTime, batchFollows, jobInTurn, jobInTime, jobFollows, blockInTime, blockFollows, allDone, passesInOrder, flightHead}
 
 -- a conjunction of two that hold

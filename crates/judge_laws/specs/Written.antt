@@ -18,8 +18,8 @@ use Rattle.rules.specs.Mosaic.{noBatch, batchAt, mosaicFigure}
 use Rattle.rules.specs.Sorting.{noJob, jobAt, sortingFigure}
 use Rattle.rules.specs.Flight.{noPasses, passesAt, flightFigure}
 use Rattle.rules.specs.Plan.{membersBytes, batchBytes, mosaicBytes, jobBytes, sortingBytes, passesBytes, flightBytes, ifPresent, Plan, planBytes, PlanLawful}
-use Rattle.rules.specs.PlanRead.{figureFrom, orderFrom, batchFrom, jobFrom, passesFrom, membersFrom}
-use Rattle.rules.specs.Running.{FlightRuns}
+use Rattle.plan_read.specs.PlanRead.{figureFrom, orderFrom, batchFrom, jobFrom, passesFrom, membersFrom}
+use Rattle.running.specs.Running.{FlightRuns}
 use Rattle.rules.specs.declared.Batch.{Batch}
 use Rattle.rules.specs.declared.Job.{Job}
 use Rattle.rules.specs.declared.Passes.{Passes}

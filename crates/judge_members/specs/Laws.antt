@@ -18,13 +18,13 @@ use Rattle.sheet.specs.declared.Sheet.{Sheet}
 use Rattle.rules.specs.Mosaic.{noBatch}
 use Rattle.rules.specs.Sorting.{stripsOf, deskFinish, deskTime}
 use Rattle.rules.specs.Flight.{flightFigure}
-use Rattle.rules.specs.PlanRead.{figureFrom, orderFrom, batchFrom, jobFrom, passesFrom}
-use Rattle.rules.specs.Running.{freeDesks, afterJob}
-use Rattle.rules.specs.FunctionLaws.{TimeTold}
+use Rattle.plan_read.specs.PlanRead.{figureFrom, orderFrom, batchFrom, jobFrom, passesFrom}
+use Rattle.running.specs.Running.{freeDesks, afterJob}
+use Rattle.running.specs.FunctionLaws.{TimeTold}
 use Rattle.rules.specs.declared.Batch.{Batch}
 use Rattle.rules.specs.declared.Job.{Job}
 use Rattle.rules.specs.declared.Passes.{Passes}
-use Rattle.rules.specs.declared.Desks.{Desks}
+use Rattle.running.specs.declared.Desks.{Desks}
 use Rattle.judge_rules.specs.Follows.{batchInRun, batchInTime, batchFollows, jobInTurn, jobInTime, jobFollows, blockFollows, allDone, flightHead}
 use Rattle.rules_laws.specs.RoundTrip.{BatchFits, JobFits, PassesFits}
 use Rattle.judge_rules.specs.Asked.{DesksFit, BatchAsked, JobAsked, JobTaken, BlockAsked}

@@ -10,8 +10,8 @@ use Rattle.sheet.specs.declared.Sheet.{Sheet}
 use Rattle.rules.specs.Mosaic.{noBatch}
 use Rattle.rules.specs.Sorting.{deskFinish}
 use Rattle.rules.specs.Flight.{flightFigure}
-use Rattle.rules.specs.PlanRead.{figureFrom, orderFrom, batchFrom, jobFrom, passesFrom}
-use Rattle.rules.specs.Running.{freeDesks, afterJob}
+use Rattle.plan_read.specs.PlanRead.{figureFrom, orderFrom, batchFrom, jobFrom, passesFrom}
+use Rattle.running.specs.Running.{freeDesks, afterJob}
 use Rattle.rules.specs.declared.Batch.{Batch}
 use Rattle.rules.specs.declared.Job.{Job}
 use Rattle.judge_rules.specs.Follows.{batchFollows, jobFollows, blockFollows, allDone, flightHead}

@@ -15,7 +15,7 @@ use Rattle.rules.specs.Flight.{passStart, passEnd, passAt}
 use Rattle.rules.specs.declared.Batch.{Batch}
 use Rattle.rules.specs.declared.Job.{Job}
 use Rattle.rules.specs.declared.Passes.{Passes}
-use Rattle.rules.specs.declared.Desks.{Desks}
+use Rattle.running.specs.declared.Desks.{Desks}
 
 -- "At a member: ranges, a member too many, a batch's last strip past that of the batch before"
 unfoldable pub batchInRun : ℕ → ℕ → ℕ → Bool

@@ -15,12 +15,12 @@ use Rattle.sheet.specs.declared.SortingSection.{SortingSection}
 use Rattle.sheet.specs.declared.FlightSection.{FlightSection}
 use Rattle.rules.specs.Mosaic.{ready, benchSum}
 use Rattle.rules.specs.Sorting.{stripsOf, scanTime, deskTime, scanEnd, deskFinish}
-use Rattle.rules.specs.Running.{afterJob}
-use Rattle.rules.specs.FunctionLaws.{ReadyAsked, BenchAsked, ReadyTold, BenchTold, SlotAsked, TimeTold}
+use Rattle.running.specs.Running.{afterJob}
+use Rattle.running.specs.FunctionLaws.{ReadyAsked, BenchAsked, ReadyTold, BenchTold, SlotAsked, TimeTold}
 use Rattle.rules.specs.declared.Batch.{Batch}
 use Rattle.rules.specs.declared.Job.{Job}
 use Rattle.rules.specs.declared.Passes.{Passes}
-use Rattle.rules.specs.declared.Desks.{Desks}
+use Rattle.running.specs.declared.Desks.{Desks}
 use Rattle.judge_rules.specs.Follows.{batchInRun, batchInTime, batchFollows, jobInTurn, jobInTime, jobFollows, blockInTime, blockFollows, allDone}
 use Rattle.judge_rules.specs.Asked.{BatchAsked, JobAsked, JobTaken, BlockAsked}
 

@@ -1,12 +1,12 @@
 // The rules as tests: whether a batch, a job or a block may follow what was judged before it, and what is checked at a head.
 use rules::Batch;
-use rules::Desks;
 use rules::Job;
 use rules::Passes;
-use rules::mosaic::bench_sum;
-use rules::mosaic::ready_time;
-use rules::sorting::desk_time;
-use rules::sorting::scan_time;
+use running::Desks;
+use running::mosaic::bench_sum;
+use running::mosaic::ready_time;
+use running::sorting::desk_time;
+use running::sorting::scan_time;
 use sheet::FlightSection;
 use sheet::MosaicSection;
 use sheet::SortingSection;
@@ -18,7 +18,7 @@ ghost use Prim.Native.Nat.{_+_, _-_, _≤_, _<_};
 ghost use lib.ListN.{getD};
 ghost use Rattle.judge_rules.specs.Follows.{batchInRun, batchInTime, batchFollows, jobInTurn, jobInTime, jobFollows, blockInTime, blockFollows, allDone};
 ghost use Rattle.judge_rules.specs.Asked.{BatchAsked, JobAsked, JobTaken, BlockAsked};
-ghost use Rattle.rules.specs.Running.{afterJob};
+ghost use Rattle.running.specs.Running.{afterJob};
 
 fn batch_in_run(strips: u64, before: u64, last: u64) -> bool
     ensures { λ r. ⌜ r ≡ batchInRun strips before last ⌝ }

@@ -2,7 +2,7 @@
 ghost use Rattle.mosaic.specs.Tables.{AddPre, Added, BatchesPre, BatchesTaken};
 use crate::MosaicPlan;
 use batching::first_batch;
-use rules::mosaic::greater;
+use running::mosaic::greater;
 
 // The plan with one batch more, of `count` strips.
 fn add_batch(plan: MosaicPlan, count: u64, last: u64, start: u64, finish: u64) -> MosaicPlan

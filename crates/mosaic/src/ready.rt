@@ -6,7 +6,7 @@ ghost use lib.ListN.{getD};
 ghost use Rattle.sheet.specs.Sound.{MosaicSound};
 ghost use Rattle.rules.specs.Sums.{greatestOver};
 ghost use Rattle.mosaic.specs.Tables.{ReadyTimes, BenchSums};
-use rules::mosaic::greater;
+use running::mosaic::greater;
 use sheet::MosaicSection;
 use sheet::limits::MOST_STRIPS;
 

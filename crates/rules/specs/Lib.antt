@@ -4,8 +4,3 @@ pub mod Mosaic
 pub mod Sorting
 pub mod Flight
 pub mod Plan
-pub mod Running
-pub mod PlanRead
-pub mod FunctionLaws
-pub mod Tests
-pub mod Samples

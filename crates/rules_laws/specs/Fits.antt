@@ -19,7 +19,7 @@ use Rattle.rules.specs.Sums.{sumOver}
 use Rattle.rules.specs.Mosaic.{benchSum, noBatch, batchAt, batchBefore, MosaicLawful, completion, mosaicFigure}
 use Rattle.rules.specs.Sorting.{stripsOf, slot, deskTime, scanEnd, deskFinish, jobAt, jobsOf, SortingLawful, sortingFigure}
 use Rattle.rules.specs.Flight.{passesAt, passEnd, FlightLawful, OrderAllowed, flightFigure}
-use Rattle.rules.specs.Running.{BatchFollows, MosaicRuns, none, more}
+use Rattle.running.specs.Running.{BatchFollows, MosaicRuns, none, more}
 use Rattle.rules.specs.declared.Batch.{Batch}
 use Rattle.rules.specs.declared.Job.{Job}
 use Rattle.rules.specs.declared.Passes.{Passes}

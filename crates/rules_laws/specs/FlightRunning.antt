@@ -17,7 +17,7 @@ use Rattle.sheet.specs.Limits.{ceiling}
 use Rattle.sheet.specs.Sound.{FlightSound}
 use Rattle.sheet.specs.declared.FlightSection.{FlightSection}
 use Rattle.rules.specs.Flight.{passesAt, passStart, passTime, passEnd, passAt, FlightLawful, Keeps, OrderAllowed}
-use Rattle.rules.specs.Running.{BlockFollows, FlightRuns}
+use Rattle.running.specs.Running.{BlockFollows, FlightRuns}
 use Rattle.rules.specs.declared.Passes.{Passes}
 
 -- each count of passes is that of some position: the counts grow by at most one at a time

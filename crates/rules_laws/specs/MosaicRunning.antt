@@ -10,7 +10,7 @@ use Rattle.sheet.specs.Limits.{ceiling}
 use Rattle.sheet.specs.declared.MosaicSection.{MosaicSection}
 use Rattle.rules.specs.Sums.{sumOver}
 use Rattle.rules.specs.Mosaic.{ready, benchSum, noBatch, batchAt, batchBefore, batchSize, MosaicLawful, completion, mosaicFigure}
-use Rattle.rules.specs.Running.{BatchFollows, MosaicRuns, none, more}
+use Rattle.running.specs.Running.{BatchFollows, MosaicRuns, none, more}
 use Rattle.rules.specs.declared.Batch.{Batch}
 use Rattle.rules_laws.specs.Sums.{sum-split, sum-same, sum-const}
 

@@ -16,9 +16,9 @@ use Rattle.sheet.specs.declared.SortingSection.{SortingSection}
 use Rattle.sheet.specs.Sound.{SortingSound}
 use Rattle.rules.specs.Sums.{sumOver}
 use Rattle.rules.specs.Sorting.{stripsOf, scanEnd, deskFinish, noJob, jobAt, jobsOf, SortingLawful, sortingFigure}
-use Rattle.rules.specs.Running.{JobFollows, freeDesks, afterJob, AllDone, SortingRuns, none, more}
+use Rattle.running.specs.Running.{JobFollows, freeDesks, afterJob, AllDone, SortingRuns, none, more}
 use Rattle.rules.specs.declared.Job.{Job}
-use Rattle.rules.specs.declared.Desks.{Desks}
+use Rattle.running.specs.declared.Desks.{Desks}
 use Rattle.rules_laws.specs.Sums.{sum-first}
 
 -- the jobs of a desk, one job more

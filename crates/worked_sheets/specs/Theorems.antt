@@ -11,7 +11,7 @@ use Rattle.sheet.specs.Refusals.{orderImpossible}
 use Rattle.sheet.specs.Read.{readSheet, contentNumber, fieldNumber, endNumber, placeOf, refused, accepted, atEnd, readFrom}
 use Rattle.sheet.specs.declared.Sheet.{Sheet}
 use Rattle.rules.specs.Plan.{Plan, planBytes, PlanLawful, membersBytes, batchBytes, mosaicBytes, jobBytes, sortingBytes, passesBytes, flightBytes, ifPresent}
-use Rattle.rules.specs.Tests.{isMosaic, mosaic-decided, isSorting, sorting-decided, isFlight, flight-decided, keepsOrder, keeps-decided, mayHaveOrder, order-decided, allBelow, batchTest, jobTest, jobsTest, blockTest, apartTest, startTest}
+use Rattle.rules.proofs.Tests.{isMosaic, mosaic-decided, isSorting, sorting-decided, isFlight, flight-decided, keepsOrder, keeps-decided, mayHaveOrder, order-decided, allBelow, batchTest, jobTest, jobsTest, blockTest, apartTest, startTest}
 use Rattle.planner.specs.Call.{chosenPlan, answer, answerOf, plannedBytes, sheetAnswer, sheetPlan}
 use Rattle.planner.specs.Theorems.{figureOfMosaic, figureOfSorting, figureOfFlight, Least, impossible-exactly, plan-lawful, plan-least-mosaic, plan-least-sorting, plan-least-flight}
 use Rattle.order.specs.Order.{seconds, firsts, neverMoreSeconds, isProper}

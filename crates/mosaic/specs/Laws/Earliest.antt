@@ -7,7 +7,7 @@ use lib.ListN.{length, getD, drop}
 use Rattle.sheet.specs.declared.MosaicSection.{MosaicSection}
 use Rattle.rules.specs.declared.Batch.{Batch}
 use Rattle.rules.specs.Mosaic.{ready, benchSum, noBatch}
-use Rattle.rules.specs.Running.{BatchFollows, MosaicRuns, more}
+use Rattle.running.specs.Running.{BatchFollows, MosaicRuns, more}
 use Rattle.batching.specs.Least.{mountStart}
 use Rattle.mosaic.specs.Plan.{lasts}
 use Rattle.mosaic.specs.Laws.Attained.{AsEarly}

@@ -7,7 +7,7 @@ use native.Mathlib.Decide.{decLt}
 use native.Mathlib.Omega.{arith}
 use Rattle.sheet.specs.declared.MosaicSection.{MosaicSection}
 use Rattle.rules.specs.declared.Batch.{Batch}
-use Rattle.rules.specs.Running.{BatchFollows, MosaicRuns, none, more}
+use Rattle.running.specs.Running.{BatchFollows, MosaicRuns, none, more}
 use Rattle.rules_laws.specs.MosaicRunning.{runningFigure}
 use Rattle.batching.specs.Least.{Instance, mountStart, benchStart, finishOf}
 use Rattle.mosaic.specs.Least.{instanceOf}

@@ -2,8 +2,8 @@
 use sheet::FlightSection;
 ghost use mathlib.Core.Path.{_≡_};
 ghost use Prim.Native.Nat.{_<_, _+_};
 ghost use Rattle.rules.specs.Flight.{passTime, passAt};
-ghost use Rattle.rules.specs.FunctionLaws.{PassAsked, TimeTold, PositionAsked};
+ghost use Rattle.running.specs.FunctionLaws.{PassAsked, TimeTold, PositionAsked};
 
 // The time that a pass takes.
 pub fn pass_time(f: FlightSection, p: usize) -> u64

@@ -1,10 +1,10 @@
 -- `ready_time` meets its contract. Invariant: `greatest` is the greatest sum of the first k stations.
 use Prim.Native.Nat.{_-_}
 use borrow.Author.Needs.{needs}
-use Rattle.rules.specs.FunctionLaws.{Greatest, greatest-none, greatest-more, greatest-all}
+use Rattle.running.specs.FunctionLaws.{Greatest, greatest-none, greatest-more, greatest-all}
 use mathlib.Core.Path.{_≡_, refl}
-use Rattle.rules.proofs.mosaic.ready_time.Statement.{statement}
-use Rattle.rules.proofs.mosaic.ready_time.Tie as tie
+use Rattle.running.proofs.mosaic.ready_time.Statement.{statement}
+use Rattle.running.proofs.mosaic.ready_time.Tie as tie
 
 abbrev Inv-loop : tie.InvT-loop
 Inv-loop m j stations greatest₀ k₀ greatest k = (stations ≡ m .stations) × Greatest m j k greatest

@@ -1,8 +1,8 @@
 -- `desk_time` meets its contract: a strip of a sound section has its slot in the array.
-use Rattle.rules.specs.FunctionLaws.{desk-told}
+use Rattle.running.specs.FunctionLaws.{desk-told}
 use borrow.Author.Needs.{needs}
-use Rattle.rules.proofs.sorting.desk_time.Statement.{statement}
-use Rattle.rules.proofs.sorting.desk_time.Tie as tie
+use Rattle.running.proofs.sorting.desk_time.Statement.{statement}
+use Rattle.running.proofs.sorting.desk_time.Tie as tie
 
 sub-at : tie.Need-sub-at
 sub-at c = search needs

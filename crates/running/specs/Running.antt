@@ -9,13 +9,13 @@ use Rattle.sheet.specs.Limits.{ceiling}
 use Rattle.sheet.specs.declared.MosaicSection.{MosaicSection}
 use Rattle.sheet.specs.declared.SortingSection.{SortingSection}
 use Rattle.sheet.specs.declared.FlightSection.{FlightSection}
 use Rattle.rules.specs.Mosaic.{ready, benchSum}
 use Rattle.rules.specs.Sorting.{stripsOf, scanEnd, deskFinish}
 use Rattle.rules.specs.Flight.{passesAt, passStart, passEnd, passAt}
 use Rattle.rules.specs.declared.Batch.{Batch}
 use Rattle.rules.specs.declared.Job.{Job}
 use Rattle.rules.specs.declared.Passes.{Passes}
-use Rattle.rules.specs.declared.Desks.{Desks}
+use Rattle.running.specs.declared.Desks.{Desks}
 
 -- A batch may follow the batch before it (noBatch before the first).
 pub record BatchFollows (m : MosaicSection) (before b : Batch) : Type 0 where

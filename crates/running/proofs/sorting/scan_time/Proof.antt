@@ -1,8 +1,8 @@
 -- `scan_time` meets its contract: a strip of a sound section has its slot in the array.
-use Rattle.rules.specs.FunctionLaws.{scan-told}
+use Rattle.running.specs.FunctionLaws.{scan-told}
 use borrow.Author.Needs.{needs}
-use Rattle.rules.proofs.sorting.scan_time.Statement.{statement}
-use Rattle.rules.proofs.sorting.scan_time.Tie as tie
+use Rattle.running.proofs.sorting.scan_time.Statement.{statement}
+use Rattle.running.proofs.sorting.scan_time.Tie as tie
 
 sub-at : tie.Need-sub-at
 sub-at c = search needs

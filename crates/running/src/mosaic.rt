@@ -2,8 +2,8 @@
 use sheet::MosaicSection;
 ghost use mathlib.Core.Path.{_≡_};
 ghost use Prim.Native.Nat.{_<_, _+_, max};
 ghost use Rattle.rules.specs.Mosaic.{stationSum, ready, benchSum};
-ghost use Rattle.rules.specs.FunctionLaws.{StationAsked, ReadyAsked, BenchAsked, ReadyTold, BenchTold};
+ghost use Rattle.running.specs.FunctionLaws.{StationAsked, ReadyAsked, BenchAsked, ReadyTold, BenchTold};
 
 // When station k, from 0, is done with the first j strips.
 fn station_sum(m: MosaicSection, k: usize, j: usize) -> u64

@@ -17,7 +17,7 @@ use Rattle.rules.specs.Sums.{sumOver, greatestOver}
 use Rattle.rules.specs.Mosaic.{stationSum, ready, benchSum, noBatch, batchAt, batchBefore, batchSize, MosaicLawful, completion, mosaicFigure}
 use Rattle.rules.specs.Sorting.{stripsOf, slot, scanTime, deskTime, scanEnd, deskFinish, noJob, jobAt, jobsOf, SortingLawful, sortingFigure}
 use Rattle.rules.specs.Flight.{noPasses, passesAt, passStart, passTime, passEnd, FlightLawful, passAt, Keeps, OrderAllowed, flightFigure}
-use Rattle.rules.specs.Tests.{allBelow, batchTest, isMosaic, mosaic-decided, jobTest, jobsTest, isSorting, sorting-decided, blockTest, apartTest, isFlight, flight-decided, startTest, keepsOrder, keeps-decided, mayHaveOrder, order-decided}
+use Rattle.rules.proofs.Tests.{allBelow, batchTest, isMosaic, mosaic-decided, jobTest, jobsTest, isSorting, sorting-decided, blockTest, apartTest, isFlight, flight-decided, startTest, keepsOrder, keeps-decided, mayHaveOrder, order-decided}
 use Rattle.rules.specs.declared.Batch.{Batch}
 use Rattle.rules.specs.declared.Job.{Job}
 use Rattle.rules.specs.declared.Passes.{Passes}

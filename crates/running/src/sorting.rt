@@ -1,9 +1,9 @@
 // The times of a sorting's jobs.
-use crate::Job;
+use rules::Job;
 use sheet::SortingSection;
 ghost use Prim.Native.Nat.{_+_};
 ghost use Rattle.rules.specs.Sorting.{scanTime, deskTime};
-ghost use Rattle.rules.specs.FunctionLaws.{SlotAsked, TimeTold};
+ghost use Rattle.running.specs.FunctionLaws.{SlotAsked, TimeTold};
 
 // The scan time of a strip.
 pub fn scan_time(s: SortingSection, j: Job) -> u64

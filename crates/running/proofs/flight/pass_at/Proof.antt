@@ -1,8 +1,8 @@
 -- `pass_at` meets its contract: a 1 is a second pass, a 0 a first; the count of such passes before it is its block.
-use Rattle.rules.specs.FunctionLaws.{second-at, first-at, position-fits}
+use Rattle.running.specs.FunctionLaws.{second-at, first-at, position-fits}
 use borrow.Author.Needs.{needs}
-use Rattle.rules.proofs.flight.pass_at.Statement.{statement}
-use Rattle.rules.proofs.flight.pass_at.Tie as tie
+use Rattle.running.proofs.flight.pass_at.Statement.{statement}
+use Rattle.running.proofs.flight.pass_at.Tie as tie
 
 pass-at-requires : tie.Need-pass-at-requires
 pass-at-requires c κs = search needs

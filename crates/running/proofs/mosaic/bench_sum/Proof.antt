@@ -2,10 +2,10 @@
 use Prim.Native.Nat.{_+_, _-_}
 use lib.ListN.{getD}
 use native.Mathlib.Omega.{arith}
-use Rattle.rules.specs.FunctionLaws.{Summed, sum-none, bench-more, bench-fits, bench-all}
+use Rattle.running.specs.FunctionLaws.{Summed, sum-none, bench-more, bench-fits, bench-all}
 use Rattle.sheet.specs.Limits.{mostTime}
-use Rattle.rules.proofs.mosaic.bench_sum.Statement.{statement}
-use Rattle.rules.proofs.mosaic.bench_sum.Tie as tie
+use Rattle.running.proofs.mosaic.bench_sum.Statement.{statement}
+use Rattle.running.proofs.mosaic.bench_sum.Tie as tie
 
 abbrev Inv-loop : tie.InvT-loop
 Inv-loop i count times sum₀ k₀ sum k = Summed (λ k. getD times (i + k) 0) mostTime count k sum

@@ -1,8 +1,8 @@
 -- `pass_time` meets its contract: passes below the number of blocks are first passes, the others second ones.
-use Rattle.rules.specs.FunctionLaws.{first-told, second-told}
+use Rattle.running.specs.FunctionLaws.{first-told, second-told}
 use borrow.Author.Needs.{needs}
-use Rattle.rules.proofs.flight.pass_time.Statement.{statement}
-use Rattle.rules.proofs.flight.pass_time.Tie as tie
+use Rattle.running.proofs.flight.pass_time.Statement.{statement}
+use Rattle.running.proofs.flight.pass_time.Tie as tie
 
 mul-result : tie.Need-mul-result
 mul-result c = search needs

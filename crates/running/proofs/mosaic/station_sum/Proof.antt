@@ -2,10 +2,10 @@
 use Prim.Native.Nat.{_+_, _-_, _*_}
 use lib.ListN.{getD}
 use native.Mathlib.Omega.{arith}
-use Rattle.rules.specs.FunctionLaws.{Summed, sum-none, station-more, station-fits, station-all}
+use Rattle.running.specs.FunctionLaws.{Summed, sum-none, station-more, station-fits, station-all}
 use Rattle.sheet.specs.Limits.{mostTime}
-use Rattle.rules.proofs.mosaic.station_sum.Statement.{statement}
-use Rattle.rules.proofs.mosaic.station_sum.Tie as tie
+use Rattle.running.proofs.mosaic.station_sum.Statement.{statement}
+use Rattle.running.proofs.mosaic.station_sum.Tie as tie
 
 abbrev Inv-loop : tie.InvT-loop
 Inv-loop k j times sum₀ i₀ sum i = Summed (λ i. getD times (4 * i + k) 0) mostTime j i sum
