@@ -7,6 +7,7 @@ use Rattle.field.specs.Put.{put}
 use Rattle.sheet.specs.Limits.{mostStrips, mostBlocks, planLength}
 use Rattle.sheet.specs.Sound.{SortingSound, stripsInAll}
 use Rattle.sheet.specs.declared.Sheet.{Sheet}
+use Rattle.plan_format.specs.Format.{size, mosaicHeadForm, batchForm, sortingHeadForm, jobForm, flightHeadForm, passesForm}
 use Rattle.rules.specs.Plan.{mosaicBytes, sortingBytes, flightBytes, ifPresent}
 use Rattle.mosaic.specs.Plan.{batchesOf}
 use Rattle.mosaic.specs.declared.MosaicPlan.{MosaicPlan}
@@ -18,28 +19,28 @@ use Rattle.flight.specs.declared.FlightPlan.{FlightPlan}
 -- a plan of no more members than a sheet may have, and room for their fields
 pub record BatchesAsked (d : List ℕ) (at : ℕ) (p : MosaicPlan) : Type 0 where
   pub few : p .batches ≤ mostStrips
-  pub room : at + 12 * p .batches ≤ length d
+  pub room : at + size batchForm * p .batches ≤ length d
 
 pub record JobsAsked (d : List ℕ) (at : ℕ) (p : SortingPlan) : Type 0 where
   pub few : p .jobs ≤ 18
-  pub room : at + 13 * p .jobs ≤ length d
+  pub room : at + size jobForm * p .jobs ≤ length d
 
 pub record BlocksAsked (d : List ℕ) (at n : ℕ) : Type 0 where
   pub few : n ≤ mostBlocks
-  pub room : at + 11 * n ≤ length d
+  pub room : at + size passesForm * n ≤ length d
 
 -- the same with room for the section's head
 pub record MosaicAsked (d : List ℕ) (at : ℕ) (p : MosaicPlan) : Type 0 where
   pub few : p .batches ≤ mostStrips
-  pub room : at + 7 + 12 * p .batches ≤ length d
+  pub room : at + size mosaicHeadForm + size batchForm * p .batches ≤ length d
 
 pub record SortingAsked (d : List ℕ) (at : ℕ) (p : SortingPlan) : Type 0 where
   pub few : p .jobs ≤ 18
-  pub room : at + 7 + 13 * p .jobs ≤ length d
+  pub room : at + size sortingHeadForm + size jobForm * p .jobs ≤ length d
 
 pub record FlightAsked (d : List ℕ) (at n : ℕ) : Type 0 where
   pub few : n ≤ mostBlocks
-  pub room : at + 15 + 11 * n ≤ length d
+  pub room : at + size flightHeadForm + size passesForm * n ≤ length d
 
 -- the bytes are stored at the offset, and the answer is the offset behind them
 pub record Written (before after : List ℕ) (at : ℕ) (bytes : List ℕ) (behind : ℕ) : Type 0 where

@@ -8,14 +8,18 @@ ghost use Rattle.flight.specs.Choice.{passesOf};
 ghost use Rattle.plan_writer.specs.Written.{BatchesAsked, JobsAsked, BlocksAsked, MosaicAsked, SortingAsked, FlightAsked, PlanAsked, Written, planOf};
 use flight::FlightPlan;
 use mosaic::MosaicPlan;
-use plan_fields::heads::put_figure;
 use plan_fields::heads::put_flight_head;
+use plan_fields::heads::put_mosaic_head;
+use plan_fields::heads::put_sorting_head;
 use plan_fields::members::put_batches;
 use plan_fields::members::put_blocks;
 use plan_fields::members::put_jobs;
+use plan_format::BATCH_SIZE;
+use plan_format::FIGURE_HEAD_SIZE;
+use plan_format::FLIGHT_HEAD_SIZE;
+use plan_format::JOB_SIZE;
+use plan_format::PASSES_SIZE;
 use sheet::Sheet;
-use sheet::tags::PLAN_MOSAIC;
-use sheet::tags::PLAN_SORTING;
 use sheet_checks::strips_in_all;
 use sorting::SortingPlan;
 
@@ -57,9 +61,9 @@ fn write_mosaic(d: &mut [u8], at: usize, strips: usize, p: MosaicPlan) -> usize
     if strips < 1 {
         return at;
     }
-    put_figure(d, at, PLAN_MOSAIC, p.figure);
-    put_mosaic_batches(d, at + 7, p);
-    at + 7 + 12 * p.batches
+    put_mosaic_head(d, at, p.figure);
+    put_mosaic_batches(d, at + FIGURE_HEAD_SIZE, p);
+    at + FIGURE_HEAD_SIZE + BATCH_SIZE * p.batches
 }
 
 // The sorting section of a plan, none where the sheet has no strip of it. Returns the offset behind it.
@@ -70,9 +74,9 @@ fn write_sorting(d: &mut [u8], at: usize, strips: usize, p: SortingPlan) -> usiz
     if strips < 1 {
         return at;
     }
-    put_figure(d, at, PLAN_SORTING, p.figure);
-    put_sorting_jobs(d, at + 7, p);
-    at + 7 + 13 * p.jobs
+    put_sorting_head(d, at, p.figure);
+    put_sorting_jobs(d, at + FIGURE_HEAD_SIZE, p);
+    at + FIGURE_HEAD_SIZE + JOB_SIZE * p.jobs
 }
 
 // The flight section of a plan of n blocks, none where the sheet has no block. Returns the offset behind it.
@@ -84,8 +88,8 @@ fn write_flight(d: &mut [u8], at: usize, n: usize, p: FlightPlan) -> usize
         return at;
     }
     put_flight_head(d, at, p.figure, p.order);
-    put_flight_blocks(d, at + 15, n, p);
-    at + 15 + 11 * n
+    put_flight_blocks(d, at + FLIGHT_HEAD_SIZE, n, p);
+    at + FLIGHT_HEAD_SIZE + PASSES_SIZE * n
 }
 
 // The plan of a sheet from the plans of its sections, at the start of the buffer. Returns its length.
