@@ -10,14 +10,14 @@ use Rattle.sheet.specs.declared.FlightSection.{FlightSection}
 use Rattle.rules.specs.Flight.{noPasses}
 use Rattle.rules.specs.declared.Passes.{Passes}
 use Rattle.flight_order.specs.Timetable.{list-at}
-use Rattle.flight.specs.Choice.{passesOf, Planned}
+use Rattle.flight.specs.Choice.{passesOfPlan, Planned}
 use Rattle.flight.specs.declared.FlightPlan.{FlightPlan}
 
 abbrev entry : FlightPlan → ℕ → Passes
 entry r i = record { first = getD (r .first) i 0; second = getD (r .second) i 0 }
 
-entry-at : (n : ℕ) (r : FlightPlan) (i : ℕ) → i < n → getD (passesOf n r) i noPasses ≡ entry r i
-unfolding passesOf
+entry-at : (n : ℕ) (r : FlightPlan) (i : ℕ) → i < n → getD (passesOfPlan n r) i noPasses ≡ entry r i
+unfolding passesOfPlan
 entry-at n r i l = list-at n (entry r) noPasses i l
 
 module _ {f : FlightSection} {p r : FlightPlan} (P : Planned f p) (R : Planned f r) where

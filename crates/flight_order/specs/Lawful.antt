@@ -18,7 +18,7 @@ use Rattle.flight_order.specs.Constraints.{passOf, timeOf, exactFlight}
 use Rattle.flight_order.specs.Schedule.{Schedule}
 use Rattle.flight_order.specs.Good.{pass-in}
 use Rattle.flight_order.specs.Positions.{last-pass}
-use Rattle.flight_order.specs.Timetable.{passesFrom, passes-length, passes-first, passes-second, start-from, time-is, pass-is}
+use Rattle.flight_order.specs.Timetable.{passesByStart, passes-length, passes-first, passes-second, start-from, time-is, pass-is}
 
 module _ (f : FlightSection) (w : ℕ) (proper : Proper (f .blocks) w) where
   -- From the rules to the constraints.
@@ -43,7 +43,7 @@ module _ (f : FlightSection) (w : ℕ) (proper : Proper (f .blocks) w) where
   -- From the constraints to the rules.
   module _ (y : ℕ → ℕ) (schedule : Schedule (exactFlight f w) y) where
     next : (k : ℕ) → k + 1 < 2 * f .blocks
-        → passEnd f (passesFrom (f .blocks) y) (passAt f w k) ≤ passStart f (passesFrom (f .blocks) y) (passAt f w (k + 1))
+        → passEnd f (passesByStart (f .blocks) y) (passAt f w k) ≤ passStart f (passesByStart (f .blocks) y) (passAt f w (k + 1))
     unfolding passEnd
     next k l =
         rw (
@@ -54,15 +54,15 @@ module _ (f : FlightSection) (w : ℕ) (proper : Proper (f .blocks) w) where
         )
         (omega (arith, schedule .in-order k l, time-is f (passOf (f .blocks) w k)))
 
-    pub schedule-keeps : FlightSound f → Keeps f w (passesFrom (f .blocks) y)
-    schedule-keeps sound = order-kept f (passesFrom (f .blocks) y) w proper next sound
+    pub schedule-keeps : FlightSound f → Keeps f w (passesByStart (f .blocks) y)
+    schedule-keeps sound = order-kept f (passesByStart (f .blocks) y) w proper next sound
 
-    pub schedule-lawful : ((p : ℕ) → p < 2 * f .blocks → y p + passTime f p ≤ ceiling) → FlightLawful f (passesFrom (f .blocks) y)
+    pub schedule-lawful : ((p : ℕ) → p < 2 * f .blocks → y p + passTime f p ≤ ceiling) → FlightLawful f (passesByStart (f .blocks) y)
     unfolding passEnd
     schedule-lawful low = record {
       every-block = passes-length (f .blocks) y;
       exact-delay = λ i l. rw (passes-first (f .blocks) y i l, passes-second (f .blocks) y i l) (omega (arith, schedule .at-least i l, schedule .at-most i l));
-      apart = all-apart f (passesFrom (f .blocks) y) w proper next;
+      apart = all-apart f (passesByStart (f .blocks) y) w proper next;
       within = λ p l. rw (start-from f y p l) (low p l);
     }
 

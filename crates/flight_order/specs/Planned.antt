@@ -20,7 +20,7 @@ use Rattle.rules_laws.specs.FlightRunning.{time-second}
 use Rattle.flight_order.specs.Constraints.{exactFlight, systemFor, leastStarts, possibleIn, orderFigure}
 use Rattle.flight_order.specs.Schedule.{Schedule, schedule-solves, solves-schedule}
 use Rattle.flight_order.specs.Good.{inside}
-use Rattle.flight_order.specs.Timetable.{passesFrom, leastPasses, passes-length, start-from}
+use Rattle.flight_order.specs.Timetable.{passesByStart, leastPasses, passes-length, start-from}
 use Rattle.flight_order.specs.Lawful.{lawful-schedule, schedule-keeps, schedule-lawful, figure-last}
 use Rattle.flight_order.specs.Ceiling.{sound-good, least-end}
 
@@ -59,7 +59,7 @@ module _ (f : FlightSection) (w : ℕ) (sound : FlightSound f) (proper : Proper 
   unfolding leastPasses
   possible-keeps e = go (decLt 0 (f .blocks))
     where
-      go : Dec (0 < f .blocks) → Keeps f w (passesFrom (f .blocks) (value (leastStarts f w)))
+      go : Dec (0 < f .blocks) → Keeps f w (passesByStart (f .blocks) (value (leastStarts f w)))
       go (yes some) = schedule-keeps f w proper (value (leastStarts f w)) (least-schedule some e) sound
       go (no none) = record { by-start = λ j k h l. absurd (omega (arith, none)) }
 
@@ -67,7 +67,7 @@ module _ (f : FlightSection) (w : ℕ) (sound : FlightSound f) (proper : Proper 
   unfolding leastPasses
   possible-lawful e = go (decLt 0 (f .blocks))
     where
-      go : Dec (0 < f .blocks) → FlightLawful f (passesFrom (f .blocks) (value (leastStarts f w)))
+      go : Dec (0 < f .blocks) → FlightLawful f (passesByStart (f .blocks) (value (leastStarts f w)))
       go (yes some) =
           schedule-lawful f w proper (value (leastStarts f w)) (least-schedule some e)
           (λ p l. omega (arith, least-end f sound w some proper e p l))

@@ -18,12 +18,12 @@ listOf zero g = []
 listOf (suc n) g = g 0 ∷ listOf n (λ i. g (suc i))
 
 -- The passes of n blocks where pass p starts at y p.
-unfoldable pub passesFrom : ℕ → (ℕ → ℕ) → List Passes
-passesFrom n y = listOf n (λ i. record { first = y i; second = y (n + i) })
+unfoldable pub passesByStart : ℕ → (ℕ → ℕ) → List Passes
+passesByStart n y = listOf n (λ i. record { first = y i; second = y (n + i) })
 
 -- The passes of a flight at their least starts in an order.
 unfoldable pub leastPasses : FlightSection → ℕ → List Passes
-leastPasses f order = passesFrom (f .blocks) (value (leastStarts f order))
+leastPasses f order = passesByStart (f .blocks) (value (leastStarts f order))
 
 pub list-length : (n : ℕ) (g : ℕ → Passes) → length (listOf n g) ≡ n
 unfolding listOf
@@ -37,27 +37,27 @@ list-at (suc n) g d zero l = refl
 list-at (suc n) g d (suc i) l = list-at n (λ i. g (suc i)) d i (omega arith)
 
 module _ (n : ℕ) (y : ℕ → ℕ) where
-  pub passes-length : length (passesFrom n y) ≡ n
-  unfolding passesFrom
+  pub passes-length : length (passesByStart n y) ≡ n
+  unfolding passesByStart
   passes-length = list-length n (λ i. record { first = y i; second = y (n + i) })
 
-  passes-at : (i : ℕ) → i < n → passesAt (passesFrom n y) i ≡ record { first = y i; second = y (n + i) }
-  unfolding passesFrom passesAt
+  passes-at : (i : ℕ) → i < n → passesAt (passesByStart n y) i ≡ record { first = y i; second = y (n + i) }
+  unfolding passesByStart passesAt
   passes-at i l = list-at n (λ i. record { first = y i; second = y (n + i) }) noPasses i l
 
-  pub passes-first : (i : ℕ) → i < n → passesAt (passesFrom n y) i .first ≡ y i
+  pub passes-first : (i : ℕ) → i < n → passesAt (passesByStart n y) i .first ≡ y i
   passes-first i l = ap (λ (q : Passes). q .first) (passes-at i l)
 
-  pub passes-second : (i : ℕ) → i < n → passesAt (passesFrom n y) i .second ≡ y (n + i)
+  pub passes-second : (i : ℕ) → i < n → passesAt (passesByStart n y) i .second ≡ y (n + i)
   passes-second i l = ap (λ (q : Passes). q .second) (passes-at i l)
 
 module _ (f : FlightSection) where
-  pub start-from : (y : ℕ → ℕ) (p : ℕ) → p < 2 * f .blocks → passStart f (passesFrom (f .blocks) y) p ≡ y p
+  pub start-from : (y : ℕ → ℕ) (p : ℕ) → p < 2 * f .blocks → passStart f (passesByStart (f .blocks) y) p ≡ y p
   start-from y p l = go (decLt p (f .blocks))
     where
-      go : Dec (p < f .blocks) → passStart f (passesFrom (f .blocks) y) p ≡ y p
-      go (yes q) = start-first f (passesFrom (f .blocks) y) p q ∙ passes-first (f .blocks) y p q
-      go (no q) = start-second f (passesFrom (f .blocks) y) p (omega arith) ∙ passes-second (f .blocks) y (p - f .blocks) (omega arith) ∙ ap y back
+      go : Dec (p < f .blocks) → passStart f (passesByStart (f .blocks) y) p ≡ y p
+      go (yes q) = start-first f (passesByStart (f .blocks) y) p q ∙ passes-first (f .blocks) y p q
+      go (no q) = start-second f (passesByStart (f .blocks) y) p (omega arith) ∙ passes-second (f .blocks) y (p - f .blocks) (omega arith) ∙ ap y back
         where
           back : f .blocks + (p - f .blocks) ≡ p
           back = omega arith

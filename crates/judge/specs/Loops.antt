@@ -13,7 +13,7 @@ use Rattle.sheet.specs.Read.{readSheet}
 use Rattle.sheet.specs.Sound.{SheetSound, SortingSound}
 use Rattle.sheet.specs.Theorems.{read-sound}
 use Rattle.sheet.specs.declared.Sheet.{Sheet}
-use Rattle.plan_format.specs.Format.{size, mosaicHeadForm, batchForm, sortingHeadForm, jobForm, flightHeadForm, passesForm}
+use Rattle.plan_format.specs.Format.{sizeOf, mosaicHeadForm, batchForm, sortingHeadForm, jobForm, flightHeadForm, passesForm}
 use Rattle.plan_read.specs.PlanRead.{figureFrom}
 use Rattle.judge_layout.specs.Layout.{mosaicPart, sortingPart, flightPart, verdict, layoutVerdict}
 use Rattle.judge_layout.specs.Laws.{VerdictAsked, PartFits, parts-fit}
@@ -38,29 +38,29 @@ pub picked : (s : Sheet) (plan : List ℕ) (section : ℕ) (mosaic sorting fligh
 unfolding partAt
 picked s plan section mosaic sorting flight part a e = e ∙ rw (a .mosaic-is, a .sorting-is, a .flight-is)
 
-part-fits : (s : Sheet) (plan : List ℕ) (section : ℕ) → PartFits plan (size (memberForm section)) (partAt s plan section)
+part-fits : (s : Sheet) (plan : List ℕ) (section : ℕ) → PartFits plan (sizeOf (memberForm section)) (partAt s plan section)
 unfolding partAt pickPart memberForm
 part-fits s plan section = by-section (eqb section 1) (eqb section 2)
   where
     by-section : (x y : Bool)
-        → PartFits plan (size (cond x batchForm (cond y jobForm passesForm))) (cond x (mosaicPart s plan) (cond y (sortingPart s plan) (flightPart s plan)))
+        → PartFits plan (sizeOf (cond x batchForm (cond y jobForm passesForm))) (cond x (mosaicPart s plan) (cond y (sortingPart s plan) (flightPart s plan)))
     by-section true y = parts-fit s plan .0
     by-section false true = parts-fit s plan .1
     by-section false false = parts-fit s plan .2
 
-head-small : (section : ℕ) → size (headForm section) < 2 ^ 16
+head-small : (section : ℕ) → sizeOf (headForm section) < 2 ^ 16
 unfolding headForm
 head-small section = by-section (eqb section 1) (eqb section 2)
   where
-    by-section : (x y : Bool) → size (cond x mosaicHeadForm (cond y sortingHeadForm flightHeadForm)) < 2 ^ 16
+    by-section : (x y : Bool) → sizeOf (cond x mosaicHeadForm (cond y sortingHeadForm flightHeadForm)) < 2 ^ 16
     by-section true y = omega arith
     by-section false true = omega arith
     by-section false false = omega arith
 
 -- where a member stands within a plan, its place fits
-place-small : (section head k : ℕ) → head + size (memberForm section) * k < 2 ^ 63 → memberPlace section head k < 2 ^ 64
+place-small : (section head k : ℕ) → head + sizeOf (memberForm section) * k < 2 ^ 63 → memberPlace section head k < 2 ^ 64
 unfolding memberPlace
-place-small section head k h = omega (arith, head-small section, mul-comm (size (memberForm section)) k)
+place-small section head k h = omega (arith, head-small section, mul-comm (sizeOf (memberForm section)) k)
 
 -- the sections from one on
 
@@ -166,7 +166,7 @@ inner-start s plan section part mosaic sorting flight p x o h ex hx a small ep e
     all = omega arith
 
 module _ (s : Sheet) (plan : List ℕ) (section : ℕ) (part : Part) (k : ℕ) (p : Progress) (i : Inner s plan section part k p) where
-  fits : PartFits plan (size (memberForm section)) part
+  fits : PartFits plan (sizeOf (memberForm section)) part
   fits = rw (i .here) (part-fits s plan section)
 
   module _ (less : k < part .members) where
@@ -176,16 +176,16 @@ module _ (s : Sheet) (plan : List ℕ) (section : ℕ) (part : Part) (k : ℕ) (
     opened-member : sectionFrom (suc (part .members - (k + 1))) s plan section part k p ≡ sectionVerdict s plan section
     opened-member = ap (λ n. sectionFrom n s plan section part k p) (sym left-over) ∙ i .same
 
-    before-end : part .head + size (memberForm section) * k < 2 ^ 63
-    before-end = let l : k ≤ part .members = omega arith in omega (arith, i .small, fits .within, fits .members, mul-le-mul-left (size (memberForm section)) l)
+    before-end : part .head + sizeOf (memberForm section) * k < 2 ^ 63
+    before-end = let l : k ≤ part .members = omega arith in omega (arith, i .small, fits .within, fits .members, mul-le-mul-left (sizeOf (memberForm section)) l)
 
     pub place-asked : PlaceAsked section (part .head) k
     place-asked = record { room = place-small section (part .head) k before-end }
 
     pub index-fits : k + 1 < 2 ^ 64
     index-fits =
-        let l : 1 ≤ size (memberForm section) = omega arith in
-        omega (arith, before-end, mul-le-mul-left k l, mul-comm (size (memberForm section)) k)
+        let l : 1 ≤ sizeOf (memberForm section) = omega arith in
+        omega (arith, before-end, mul-le-mul-left k l, mul-comm (sizeOf (memberForm section)) k)
 
     module _ (place : ℕ) (ep : place ≡ memberPlace section (part .head) k) where
       pub member-asked : MemberAsked s p

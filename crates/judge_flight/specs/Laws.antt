@@ -13,7 +13,7 @@ use Rattle.order.specs.Decided.{proper-true}
 use Rattle.sheet.specs.declared.FlightSection.{FlightSection}
 use Rattle.rules.specs.Sums.{greatestOver}
 use Rattle.rules.specs.Flight.{noPasses, passesAt, passStart, passTime, passEnd, passAt, flightFigure}
-use Rattle.plan_format.specs.Format.{size, width, passesForm}
+use Rattle.plan_format.specs.Format.{sizeOf, widthOf, passesForm}
 use Rattle.plan_read.specs.PlanRead.{passesFrom, blocksFrom, PassesRead}
 use Rattle.plan_read.specs.Laws.{member-at}
 use Rattle.running.specs.FunctionLaws.{PositionAsked, TimeTold}
@@ -25,11 +25,11 @@ use Rattle.judge_flight.specs.Starts.{startOf, endOf, StartAsked, StartT
 module _ (f : FlightSection) (plan : List ℕ) (at p : ℕ) (known : p < 2 * f .blocks) where
   start-case : Dec (p < f .blocks) → startOf plan at (f .blocks) p ≡ passStart f (blocksFrom plan at (f .blocks)) p
   unfolding startOf passStart passesAt
-  start-case (yes h) = rw (lt-ltb _ _ h, member-at passesFrom (size passesForm) plan at (f .blocks) p noPasses h)
+  start-case (yes h) = rw (lt-ltb _ _ h, member-at passesFrom (sizeOf passesForm) plan at (f .blocks) p noPasses h)
   start-case (no h) =
       let l : f .blocks ≤ p = omega arith in
       let k : p - f .blocks < f .blocks = omega arith in
-      rw (le-ltb _ _ l, member-at passesFrom (size passesForm) plan at (f .blocks) (p - f .blocks) noPasses k)
+      rw (le-ltb _ _ l, member-at passesFrom (sizeOf passesForm) plan at (f .blocks) (p - f .blocks) noPasses k)
 
   -- what the bytes give is the start and the end that the rules name
   pub start-is : startOf plan at (f .blocks) p ≡ passStart f (blocksFrom plan at (f .blocks)) p
@@ -40,11 +40,11 @@ module _ (f : FlightSection) (plan : List ℕ) (at p : ℕ) (known : p < 2 * f .
   end-is = ap (λ n. n + passTime f p) start-is
 
 module _ (plan : List ℕ) (at n p : ℕ) (block : Passes) where
-  pub first-start : p < n → PassesRead plan (at + size passesForm * p) block → StartTold (startOf plan at n p) (block .first)
+  pub first-start : p < n → PassesRead plan (at + sizeOf passesForm * p) block → StartTold (startOf plan at n p) (block .first)
   unfolding startOf
   first-start h r = record { is = rw (lt-ltb _ _ h) (ap (λ (q : Passes). q .first) (r .is)); fits = r .fits .first }
 
-  pub second-start : n ≤ p → PassesRead plan (at + size passesForm * (p - n)) block → StartTold (startOf plan at n p) (block .second)
+  pub second-start : n ≤ p → PassesRead plan (at + sizeOf passesForm * (p - n)) block → StartTold (startOf plan at n p) (block .second)
   unfolding startOf
   second-start h r = record { is = rw (le-ltb _ _ h) (ap (λ (q : Passes). q .second) (r .is)); fits = r .fits .second }
 
@@ -126,7 +126,7 @@ module _ (f : FlightSection) (order at k p : ℕ) (a : OrderAsked f order at) (l
 pub record LatestSoFar (f : FlightSection) (ps : List Passes) (p value : ℕ) : Type 0 where
   pub within : p ≤ 2 * f .blocks
   pub is : value ≡ greatestOver p (λ q. passEnd f ps q)
-  pub fits : value < 2 ^ (8 * width passesForm 0 + 1)
+  pub fits : value < 2 ^ (8 * widthOf passesForm 0 + 1)
 
 pub latest-none : (f : FlightSection) (ps : List Passes) → LatestSoFar f ps 0 0
 unfolding greatestOver

@@ -9,39 +9,39 @@ use Rattle.sheet.specs.Limits.{mostBlocks}
 use Rattle.sheet.specs.Sound.{FlightSound}
 use Rattle.sheet.specs.declared.FlightSection.{FlightSection}
 use Rattle.rules.specs.Flight.{passTime}
-use Rattle.plan_format.specs.Format.{size, width, passesForm}
+use Rattle.plan_format.specs.Format.{sizeOf, widthOf, passesForm}
 use Rattle.plan_read.specs.PlanRead.{passesFrom}
 
 unfoldable pub startOf : List ℕ → ℕ → ℕ → ℕ → ℕ
-startOf plan at n p = cond (ltb p n) (passesFrom plan (at + size passesForm * p) .first) (passesFrom plan (at + size passesForm * (p - n)) .second)
+startOf plan at n p = cond (ltb p n) (passesFrom plan (at + sizeOf passesForm * p) .first) (passesFrom plan (at + sizeOf passesForm * (p - n)) .second)
 
 unfoldable pub endOf : FlightSection → List ℕ → ℕ → ℕ → ℕ
 endOf f plan at p = startOf plan at (f .blocks) p + passTime f p
 
 pub record StartAsked (at n p : ℕ) : Type 0 where
-  pub room : at + size passesForm * mostBlocks < 2 ^ 64
+  pub room : at + sizeOf passesForm * mostBlocks < 2 ^ 64
   pub few : n ≤ mostBlocks
   pub known : p < 2 * n
 
 -- a start fits the width of a start, and an end one bit more
 pub record StartTold (value r : ℕ) : Type 0 where
   pub is : r ≡ value
-  pub fits : r < 2 ^ (8 * width passesForm 0)
+  pub fits : r < 2 ^ (8 * widthOf passesForm 0)
 
 pub record FigureTold (value r : ℕ) : Type 0 where
   pub is : r ≡ value
-  pub fits : r < 2 ^ (8 * width passesForm 0 + 1)
+  pub fits : r < 2 ^ (8 * widthOf passesForm 0 + 1)
 
 pub record HeadAsked (f : FlightSection) (at : ℕ) : Type 0 where
   pub sound : FlightSound f
-  pub room : at + size passesForm * mostBlocks < 2 ^ 64
+  pub room : at + sizeOf passesForm * mostBlocks < 2 ^ 64
 
 pub record PassesAsked (f : FlightSection) (at p : ℕ) : Type 0 where
   pub sound : FlightSound f
-  pub room : at + size passesForm * mostBlocks < 2 ^ 64
+  pub room : at + sizeOf passesForm * mostBlocks < 2 ^ 64
   pub known : p < 2 * f .blocks
 
 pub record OrderAsked (f : FlightSection) (order at : ℕ) : Type 0 where
   pub sound : FlightSound f
-  pub room : at + size passesForm * mostBlocks < 2 ^ 64
+  pub room : at + sizeOf passesForm * mostBlocks < 2 ^ 64
   pub proper : Proper (f .blocks) order

@@ -27,7 +27,7 @@ use Rattle.rules.specs.declared.Batch.{Batch}
 use Rattle.rules.specs.declared.Job.{Job}
 use Rattle.rules.specs.declared.Passes.{Passes}
 use Rattle.plan_format.specs.ByteLaws.{AreBytes}
-use Rattle.plan_format.specs.Format.{Form, contentLength, size, formBytes, mosaicHeadForm, batchForm, sortingHeadForm, jobForm, flightHeadForm, passesForm}
+use Rattle.plan_format.specs.Format.{Form, contentLength, sizeOf, formBytes, mosaicHeadForm, batchForm, sortingHeadForm, jobForm, flightHeadForm, passesForm}
 use Rattle.rules_laws.specs.Equivalent.{runs-mosaic, mosaic-figure, runs-sorting, sorting-figure, runs-flight}
 use Rattle.rules_laws.specs.RoundTrip.{batchKind, jobKind, passesKind, mosaic-head-stands, sorting-head-stands, flight-head-stands}
 use Rattle.judge_layout.specs.Layout.{isField, partFrom, partOf, partByForms, mosaicPart, sortingPart, flightPart}
@@ -39,13 +39,13 @@ use Rattle.judge_laws.specs.Outcomes.{PlanRight, present-right}
 
 -- what a plan states, read from its bytes; the order of a flight that is absent is the one given, or that of no pass
 unfoldable pub statedBatches : Sheet → List ℕ → List Batch
-statedBatches s plan = batchesFrom plan (mosaicPart s plan .head + size mosaicHeadForm) (mosaicPart s plan .members)
+statedBatches s plan = batchesFrom plan (mosaicPart s plan .head + sizeOf mosaicHeadForm) (mosaicPart s plan .members)
 
 unfoldable pub statedJobs : Sheet → List ℕ → List Job
-statedJobs s plan = jobsFrom plan (sortingPart s plan .head + size sortingHeadForm) (sortingPart s plan .members)
+statedJobs s plan = jobsFrom plan (sortingPart s plan .head + sizeOf sortingHeadForm) (sortingPart s plan .members)
 
 unfoldable pub statedPasses : Sheet → List ℕ → List Passes
-statedPasses s plan = blocksFrom plan (flightPart s plan .head + size flightHeadForm) (flightPart s plan .members)
+statedPasses s plan = blocksFrom plan (flightPart s plan .head + sizeOf flightHeadForm) (flightPart s plan .members)
 
 unfoldable pub statedOrder : Sheet → List ℕ → ℕ
 statedOrder s plan = cond (ltb 0 (s .flight .blocks)) (orderFrom plan (flightPart s plan .head)) (cond (s .flight .ordered) (s .flight .order) 0)
@@ -77,7 +77,7 @@ module _ (s : Sheet) (plan : List ℕ) where
 
   mosaic-none : ltb 0 (s .mosaic .strips) ≡ false → statedBatches s plan ≡ []
   unfolding statedBatches mosaicPart
-  mosaic-none h = none-read batchFrom (size batchForm) plan _ _ (absent-part (ltb 0 (s .mosaic .strips)) plan 0 mosaicHeadForm batchForm h)
+  mosaic-none h = none-read batchFrom (sizeOf batchForm) plan _ _ (absent-part (ltb 0 (s .mosaic .strips)) plan 0 mosaicHeadForm batchForm h)
 
   pub mosaic-read : sectionVerdict s plan 1 .number ≡ 0 → MosaicRuns (s .mosaic) noBatch (statedBatches s plan)
   unfolding begun noBatch
@@ -100,7 +100,7 @@ module _ (s : Sheet) (plan : List ℕ) where
 
   sorting-none : ltb 0 (stripsInAll (s .sorting)) ≡ false → statedJobs s plan ≡ []
   unfolding statedJobs sortingPart
-  sorting-none h = none-read jobFrom (size jobForm) plan _ _ (absent-part (ltb 0 (stripsInAll (s .sorting))) plan (mosaicPart s plan .end) sortingHeadForm jobForm h)
+  sorting-none h = none-read jobFrom (sizeOf jobForm) plan _ _ (absent-part (ltb 0 (stripsInAll (s .sorting))) plan (mosaicPart s plan .end) sortingHeadForm jobForm h)
 
 no-strips : (counts : List ℕ) (i : ℕ) → i < 3 → getD counts 0 0 + getD counts 1 0 + getD counts 2 0 ≤ 0 → getD counts i 0 ≡ 0
 no-strips counts zero l h = omega arith
@@ -145,7 +145,7 @@ module _ (s : Sheet) (plan : List ℕ) (sound : SheetSound s) where
 
   flight-none : ltb 0 (s .flight .blocks) ≡ false → statedPasses s plan ≡ []
   unfolding statedPasses flightPart
-  flight-none h = none-read passesFrom (size passesForm) plan _ _ (absent-part (ltb 0 (s .flight .blocks)) plan (sortingPart s plan .end) flightHeadForm passesForm h)
+  flight-none h = none-read passesFrom (sizeOf passesForm) plan _ _ (absent-part (ltb 0 (s .flight .blocks)) plan (sortingPart s plan .end) flightHeadForm passesForm h)
 
   no-blocks : ltb 0 (s .flight .blocks) ≡ false → FlightRuns (s .flight) (cond (s .flight .ordered) (s .flight .order) 0) []
   no-blocks h =
@@ -196,15 +196,15 @@ module _ (s : Sheet) (plan : List ℕ) (bytes : AreBytes plan) (sound : SheetSou
   unfolding flightPart
   flight-head = part-head (ltb 0 (s .flight .blocks)) plan (sortingPart s plan .end) flightHeadForm passesForm
 
-  mosaic-raw : drop 0 plan ≡ cond (ltb 0 (s .mosaic .strips)) (formBytes mosaicHeadForm (figureFrom mosaicHeadForm plan 0 ∷ []) ++ membersBytes batchBytes (batchesFrom plan (0 + size mosaicHeadForm) (mosaicPart s plan .members))) [] ++ drop (mosaicPart s plan .end) plan
+  mosaic-raw : drop 0 plan ≡ cond (ltb 0 (s .mosaic .strips)) (formBytes mosaicHeadForm (figureFrom mosaicHeadForm plan 0 ∷ []) ++ membersBytes batchBytes (batchesFrom plan (0 + sizeOf mosaicHeadForm) (mosaicPart s plan .members))) [] ++ drop (mosaicPart s plan .end) plan
   unfolding batchKind mosaicPart
   mosaic-raw = part-stands batchKind plan bytes 0 mosaicHeadForm _ (mosaic-head-stands plan bytes 0) (ltb 0 (s .mosaic .strips)) (r .layout .mosaic)
 
-  sorting-raw : drop (mosaicPart s plan .end) plan ≡ cond (ltb 0 (stripsInAll (s .sorting))) (formBytes sortingHeadForm (figureFrom sortingHeadForm plan (mosaicPart s plan .end) ∷ []) ++ membersBytes jobBytes (jobsFrom plan (mosaicPart s plan .end + size sortingHeadForm) (sortingPart s plan .members))) [] ++ drop (sortingPart s plan .end) plan
+  sorting-raw : drop (mosaicPart s plan .end) plan ≡ cond (ltb 0 (stripsInAll (s .sorting))) (formBytes sortingHeadForm (figureFrom sortingHeadForm plan (mosaicPart s plan .end) ∷ []) ++ membersBytes jobBytes (jobsFrom plan (mosaicPart s plan .end + sizeOf sortingHeadForm) (sortingPart s plan .members))) [] ++ drop (sortingPart s plan .end) plan
   unfolding jobKind sortingPart
   sorting-raw = part-stands jobKind plan bytes (mosaicPart s plan .end) sortingHeadForm _ (sorting-head-stands plan bytes (mosaicPart s plan .end)) (ltb 0 (stripsInAll (s .sorting))) (r .layout .sorting)
 
-  flight-raw : drop (sortingPart s plan .end) plan ≡ cond (ltb 0 (s .flight .blocks)) (formBytes flightHeadForm (figureFrom flightHeadForm plan (sortingPart s plan .end) ∷ orderFrom plan (sortingPart s plan .end) ∷ []) ++ membersBytes passesBytes (blocksFrom plan (sortingPart s plan .end + size flightHeadForm) (flightPart s plan .members))) [] ++ drop (flightPart s plan .end) plan
+  flight-raw : drop (sortingPart s plan .end) plan ≡ cond (ltb 0 (s .flight .blocks)) (formBytes flightHeadForm (figureFrom flightHeadForm plan (sortingPart s plan .end) ∷ orderFrom plan (sortingPart s plan .end) ∷ []) ++ membersBytes passesBytes (blocksFrom plan (sortingPart s plan .end + sizeOf flightHeadForm) (flightPart s plan .members))) [] ++ drop (flightPart s plan .end) plan
   unfolding passesKind flightPart
   flight-raw = part-stands passesKind plan bytes (sortingPart s plan .end) flightHeadForm _ (flight-head-stands plan bytes (sortingPart s plan .end)) (ltb 0 (s .flight .blocks)) (r .layout .flight)
 
@@ -212,7 +212,7 @@ module _ (s : Sheet) (plan : List ℕ) (bytes : AreBytes plan) (sound : SheetSou
   unfolding ifPresent mosaicBytes statedBatches
   mosaic-stands =
       mosaic-raw
-      ∙ ap (λ (at : ℕ). cond (ltb 0 (s .mosaic .strips)) (formBytes mosaicHeadForm (figureFrom mosaicHeadForm plan at ∷ []) ++ membersBytes batchBytes (batchesFrom plan (at + size mosaicHeadForm) (mosaicPart s plan .members))) [] ++ drop (mosaicPart s plan .end) plan) (sym mosaic-head)
+      ∙ ap (λ (at : ℕ). cond (ltb 0 (s .mosaic .strips)) (formBytes mosaicHeadForm (figureFrom mosaicHeadForm plan at ∷ []) ++ membersBytes batchBytes (batchesFrom plan (at + sizeOf mosaicHeadForm) (mosaicPart s plan .members))) [] ++ drop (mosaicPart s plan .end) plan) (sym mosaic-head)
       ∙ ap (λ (l : List ℕ). l ++ drop (mosaicPart s plan .end) plan)
       (same-bytes (λ (figure : ℕ). mosaicBytes figure (statedBatches s plan)) (ltb 0 (s .mosaic .strips)) _ _ (mosaic-figure-read s plan (r .sections .mosaic)))
 
@@ -220,7 +220,7 @@ module _ (s : Sheet) (plan : List ℕ) (bytes : AreBytes plan) (sound : SheetSou
   unfolding ifPresent sortingBytes statedJobs
   sorting-stands =
       sorting-raw
-      ∙ ap (λ (at : ℕ). cond (ltb 0 (stripsInAll (s .sorting))) (formBytes sortingHeadForm (figureFrom sortingHeadForm plan at ∷ []) ++ membersBytes jobBytes (jobsFrom plan (at + size sortingHeadForm) (sortingPart s plan .members))) [] ++ drop (sortingPart s plan .end) plan) (sym sorting-head)
+      ∙ ap (λ (at : ℕ). cond (ltb 0 (stripsInAll (s .sorting))) (formBytes sortingHeadForm (figureFrom sortingHeadForm plan at ∷ []) ++ membersBytes jobBytes (jobsFrom plan (at + sizeOf sortingHeadForm) (sortingPart s plan .members))) [] ++ drop (sortingPart s plan .end) plan) (sym sorting-head)
       ∙ ap (λ (l : List ℕ). l ++ drop (sortingPart s plan .end) plan)
       (same-bytes (λ (figure : ℕ). sortingBytes figure (statedJobs s plan)) (ltb 0 (stripsInAll (s .sorting))) _ _ (sorting-figure-read s plan sound (r .sections .sorting)))
 
@@ -232,7 +232,7 @@ module _ (s : Sheet) (plan : List ℕ) (bytes : AreBytes plan) (sound : SheetSou
   unfolding ifPresent flightBytes statedPasses
   flight-stands =
       flight-raw
-      ∙ ap (λ (at : ℕ). cond (ltb 0 (s .flight .blocks)) (formBytes flightHeadForm (figureFrom flightHeadForm plan at ∷ orderFrom plan at ∷ []) ++ membersBytes passesBytes (blocksFrom plan (at + size flightHeadForm) (flightPart s plan .members))) [] ++ drop (flightPart s plan .end) plan) (sym flight-head)
+      ∙ ap (λ (at : ℕ). cond (ltb 0 (s .flight .blocks)) (formBytes flightHeadForm (figureFrom flightHeadForm plan at ∷ orderFrom plan at ∷ []) ++ membersBytes passesBytes (blocksFrom plan (at + sizeOf flightHeadForm) (flightPart s plan .members))) [] ++ drop (flightPart s plan .end) plan) (sym flight-head)
       ∙ ap (λ (l : List ℕ). l ++ drop (flightPart s plan .end) plan)
       (same-bytes (λ (figure : ℕ). flightBytes figure (orderFrom plan (flightPart s plan .head)) (statedPasses s plan)) (ltb 0 (s .flight .blocks)) _ _ (flight-figure-read s plan sound (r .sections .flight))
       ∙ same-bytes (λ (order : ℕ). flightBytes (flightFigure (s .flight) (statedPasses s plan)) order (statedPasses s plan)) (ltb 0 (s .flight .blocks)) _ _ order-read)

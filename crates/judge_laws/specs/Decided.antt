@@ -7,7 +7,7 @@ use lib.Dec.{eqb}
 use borrow.Author.Tests.{eq-eqb, eqb-true}
 use Rattle.order.specs.Order.{Decides}
 use Rattle.sheet.specs.declared.Sheet.{Sheet}
-use Rattle.plan_format.specs.Format.{size, flightHeadForm, passesForm}
+use Rattle.plan_format.specs.Format.{sizeOf, flightHeadForm, passesForm}
 use Rattle.plan_read.specs.PlanRead.{orderFrom, batchFrom, jobFrom, passesFrom, blocksFrom}
 use Rattle.plan_read.specs.Laws.{length-from}
 use Rattle.judge_layout.specs.declared.Part.{Part}
@@ -41,8 +41,8 @@ head-decided s plan section part st =
     (both-ways (eqb-true _ _) (eq-eqb _ _))
     (both-ways (true-done (s .sorting) (st .desks)) (done-true (s .sorting) (st .desks)))
     (both-ways
-    (true-head (s .flight) (orderFrom plan (part .head)) (blocksFrom plan (part .head + size flightHeadForm) (part .members)) (part .members) (sym (length-from passesFrom (size passesForm) plan (part .head + size flightHeadForm) (part .members))))
-    (head-true (s .flight) (orderFrom plan (part .head)) (blocksFrom plan (part .head + size flightHeadForm) (part .members)) (part .members) (sym (length-from passesFrom (size passesForm) plan (part .head + size flightHeadForm) (part .members)))))
+    (true-head (s .flight) (orderFrom plan (part .head)) (blocksFrom plan (part .head + sizeOf flightHeadForm) (part .members)) (part .members) (sym (length-from passesFrom (sizeOf passesForm) plan (part .head + sizeOf flightHeadForm) (part .members))))
+    (head-true (s .flight) (orderFrom plan (part .head)) (blocksFrom plan (part .head + sizeOf flightHeadForm) (part .members)) (part .members) (sym (length-from passesFrom (sizeOf passesForm) plan (part .head + sizeOf flightHeadForm) (part .members)))))
 
 -- by what a rule says, what its test answers
 pub decided-true : {P : Type 0} {b : Bool} → Decides P b → P → b ≡ true

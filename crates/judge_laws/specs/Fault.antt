@@ -13,7 +13,7 @@ use Rattle.sheet.specs.declared.Sheet.{Sheet}
 use Rattle.rules.specs.Mosaic.{mosaicFigure}
 use Rattle.rules.specs.Sorting.{sortingFigure}
 use Rattle.rules.specs.Flight.{flightFigure}
-use Rattle.plan_format.specs.Format.{size, mosaicHeadForm, sortingHeadForm, flightHeadForm}
+use Rattle.plan_format.specs.Format.{sizeOf, mosaicHeadForm, sortingHeadForm, flightHeadForm}
 use Rattle.plan_read.specs.PlanRead.{figureFrom, orderFrom, batchFrom, jobFrom, passesFrom, batchesFrom, jobsFrom, blocksFrom}
 use Rattle.running.specs.Running.{BatchFollows, JobFollows, AllDone, BlockFollows, FlightHead}
 use Rattle.judge_layout.specs.declared.Part.{Part}
@@ -39,15 +39,15 @@ HeadFollows s plan section part st =
       | true ↦ st .before .last ≡ s .mosaic .strips
       | false ↦
           elim (eqb section 2)
-          [ true ↦ AllDone (s .sorting) (st .desks) | false ↦ FlightHead (s .flight) (orderFrom plan (part .head)) (blocksFrom plan (part .head + size flightHeadForm) (part .members)) ]
+          [ true ↦ AllDone (s .sorting) (st .desks) | false ↦ FlightHead (s .flight) (orderFrom plan (part .head)) (blocksFrom plan (part .head + sizeOf flightHeadForm) (part .members)) ]
     ]
 
 -- the figure that the rules give the members of a section, as they stand in the plan
 unfoldable pub ruleFigure : Sheet → List ℕ → ℕ → Part → ℕ
 ruleFigure s plan section part =
-    cond (eqb section 1) (mosaicFigure (s .mosaic) (batchesFrom plan (part .head + size mosaicHeadForm) (part .members)))
-    (cond (eqb section 2) (sortingFigure (s .sorting) (jobsFrom plan (part .head + size sortingHeadForm) (part .members)))
-    (flightFigure (s .flight) (blocksFrom plan (part .head + size flightHeadForm) (part .members))))
+    cond (eqb section 1) (mosaicFigure (s .mosaic) (batchesFrom plan (part .head + sizeOf mosaicHeadForm) (part .members)))
+    (cond (eqb section 2) (sortingFigure (s .sorting) (jobsFrom plan (part .head + sizeOf sortingHeadForm) (part .members)))
+    (flightFigure (s .flight) (blocksFrom plan (part .head + sizeOf flightHeadForm) (part .members))))
 
 -- the judging of a section has come to its member k, and every member before it follows
 pub data Reached (s : Sheet) (plan : List ℕ) (section : ℕ) : ℕ → Progress → Type 0 where

@@ -10,7 +10,7 @@ use borrow.Author.Tests.{ne-eqb}
 use Rattle.sheet.specs.declared.Sheet.{Sheet}
 use Rattle.rules.specs.Mosaic.{noBatch, mosaicFigure}
 use Rattle.rules.specs.Sorting.{sortingFigure}
-use Rattle.plan_format.specs.Format.{size}
+use Rattle.plan_format.specs.Format.{sizeOf}
 use Rattle.plan_read.specs.PlanRead.{batchFrom, jobFrom, membersFrom, batchesFrom, jobsFrom}
 use Rattle.running.specs.Running.{MosaicRuns}
 use Rattle.rules.specs.declared.Batch.{Batch}
@@ -91,7 +91,7 @@ module _ (s : Sheet) (plan : List ℕ) (part : Part) where
       let j = jobFrom plan (memberPlace 2 (part .head) k) in
       sorting-sum n (k + 1) (afterStrip s st j) ∙ regroup _ _ _ ∙ ap (λ (js : List Job). st .figure + runningFinishes (s .sorting) js) (sym (jobs-more s plan part n k))
 
-first-place : (section head : ℕ) → memberPlace section head 0 ≡ head + size (headForm section)
+first-place : (section head : ℕ) → memberPlace section head 0 ≡ head + sizeOf (headForm section)
 unfolding memberPlace
 first-place section head = omega arith
 

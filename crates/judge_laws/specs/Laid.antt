@@ -14,7 +14,7 @@ use Rattle.field.specs.Fields.{whole-at}
 use Rattle.field.specs.declared.Field.{Field}
 use Rattle.field.specs.declared.Field.the-variants.{Whole}
 use Rattle.plan_format.specs.ByteLaws.{AreBytes}
-use Rattle.plan_format.specs.Format.{Form, contentLength, size, formBytes}
+use Rattle.plan_format.specs.Format.{Form, contentLength, sizeOf, formBytes}
 use Rattle.plan_format.specs.FormLaws.{length-form, form-found}
 use Rattle.rules.specs.Plan.{membersBytes}
 use Rattle.plan_read.specs.PlanRead.{membersFrom}
@@ -74,33 +74,33 @@ cut-at plan at n = sym (take-append-drop n (drop at plan)) ∙ ap (λ (l : List 
 
 -- What is found right stands in the plan.
 module _ {A : Type 0} (kind : Kind A) (plan : List ℕ) (bytes : AreBytes plan) (at : ℕ) (head : Form) (front : List ℕ)
-    (stands : fieldAt plan at ≡ Whole (head .tag) (contentLength head) → take (size head) (drop at plan) ≡ front) where
-  members-then : (n : ℕ) → n ≡ run (length plan) plan (at + size head) (kind .form .tag) (contentLength (kind .form))
-      → drop (at + size head) plan ≡ membersBytes (kind .bytes) (membersFrom (kind .read) (size (kind .form)) plan (at + size head) n) ++ drop (at + size head + n * size (kind .form)) plan
+    (stands : fieldAt plan at ≡ Whole (head .tag) (contentLength head) → take (sizeOf head) (drop at plan) ≡ front) where
+  members-then : (n : ℕ) → n ≡ run (length plan) plan (at + sizeOf head) (kind .form .tag) (contentLength (kind .form))
+      → drop (at + sizeOf head) plan ≡ membersBytes (kind .bytes) (membersFrom (kind .read) (sizeOf (kind .form)) plan (at + sizeOf head) n) ++ drop (at + sizeOf head + n * sizeOf (kind .form)) plan
   members-then n e =
-      cut-at plan (at + size head) (size (kind .form) * n)
-      ∙ ap₂ (λ (l : List ℕ) (k : ℕ). l ++ drop (at + size head + k) plan)
-      (members-stand kind plan bytes n (at + size head) (λ i l. run-each (length plan) plan (at + size head) (kind .form .tag) (contentLength (kind .form)) i (subst (λ k. i < k) e l)))
-      (mul-comm (size (kind .form)) n)
+      cut-at plan (at + sizeOf head) (sizeOf (kind .form) * n)
+      ∙ ap₂ (λ (l : List ℕ) (k : ℕ). l ++ drop (at + sizeOf head + k) plan)
+      (members-stand kind plan bytes n (at + sizeOf head) (λ i l. run-each (length plan) plan (at + sizeOf head) (kind .form .tag) (contentLength (kind .form)) i (subst (λ k. i < k) e l)))
+      (mul-comm (sizeOf (kind .form)) n)
 
   pub part-stands : (x : Bool) → partByForms x plan at head (kind .form) .right ≡ true
       → drop at plan
-      ≡ cond x (front ++ membersBytes (kind .bytes) (membersFrom (kind .read) (size (kind .form)) plan (at + size head) (partByForms x plan at head (kind .form) .members))) []
+      ≡ cond x (front ++ membersBytes (kind .bytes) (membersFrom (kind .read) (sizeOf (kind .form)) plan (at + sizeOf head) (partByForms x plan at head (kind .form) .members))) []
       ++ drop (partByForms x plan at head (kind .form) .end) plan
   unfolding partOf partFrom
   part-stands false e = refl
   part-stands true e = go (isField (fieldAt plan at) (head .tag) (contentLength head)) refl e
     where
-      found : isField (fieldAt plan at) (head .tag) (contentLength head) ≡ true → drop at plan ≡ front ++ membersBytes (kind .bytes) (membersFrom (kind .read) (size (kind .form)) plan (at + size head) (partFrom plan at (contentLength head) (kind .form .tag) (contentLength (kind .form)) .members)) ++ drop (partFrom plan at (contentLength head) (kind .form .tag) (contentLength (kind .form)) .end) plan
+      found : isField (fieldAt plan at) (head .tag) (contentLength head) ≡ true → drop at plan ≡ front ++ membersBytes (kind .bytes) (membersFrom (kind .read) (sizeOf (kind .form)) plan (at + sizeOf head) (partFrom plan at (contentLength head) (kind .form .tag) (contentLength (kind .form)) .members)) ++ drop (partFrom plan at (contentLength head) (kind .form .tag) (contentLength (kind .form)) .end) plan
       found h =
-          cut-at plan at (size head)
-          ∙ ap₂ _++_ (stands (is-field-true (fieldAt plan at) (head .tag) (contentLength head) h)) (members-then (run (length plan) plan (at + size head) (kind .form .tag) (contentLength (kind .form))) refl)
+          cut-at plan at (sizeOf head)
+          ∙ ap₂ _++_ (stands (is-field-true (fieldAt plan at) (head .tag) (contentLength head) h)) (members-then (run (length plan) plan (at + sizeOf head) (kind .form .tag) (contentLength (kind .form))) refl)
           ∙ sym (append-assoc front _ _)
 
       go : (b : Bool) → isField (fieldAt plan at) (head .tag) (contentLength head) ≡ b
           → cond b (partFrom plan at (contentLength head) (kind .form .tag) (contentLength (kind .form))) (record { right = false; head = at; members = 0; end = at }) .right ≡ true
           → drop at plan
-          ≡ front ++ membersBytes (kind .bytes) (membersFrom (kind .read) (size (kind .form)) plan (at + size head) (cond b (partFrom plan at (contentLength head) (kind .form .tag) (contentLength (kind .form))) (record { right = false; head = at; members = 0; end = at }) .members))
+          ≡ front ++ membersBytes (kind .bytes) (membersFrom (kind .read) (sizeOf (kind .form)) plan (at + sizeOf head) (cond b (partFrom plan at (contentLength head) (kind .form .tag) (contentLength (kind .form))) (record { right = false; head = at; members = 0; end = at }) .members))
           ++ drop (cond b (partFrom plan at (contentLength head) (kind .form .tag) (contentLength (kind .form))) (record { right = false; head = at; members = 0; end = at }) .end) plan
       go false h e = let z : _≡_ {A = ℕ} 0 1 = cc in absurd (omega arith)
       go true h e = found h
@@ -118,10 +118,10 @@ module _ {A : Type 0} (kind : Kind A) (plan pre : List ℕ) (head : Form) (value
     behind-members : plan ≡ pre ++ formBytes head values ++ membersBytes (kind .bytes) xs ++ post
     behind-members = behind-head ∙ sym (append-assoc (pre ++ formBytes head values) (membersBytes (kind .bytes) xs) post)
 
-    front-length : length (pre ++ formBytes head values) ≡ length pre + size head
+    front-length : length (pre ++ formBytes head values) ≡ length pre + sizeOf head
     front-length = omega (arith, length-append pre (formBytes head values), length-form head values count)
 
-    all-length : length (pre ++ formBytes head values ++ membersBytes (kind .bytes) xs) ≡ length pre + size head + size (kind .form) * length xs
+    all-length : length (pre ++ formBytes head values ++ membersBytes (kind .bytes) xs) ≡ length pre + sizeOf head + sizeOf (kind .form) * length xs
     all-length = omega (arith, length-append (pre ++ formBytes head values) (membersBytes (kind .bytes) xs), front-length, length-members kind xs)
 
     head-found : fieldAt plan (length pre) ≡ Whole (head .tag) (contentLength head)
@@ -129,39 +129,39 @@ module _ {A : Type 0} (kind : Kind A) (plan pre : List ℕ) (head : Form) (value
         ap (λ (l : List ℕ). fieldAt l (length pre)) head-first
         ∙ form-found head values pre (membersBytes (kind .bytes) xs ++ post) count small
 
-    member-there : (i : ℕ) → i < length xs → fieldAt plan (length pre + size head + size (kind .form) * i) ≡ Whole (kind .form .tag) (contentLength (kind .form))
+    member-there : (i : ℕ) → i < length xs → fieldAt plan (length pre + sizeOf head + sizeOf (kind .form) * i) ≡ Whole (kind .form .tag) (contentLength (kind .form))
     member-there i l =
-        ap₂ fieldAt behind-members (ap (λ n. n + size (kind .form) * i) (sym front-length)) ∙ members-found kind xs (pre ++ formBytes head values) post i l
+        ap₂ fieldAt behind-members (ap (λ n. n + sizeOf (kind .form) * i) (sym front-length)) ∙ members-found kind xs (pre ++ formBytes head values) post i l
 
-    behind : getD plan (length pre + size head + size (kind .form) * length xs) 0 ≡ getD post 0 0
+    behind : getD plan (length pre + sizeOf head + sizeOf (kind .form) * length xs) 0 ≡ getD post 0 0
     behind =
         ap₂ (λ (l : List ℕ) (k : ℕ). getD l k 0) behind-members (sym all-length ∙ sym (add-zero _))
         ∙ getD-append-add (pre ++ formBytes head values ++ membersBytes (kind .bytes) xs) post 0 0
 
-    some : 1 ≤ size (kind .form)
+    some : 1 ≤ sizeOf (kind .form)
     some = omega arith
 
     turns : length xs ≤ length plan
     turns =
-        omega (arith, ap length behind-members, length-append (pre ++ formBytes head values ++ membersBytes (kind .bytes) xs) post, all-length, mul-le-mul-left (length xs) some, mul-comm (size (kind .form)) (length xs))
+        omega (arith, ap length behind-members, length-append (pre ++ formBytes head values ++ membersBytes (kind .bytes) xs) post, all-length, mul-le-mul-left (length xs) some, mul-comm (sizeOf (kind .form)) (length xs))
 
-    counted : run (length plan) plan (length pre + size head) (kind .form .tag) (contentLength (kind .form)) ≡ length xs
+    counted : run (length plan) plan (length pre + sizeOf head) (kind .form .tag) (contentLength (kind .form)) ≡ length xs
     counted =
-        run-is (length xs) (length plan) plan (length pre + size head) (kind .form .tag) (contentLength (kind .form)) turns member-there
-        (other-field plan (length pre + size head + size (kind .form) * length xs) (kind .form .tag) (contentLength (kind .form)) (λ q. other (sym behind ∙ q)))
+        run-is (length xs) (length plan) plan (length pre + sizeOf head) (kind .form .tag) (contentLength (kind .form)) turns member-there
+        (other-field plan (length pre + sizeOf head + sizeOf (kind .form) * length xs) (kind .form .tag) (contentLength (kind .form)) (λ q. other (sym behind ∙ q)))
 
-    ends : length pre + size head + length xs * size (kind .form) ≡ length (pre ++ (formBytes head values ++ membersBytes (kind .bytes) xs))
+    ends : length pre + sizeOf head + length xs * sizeOf (kind .form) ≡ length (pre ++ (formBytes head values ++ membersBytes (kind .bytes) xs))
     ends =
-        omega (arith, all-length, mul-comm (size (kind .form)) (length xs), ap length (append-assoc pre (formBytes head values) (membersBytes (kind .bytes) xs)))
+        omega (arith, all-length, mul-comm (sizeOf (kind .form)) (length xs), ap length (append-assoc pre (formBytes head values) (membersBytes (kind .bytes) xs)))
 
     found-right : partByForms true plan (length pre) head (kind .form)
         ≡ record { right = true; head = length pre; members = length xs; end = length (pre ++ (formBytes head values ++ membersBytes (kind .bytes) xs)) }
     unfolding partOf partFrom
     found-right = rw (is-field (fieldAt plan (length pre)) (head .tag) (contentLength head) head-found, counted, ends)
 
-    found-members : (none : A) → ((i : ℕ) → i < length xs → kind .Fits (getD xs i none)) → membersFrom (kind .read) (size (kind .form)) plan (length pre + size head) (length xs) ≡ xs
+    found-members : (none : A) → ((i : ℕ) → i < length xs → kind .Fits (getD xs i none)) → membersFrom (kind .read) (sizeOf (kind .form)) plan (length pre + sizeOf head) (length xs) ≡ xs
     found-members none h =
-        ap₂ (λ (l : List ℕ) (k : ℕ). membersFrom (kind .read) (size (kind .form)) l k (length xs)) behind-members (sym front-length)
+        ap₂ (λ (l : List ℕ) (k : ℕ). membersFrom (kind .read) (sizeOf (kind .form)) l k (length xs)) behind-members (sym front-length)
         ∙ members-back kind xs (pre ++ formBytes head values) post none h
 
   found-absent : partByForms false plan (length pre) head (kind .form) ≡ record { right = true; head = length pre; members = 0; end = length (pre ++ []) }
@@ -185,5 +185,5 @@ module _ {A : Type 0} (kind : Kind A) (plan pre : List ℕ) (head : Form) (value
       pub head-written : plan ≡ pre ++ formBytes head values ++ (membersBytes (kind .bytes) xs ++ post)
       head-written = behind-head there
 
-      pub members-written : (none : A) → ((i : ℕ) → i < length xs → kind .Fits (getD xs i none)) → membersFrom (kind .read) (size (kind .form)) plan (length pre + size head) (length xs) ≡ xs
+      pub members-written : (none : A) → ((i : ℕ) → i < length xs → kind .Fits (getD xs i none)) → membersFrom (kind .read) (sizeOf (kind .form)) plan (length pre + sizeOf head) (length xs) ≡ xs
       members-written = found-members there

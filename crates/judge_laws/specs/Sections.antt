@@ -14,7 +14,7 @@ use Rattle.sheet.specs.declared.Sheet.{Sheet}
 use Rattle.sheet.specs.declared.MosaicSection.{MosaicSection}
 use Rattle.sheet.specs.declared.SortingSection.{SortingSection}
 use Rattle.rules.specs.Flight.{noPasses, passesAt, flightFigure}
-use Rattle.plan_format.specs.Format.{size, mosaicHeadForm, batchForm, sortingHeadForm, jobForm, flightHeadForm, passesForm}
+use Rattle.plan_format.specs.Format.{sizeOf, mosaicHeadForm, batchForm, sortingHeadForm, jobForm, flightHeadForm, passesForm}
 use Rattle.plan_read.specs.PlanRead.{figureFrom, orderFrom, batchFrom, jobFrom, passesFrom, membersFrom, batchesFrom, jobsFrom, blocksFrom}
 use Rattle.plan_read.specs.Laws.{member-at, length-from}
 use Rattle.running.specs.Running.{BatchFollows, MosaicRuns, JobFollows, AllDone, SortingRuns, afterJob, BlockFollows, FlightRuns}
@@ -80,9 +80,9 @@ module _ (s : Sheet) (plan : List ℕ) (section : ℕ) (part : Part) where
   judged-head k st h e = rw (h, eq-eqb _ _ e)
 
 -- the place of the next member
-next-place : (section head k : ℕ) → memberPlace section head (k + 1) ≡ memberPlace section head k + size (memberForm section)
+next-place : (section head k : ℕ) → memberPlace section head (k + 1) ≡ memberPlace section head k + sizeOf (memberForm section)
 unfolding memberPlace
-next-place section head k = omega (arith, times-more k (size (memberForm section)))
+next-place section head k = omega (arith, times-more k (sizeOf (memberForm section)))
   where
     times-more : (n m : ℕ) → (n + 1) * m ≡ n * m + m
     times-more n m = omega arith
@@ -158,14 +158,14 @@ module _ (s : Sheet) (plan : List ℕ) (part : Part) where
 -- The flight.
 module _ (s : Sheet) (plan : List ℕ) (part : Part) where
   pub record FlightTrue : Type 0 where
-    pub runs : FlightRuns (s .flight) (orderFrom plan (part .head)) (blocksFrom plan (part .head + size flightHeadForm) (part .members))
-    pub figure : figureFrom flightHeadForm plan (part .head) ≡ flightFigure (s .flight) (blocksFrom plan (part .head + size flightHeadForm) (part .members))
+    pub runs : FlightRuns (s .flight) (orderFrom plan (part .head)) (blocksFrom plan (part .head + sizeOf flightHeadForm) (part .members))
+    pub figure : figureFrom flightHeadForm plan (part .head) ≡ flightFigure (s .flight) (blocksFrom plan (part .head + sizeOf flightHeadForm) (part .members))
 
   -- the blocks left from block k on, and the head
   record BlocksTrue (n k : ℕ) : Type 0 where
     pub blocks : (i : ℕ) → k ≤ i → i < k + n → BlockFollows (s .flight) i (passesFrom plan (memberPlace 3 (part .head) i))
-    pub head : flightHead (s .flight) (part .members) (orderFrom plan (part .head)) (blocksFrom plan (part .head + size flightHeadForm) (part .members)) ≡ true
-    pub figure : figureFrom flightHeadForm plan (part .head) ≡ flightFigure (s .flight) (blocksFrom plan (part .head + size flightHeadForm) (part .members))
+    pub head : flightHead (s .flight) (part .members) (orderFrom plan (part .head)) (blocksFrom plan (part .head + sizeOf flightHeadForm) (part .members)) ≡ true
+    pub figure : figureFrom flightHeadForm plan (part .head) ≡ flightFigure (s .flight) (blocksFrom plan (part .head + sizeOf flightHeadForm) (part .members))
 
   blocks-judged : (n k : ℕ) (st : Progress) → sectionFrom n s plan 3 part k st .number ≡ 0 → BlocksTrue n k
   unfolding headForm headFollows figureOf memberFollows afterMember
@@ -188,12 +188,12 @@ module _ (s : Sheet) (plan : List ℕ) (part : Part) where
       judged-member s plan 3 part n k st (block-true (s .flight) k (passesFrom plan (memberPlace 3 (part .head) k)) (t .blocks k (omega arith) (omega arith)))
       (judged-blocks n (k + 1) st (record { blocks = λ i l u. t .blocks i (omega arith) (omega arith); head = t .head; figure = t .figure }))
 
-  pass-is : (i : ℕ) → i < part .members → passesAt (blocksFrom plan (part .head + size flightHeadForm) (part .members)) i ≡ passesFrom plan (memberPlace 3 (part .head) i)
+  pass-is : (i : ℕ) → i < part .members → passesAt (blocksFrom plan (part .head + sizeOf flightHeadForm) (part .members)) i ≡ passesFrom plan (memberPlace 3 (part .head) i)
   unfolding passesAt memberPlace headForm memberForm
-  pass-is i h = member-at passesFrom (size passesForm) plan (part .head + size flightHeadForm) (part .members) i noPasses h ∙ ap (passesFrom plan) (omega arith)
+  pass-is i h = member-at passesFrom (sizeOf passesForm) plan (part .head + sizeOf flightHeadForm) (part .members) i noPasses h ∙ ap (passesFrom plan) (omega arith)
 
-  passes-length : length (blocksFrom plan (part .head + size flightHeadForm) (part .members)) ≡ part .members
-  passes-length = length-from passesFrom (size passesForm) plan (part .head + size flightHeadForm) (part .members)
+  passes-length : length (blocksFrom plan (part .head + sizeOf flightHeadForm) (part .members)) ≡ part .members
+  passes-length = length-from passesFrom (sizeOf passesForm) plan (part .head + sizeOf flightHeadForm) (part .members)
 
   pub flight-judged : (st : Progress) → sectionFrom (part .members) s plan 3 part 0 st .number ≡ 0 → FlightTrue
   flight-judged st e =
@@ -202,7 +202,7 @@ module _ (s : Sheet) (plan : List ℕ) (part : Part) where
         runs =
             record {
               members = λ i l. let h : i < part .members = omega (arith, passes-length) in subst (BlockFollows (s .flight) i) (sym (pass-is i h)) (t .blocks i (omega arith) (omega arith));
-              head = true-head (s .flight) (orderFrom plan (part .head)) (blocksFrom plan (part .head + size flightHeadForm) (part .members)) (part .members) (sym passes-length) (t .head);
+              head = true-head (s .flight) (orderFrom plan (part .head)) (blocksFrom plan (part .head + sizeOf flightHeadForm) (part .members)) (part .members) (sym passes-length) (t .head);
             };
         figure = t .figure;
       }
@@ -212,6 +212,6 @@ module _ (s : Sheet) (plan : List ℕ) (part : Part) where
       judged-blocks (part .members) 0 st
       (record {
         blocks = λ i l u. subst (BlockFollows (s .flight) i) (pass-is i (omega arith)) (t .runs .members i (omega (arith, passes-length)));
-        head = head-true (s .flight) (orderFrom plan (part .head)) (blocksFrom plan (part .head + size flightHeadForm) (part .members)) (part .members) (sym passes-length) (t .runs .head);
+        head = head-true (s .flight) (orderFrom plan (part .head)) (blocksFrom plan (part .head + sizeOf flightHeadForm) (part .members)) (part .members) (sym passes-length) (t .runs .head);
         figure = t .figure;
       })

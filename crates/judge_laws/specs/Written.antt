@@ -9,7 +9,7 @@ use lib.ListN.{length, getD}
 use lib.Dec.{ltb}
 use borrow.Author.Tests.{ltb-false}
 use Rattle.field.specs.Field.{fieldBytes}
-use Rattle.plan_format.specs.Format.{Form, size, formBytes, mosaicHeadForm, batchForm, sortingHeadForm, jobForm, flightHeadForm, passesForm}
+use Rattle.plan_format.specs.Format.{Form, sizeOf, formBytes, mosaicHeadForm, batchForm, sortingHeadForm, jobForm, flightHeadForm, passesForm}
 use Rattle.sheet.specs.Tags.{planBatchTag, planStripTag, planBlockTag}
 use Rattle.sheet.specs.Sound.{SheetSound, stripsInAll}
 use Rattle.sheet.specs.declared.Sheet.{Sheet}
@@ -142,8 +142,8 @@ module _ (s : Sheet) (p : Plan) (plan : List ℕ) (sound : SheetSound s) (L : Pl
     batches-read : batchesFrom plan (memberPlace 1 (mosaicPart s plan .head) 0) (mosaicPart s plan .members) ≡ p .batches
     unfolding memberPlace headForm memberForm batchKind batchAt
     batches-read =
-        ap (λ (q : Part). batchesFrom plan (q .head + size mosaicHeadForm + 0 * size batchForm) (q .members)) mosaic-part
-        ∙ ap (λ (n : ℕ). batchesFrom plan (size mosaicHeadForm) n) (present-members (ltb 0 (s .mosaic .strips)) (length (p .batches)) h)
+        ap (λ (q : Part). batchesFrom plan (q .head + sizeOf mosaicHeadForm + 0 * sizeOf batchForm) (q .members)) mosaic-part
+        ∙ ap (λ (n : ℕ). batchesFrom plan (sizeOf mosaicHeadForm) n) (present-members (ltb 0 (s .mosaic .strips)) (length (p .batches)) h)
         ∙ members-written batchKind plan [] mosaicHeadForm (mosaicHead s p) (p .batches) (sortingPiece s p ++ (flightPiece s p ++ [])) refl (omega arith) batch-other
         (ltb 0 (s .mosaic .strips)) sorting-next h noBatch (batch-fits (s .mosaic) (p .batches) (sound .mosaic) (L .mosaic))
 
@@ -175,12 +175,12 @@ module _ (s : Sheet) (p : Plan) (plan : List ℕ) (sound : SheetSound s) (L : Pl
     jobs-read : jobsFrom plan (memberPlace 2 (sortingPart s plan .head) 0) (sortingPart s plan .members) ≡ p .jobs
     unfolding memberPlace headForm memberForm jobKind jobAt
     jobs-read =
-        ap (λ (q : Part). jobsFrom plan (q .head + size sortingHeadForm + 0 * size jobForm) (q .members)) sorting-part
+        ap (λ (q : Part). jobsFrom plan (q .head + sizeOf sortingHeadForm + 0 * sizeOf jobForm) (q .members)) sorting-part
         ∙ ap₂ (λ (k n : ℕ). jobsFrom plan k n) first (present-members (ltb 0 (stripsInAll (s .sorting))) (length (p .jobs)) h)
         ∙ members-written jobKind plan (mosaicPiece s p) sortingHeadForm (sortingHead s p) (p .jobs) (flightPiece s p ++ []) refl (omega arith) strip-other
         (ltb 0 (stripsInAll (s .sorting))) sorting-next h noJob (job-fits (s .sorting) (p .jobs) (sound .sorting) (L .sorting))
       where
-        first : length (mosaicPiece s p) + size sortingHeadForm + 0 * size jobForm ≡ length (mosaicPiece s p) + size sortingHeadForm
+        first : length (mosaicPiece s p) + sizeOf sortingHeadForm + 0 * sizeOf jobForm ≡ length (mosaicPiece s p) + sizeOf sortingHeadForm
         first = omega arith
 
     sorting-stated : figureFrom sortingHeadForm plan (sortingPart s plan .head) ≡ sortingFigure (s .sorting) (p .jobs)
@@ -207,11 +207,11 @@ module _ (s : Sheet) (p : Plan) (plan : List ℕ) (sound : SheetSound s) (L : Pl
 
   -- the flight
   module _ (h : ltb 0 (s .flight .blocks) ≡ true) where
-    passes-read : blocksFrom plan (flightPart s plan .head + size flightHeadForm) (flightPart s plan .members) ≡ p .passes
+    passes-read : blocksFrom plan (flightPart s plan .head + sizeOf flightHeadForm) (flightPart s plan .members) ≡ p .passes
     unfolding passesKind passesAt
     passes-read =
-        ap (λ (q : Part). blocksFrom plan (q .head + size flightHeadForm) (q .members)) flight-part
-        ∙ ap (λ (n : ℕ). blocksFrom plan (length (mosaicPiece s p ++ sortingPiece s p) + size flightHeadForm) n) (present-members (ltb 0 (s .flight .blocks)) (length (p .passes)) h)
+        ap (λ (q : Part). blocksFrom plan (q .head + sizeOf flightHeadForm) (q .members)) flight-part
+        ∙ ap (λ (n : ℕ). blocksFrom plan (length (mosaicPiece s p ++ sortingPiece s p) + sizeOf flightHeadForm) n) (present-members (ltb 0 (s .flight .blocks)) (length (p .passes)) h)
         ∙ members-written passesKind plan (mosaicPiece s p ++ sortingPiece s p) flightHeadForm (flightHeadValues s p) (p .passes) [] refl (omega arith) block-other
         (ltb 0 (s .flight .blocks)) flight-last h noPasses (passes-fits (s .flight) (p .passes) (sound .flight) (L .flight))
 

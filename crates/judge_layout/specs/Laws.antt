@@ -13,7 +13,7 @@ use Rattle.field.specs.Field.{fieldAt}
 use Rattle.field.specs.Fields.{whole-at}
 use Rattle.field.specs.declared.Field.{Field}
 use Rattle.field.specs.declared.Field.the-variants.{End, Cut, Whole}
-use Rattle.plan_format.specs.Format.{Form, contentLength, size, mosaicHeadForm, batchForm, sortingHeadForm, jobForm, flightHeadForm, passesForm}
+use Rattle.plan_format.specs.Format.{Form, contentLength, sizeOf, mosaicHeadForm, batchForm, sortingHeadForm, jobForm, flightHeadForm, passesForm}
 use Rattle.sheet.specs.Sound.{stripsInAll}
 use Rattle.sheet.specs.declared.Sheet.{Sheet}
 use Rattle.judge_layout.specs.Layout.{isField, run, partFrom, partOf, partByForms, mosaicPart, sortingPart, flightPart, verdict, layoutVerdict}
@@ -240,11 +240,11 @@ pub flight-part-is : (s : Sheet) (plan : List ℕ) (r : Part) (at : ℕ) → at 
 unfolding flightPart
 flight-part-is s plan r at ea e = rw (← ea) e
 
-by-forms : (present : Bool) (plan : List ℕ) (at : ℕ) (head member : Form) → at ≤ length plan → PartFits plan (size member) (partByForms present plan at head member)
+by-forms : (present : Bool) (plan : List ℕ) (at : ℕ) (head member : Form) → at ≤ length plan → PartFits plan (sizeOf member) (partByForms present plan at head member)
 by-forms present plan at head member h = part-fits present plan at (head .tag) (contentLength head) (member .tag) (contentLength member) h
 
 pub parts-fit : (s : Sheet) (plan : List ℕ)
-    → (PartFits plan (size batchForm) (mosaicPart s plan)) × (PartFits plan (size jobForm) (sortingPart s plan)) × (PartFits plan (size passesForm) (flightPart s plan))
+    → (PartFits plan (sizeOf batchForm) (mosaicPart s plan)) × (PartFits plan (sizeOf jobForm) (sortingPart s plan)) × (PartFits plan (sizeOf passesForm) (flightPart s plan))
 unfolding mosaicPart sortingPart flightPart
 parts-fit s plan =
     let p = by-forms (ltb 0 (s .mosaic .strips)) plan 0 mosaicHeadForm batchForm (omega arith) in

@@ -3,10 +3,11 @@ use field::Field;
 use field::field_at;
 use plan_format::BATCH_LENGTH;
 use plan_format::CONTENT;
-use plan_format::FIGURE_HEAD_LENGTH;
 use plan_format::FLIGHT_HEAD_LENGTH;
 use plan_format::JOB_LENGTH;
+use plan_format::MOSAIC_HEAD_LENGTH;
 use plan_format::PASSES_LENGTH;
+use plan_format::SORTING_HEAD_LENGTH;
 use sheet::Sheet;
 use sheet::numbers::LAYOUT_WRONG;
 use sheet::tags::PLAN_BATCH;
@@ -109,7 +110,15 @@ pub fn mosaic_part(s: Sheet, plan: &[u8]) -> Part
     ensures { λ r. ⌜ r ≡ mosaicPart s (now (plan .entry)) ⌝ }
 {
     let present = 0 < s.mosaic.strips;
-    part_of(present, plan, 0, PLAN_MOSAIC, FIGURE_HEAD_LENGTH, PLAN_BATCH, BATCH_LENGTH)
+    part_of(
+        present,
+        plan,
+        0,
+        PLAN_MOSAIC,
+        MOSAIC_HEAD_LENGTH,
+        PLAN_BATCH,
+        BATCH_LENGTH,
+    )
 }
 
 // The sorting of a plan, whose mosaic ends at an offset.
@@ -119,7 +128,15 @@ pub fn sorting_part(s: Sheet, plan: &[u8], at: usize) -> Part
 {
     let t = s.sorting;
     let present = 0 < strips_in_all(t);
-    part_of(present, plan, at, PLAN_SORTING, FIGURE_HEAD_LENGTH, PLAN_STRIP, JOB_LENGTH)
+    part_of(
+        present,
+        plan,
+        at,
+        PLAN_SORTING,
+        SORTING_HEAD_LENGTH,
+        PLAN_STRIP,
+        JOB_LENGTH,
+    )
 }
 
 // The flight of a plan, whose sorting ends at an offset.
@@ -128,7 +145,15 @@ pub fn flight_part(s: Sheet, plan: &[u8], at: usize) -> Part
     ensures { λ r. ⌜ r ≡ flightPart s (now (plan .entry)) ⌝ }
 {
     let present = 0 < s.flight.blocks;
-    part_of(present, plan, at, PLAN_FLIGHT, FLIGHT_HEAD_LENGTH, PLAN_BLOCK, PASSES_LENGTH)
+    part_of(
+        present,
+        plan,
+        at,
+        PLAN_FLIGHT,
+        FLIGHT_HEAD_LENGTH,
+        PLAN_BLOCK,
+        PASSES_LENGTH,
+    )
 }
 
 // 12 and its place, 0 and 0 where the plan is laid out as its sheet asks.

@@ -17,7 +17,7 @@ use Rattle.sheet.specs.declared.Sheet.{Sheet}
 use Rattle.rules.specs.Mosaic.{noBatch}
 use Rattle.rules.specs.Sorting.{stripsOf, deskFinish, deskTime}
 use Rattle.rules.specs.Flight.{flightFigure}
-use Rattle.plan_format.specs.Format.{size, mosaicHeadForm, batchForm, sortingHeadForm, jobForm, flightHeadForm, passesForm}
+use Rattle.plan_format.specs.Format.{sizeOf, mosaicHeadForm, batchForm, sortingHeadForm, jobForm, flightHeadForm, passesForm}
 use Rattle.plan_read.specs.PlanRead.{figureFrom, orderFrom, batchFrom, jobFrom, passesFrom, blocksFrom, BatchRead, JobRead, PassesRead}
 use Rattle.running.specs.Running.{freeDesks, afterJob}
 use Rattle.running.specs.FunctionLaws.{TimeTold}
@@ -64,7 +64,7 @@ pub record AfterStripAsked (s : Sheet) (p : Progress) (j : Job) : Type 0 where
 
 pub record HeadAsked (s : Sheet) (part : Part) : Type 0 where
   pub sound : SheetSound s
-  pub room : part .head + size flightHeadForm + size passesForm * mostBlocks < 2 ^ 64
+  pub room : part .head + sizeOf flightHeadForm + sizeOf passesForm * mostBlocks < 2 ^ 64
 
 pub record FigureAsked (s : Sheet) (plan : List ℕ) (section : ℕ) (part : Part) (p : Progress) : Type 0 where
   pub asked : HeadAsked s part
@@ -85,27 +85,27 @@ module _ (s : Sheet) (section : ℕ) where
   present-flight h₁ h₂ = rw (ne-eqb _ _ h₁, ne-eqb _ _ h₂)
 
 module _ (section : ℕ) where
-  pub head-size-mosaic : section ≡ 1 → size mosaicHeadForm ≡ size (headForm section)
+  pub head-size-mosaic : section ≡ 1 → sizeOf mosaicHeadForm ≡ sizeOf (headForm section)
   unfolding headForm
   head-size-mosaic e = rw e
 
-  pub head-size-sorting : section ≡ 2 → size sortingHeadForm ≡ size (headForm section)
+  pub head-size-sorting : section ≡ 2 → sizeOf sortingHeadForm ≡ sizeOf (headForm section)
   unfolding headForm
   head-size-sorting e = rw e
 
-  pub head-size-flight : (section ≡ 1 → ⊥) → (section ≡ 2 → ⊥) → size flightHeadForm ≡ size (headForm section)
+  pub head-size-flight : (section ≡ 1 → ⊥) → (section ≡ 2 → ⊥) → sizeOf flightHeadForm ≡ sizeOf (headForm section)
   unfolding headForm
   head-size-flight h₁ h₂ = rw (ne-eqb _ _ h₁, ne-eqb _ _ h₂)
 
-  pub member-size-mosaic : section ≡ 1 → size batchForm ≡ size (memberForm section)
+  pub member-size-mosaic : section ≡ 1 → sizeOf batchForm ≡ sizeOf (memberForm section)
   unfolding memberForm
   member-size-mosaic e = rw e
 
-  pub member-size-sorting : section ≡ 2 → size jobForm ≡ size (memberForm section)
+  pub member-size-sorting : section ≡ 2 → sizeOf jobForm ≡ sizeOf (memberForm section)
   unfolding memberForm
   member-size-sorting e = rw e
 
-  pub member-size-flight : (section ≡ 1 → ⊥) → (section ≡ 2 → ⊥) → size passesForm ≡ size (memberForm section)
+  pub member-size-flight : (section ≡ 1 → ⊥) → (section ≡ 2 → ⊥) → sizeOf passesForm ≡ sizeOf (memberForm section)
   unfolding memberForm
   member-size-flight h₁ h₂ = rw (ne-eqb _ _ h₁, ne-eqb _ _ h₂)
 
@@ -123,7 +123,7 @@ module _ (section : ℕ) where
     figure-of-flight h₁ h₂ h = h ∙ rw (ne-eqb _ _ h₁, ne-eqb _ _ h₂)
 
   -- the place of a member, by the sizes of its section
-  module _ (head k skip step : ℕ) (es : skip ≡ size (headForm section)) (et : step ≡ size (memberForm section)) where
+  module _ (head k skip step : ℕ) (es : skip ≡ sizeOf (headForm section)) (et : step ≡ sizeOf (memberForm section)) where
     pub place-is : head + skip + k * step ≡ memberPlace section head k
     unfolding memberPlace
     place-is = rw (es, et)
@@ -134,7 +134,7 @@ module _ (section : ℕ) where
     pub members-fit : PlaceAsked section head k → k * step < 2 ^ 64
     members-fit a = omega (arith, place-fits a)
 
-  pub head-fits : (head k skip : ℕ) → skip ≡ size (headForm section) → PlaceAsked section head k → head + skip < 2 ^ 64
+  pub head-fits : (head k skip : ℕ) → skip ≡ sizeOf (headForm section) → PlaceAsked section head k → head + skip < 2 ^ 64
   unfolding memberPlace
   head-fits head k skip es a = omega (arith, es, a .room)
 
@@ -337,7 +337,7 @@ module _ (s : Sheet) (plan : List ℕ) (section : ℕ) (part : Part) (p : Progre
   head-sorting r e h = h ∙ rw e
 
   pub head-flight : (r : Bool) (order : ℕ) → (section ≡ 1 → ⊥) → (section ≡ 2 → ⊥) → order ≡ orderFrom plan (part .head)
-      → r ≡ flightHead (s .flight) (part .members) order (blocksFrom plan (part .head + size flightHeadForm) (part .members)) → r ≡ headFollows s plan section part p
+      → r ≡ flightHead (s .flight) (part .members) order (blocksFrom plan (part .head + sizeOf flightHeadForm) (part .members)) → r ≡ headFollows s plan section part p
   unfolding headFollows
   head-flight r order h₁ h₂ e h = h ∙ rw (ne-eqb _ _ h₁, ne-eqb _ _ h₂, e)
 
@@ -349,11 +349,11 @@ module _ (s : Sheet) (plan : List ℕ) (section : ℕ) (part : Part) (p : Progre
   unfolding figureOf
   figure-sorting e = rw e
 
-  pub figure-flight : (r : ℕ) → FigureAsked s plan section part p → (section ≡ 1 → ⊥) → (section ≡ 2 → ⊥) → FigureTold (flightFigure (s .flight) (blocksFrom plan (part .head + size flightHeadForm) (s .flight .blocks))) r → r ≡ figureOf s plan section part p
+  pub figure-flight : (r : ℕ) → FigureAsked s plan section part p → (section ≡ 1 → ⊥) → (section ≡ 2 → ⊥) → FigureTold (flightFigure (s .flight) (blocksFrom plan (part .head + sizeOf flightHeadForm) (s .flight .blocks))) r → r ≡ figureOf s plan section part p
   unfolding figureOf headFollows flightHead
   figure-flight r a h₁ h₂ t =
       let q = both _ _ (rw (ne-eqb _ _ h₁, ne-eqb _ _ h₂) at (a .follows)) in
-      t .is ∙ rw (ne-eqb _ _ h₁, ne-eqb _ _ h₂) (ap (λ n. flightFigure (s .flight) (blocksFrom plan (part .head + size flightHeadForm) n)) (sym (eqb-true _ _ (q .0))))
+      t .is ∙ rw (ne-eqb _ _ h₁, ne-eqb _ _ h₂) (ap (λ n. flightFigure (s .flight) (blocksFrom plan (part .head + sizeOf flightHeadForm) n)) (sym (eqb-true _ _ (q .0))))
 
   module _ (x : Bool) (ex : x ≡ headFollows s plan section part p) where
     pub head-wrong : not x ≡ true → ruleBroken ≡ headNumber s plan section part p

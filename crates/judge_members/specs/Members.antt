@@ -7,7 +7,7 @@ use Rattle.field.specs.Branch.{check}
 use Rattle.sheet.specs.Refusals.{ruleBroken, figureUntrue}
 use Rattle.sheet.specs.Sound.{stripsInAll}
 use Rattle.sheet.specs.declared.Sheet.{Sheet}
-use Rattle.plan_format.specs.Format.{Form, size, mosaicHeadForm, batchForm, sortingHeadForm, jobForm, flightHeadForm, passesForm}
+use Rattle.plan_format.specs.Format.{Form, sizeOf, mosaicHeadForm, batchForm, sortingHeadForm, jobForm, flightHeadForm, passesForm}
 use Rattle.rules.specs.Mosaic.{noBatch}
 use Rattle.rules.specs.Sorting.{deskFinish}
 use Rattle.rules.specs.Flight.{flightFigure}
@@ -35,7 +35,7 @@ memberForm section = cond (eqb section 1) batchForm (cond (eqb section 2) jobFor
 
 -- the place of member k, from 0, of a section whose head stands at an offset
 unfoldable pub memberPlace : ℕ → ℕ → ℕ → ℕ
-memberPlace section head k = head + size (headForm section) + k * size (memberForm section)
+memberPlace section head k = head + sizeOf (headForm section) + k * sizeOf (memberForm section)
 
 unfoldable pub begun : Progress
 begun = record { before = noBatch; desks = freeDesks; figure = 0 }
@@ -65,14 +65,14 @@ unfoldable pub headFollows : Sheet → List ℕ → ℕ → Part → Progress �
 headFollows s plan section part st =
     cond (eqb section 1) (eqb (st .before .last) (s .mosaic .strips))
     (cond (eqb section 2) (allDone (s .sorting .counts) (st .desks .done) (s .sorting .desks))
-    (flightHead (s .flight) (part .members) (orderFrom plan (part .head)) (blocksFrom plan (part .head + size flightHeadForm) (part .members))))
+    (flightHead (s .flight) (part .members) (orderFrom plan (part .head)) (blocksFrom plan (part .head + sizeOf flightHeadForm) (part .members))))
 
 -- the figure that the rules give
 unfoldable pub figureOf : Sheet → List ℕ → ℕ → Part → Progress → ℕ
 figureOf s plan section part st =
     cond (eqb section 1) (st .figure)
     (cond (eqb section 2) (st .figure)
-    (flightFigure (s .flight) (blocksFrom plan (part .head + size flightHeadForm) (part .members))))
+    (flightFigure (s .flight) (blocksFrom plan (part .head + sizeOf flightHeadForm) (part .members))))
 
 unfoldable pub headNumber : Sheet → List ℕ → ℕ → Part → Progress → ℕ
 headNumber s plan section part st =

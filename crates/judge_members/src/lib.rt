@@ -8,10 +8,11 @@ use judge_rules::batch_follows;
 use judge_rules::block_follows;
 use judge_rules::job_follows;
 use plan_format::BATCH_SIZE;
-use plan_format::FIGURE_HEAD_SIZE;
 use plan_format::FLIGHT_HEAD_SIZE;
 use plan_format::JOB_SIZE;
+use plan_format::MOSAIC_HEAD_SIZE;
 use plan_format::PASSES_SIZE;
+use plan_format::SORTING_HEAD_SIZE;
 use plan_read::batch_from;
 use plan_read::flight_figure_from;
 use plan_read::job_from;
@@ -30,7 +31,7 @@ use sheet_checks::strips_in_all;
 ghost use mathlib.Core.Path.{_≡_};
 ghost use Prim.Native.Nat.{_+_, _*_, _<_, _^_};
 ghost use Rattle.sheet.specs.Sound.{SheetSound};
-ghost use Rattle.plan_format.specs.Format.{size};
+ghost use Rattle.plan_format.specs.Format.{sizeOf};
 ghost use Rattle.plan_read.specs.PlanRead.{figureFrom};
 ghost use Rattle.judge_members.specs.Members.{present, headForm, memberForm, memberPlace, begun, memberFollows, afterBatch, afterStrip, afterMember, headFollows, figureOf, headNumber};
 ghost use Rattle.judge_members.specs.Laws.{PlaceAsked, MemberAsked, AfterAsked, AfterBatchAsked, AfterStripAsked, HeadAsked, FigureAsked};
@@ -59,20 +60,20 @@ pub fn is_present(s: Sheet, section: u64) -> bool
 
 // The bytes that the head of a section takes.
 fn head_size(section: u64) -> usize
-    ensures { λ r. ⌜ r ≡ size (headForm section) ⌝ }
+    ensures { λ r. ⌜ r ≡ sizeOf (headForm section) ⌝ }
 {
     if section == 1 {
-        return FIGURE_HEAD_SIZE;
+        return MOSAIC_HEAD_SIZE;
     }
     if section == 2 {
-        return FIGURE_HEAD_SIZE;
+        return SORTING_HEAD_SIZE;
     }
     FLIGHT_HEAD_SIZE
 }
 
 // The bytes that each of its members takes.
 fn member_size(section: u64) -> usize
-    ensures { λ r. ⌜ r ≡ size (memberForm section) ⌝ }
+    ensures { λ r. ⌜ r ≡ sizeOf (memberForm section) ⌝ }
 {
     if section == 1 {
         return BATCH_SIZE;
@@ -199,7 +200,13 @@ fn head_follows(s: Sheet, plan: &[u8], section: u64, part: Part, progress: Progr
     }
     let f = s.flight;
     let head = part.head;
-    flight_head(f, part.members, order_from(plan, head), plan, head + FLIGHT_HEAD_SIZE)
+    flight_head(
+        f,
+        part.members,
+        order_from(plan, head),
+        plan,
+        head + FLIGHT_HEAD_SIZE,
+    )
 }
 
 // The figure that the rules give, the head judged.

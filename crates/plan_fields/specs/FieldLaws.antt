@@ -9,7 +9,7 @@ use lib.Seq.{take-all, take-suc}
 use Rattle.field.specs.Bytes.{bytesOf}
 use Rattle.field.specs.Field.{fieldBytes}
 use Rattle.field.specs.Put.{put, put-whole, holding, put-one, put-more}
-use Rattle.plan_format.specs.Format.{Form, contentLength, size, width, behind, widthsSum, numbersBytes, formBytes, mosaicHeadForm, batchForm, sortingHeadForm, jobForm, flightHeadForm, passesForm, refusalForm}
+use Rattle.plan_format.specs.Format.{Form, contentLength, sizeOf, widthOf, offsetOf, widthsSum, numbersBytes, formBytes, mosaicHeadForm, batchForm, sortingHeadForm, jobForm, flightHeadForm, passesForm, refusalForm}
 use Rattle.plan_format.specs.FormLaws.{length-numbers, length-form}
 use Rattle.rules.specs.Plan.{batchBytes, jobBytes, passesBytes, refusalBytes}
 use Rattle.plan_fields.specs.Stored.{tagBytes, partBytes, stripBytes, batch, job, passes}
@@ -49,16 +49,16 @@ numbers-last (y ∷ ws) (x ∷ vs) w v e =
 
 -- the field as far as its first numbers, and the next
 module _ (f : Form) (n : ℕ) (vs : List ℕ) (known : length (take n (f .widths)) ≡ length vs) where
-  part-length : length (partBytes f n vs) ≡ behind f n
+  part-length : length (partBytes f n vs) ≡ offsetOf f n
   unfolding partBytes tagBytes bytesOf
   part-length = omega (arith, length-numbers (take n (f .widths)) vs known)
 
-  part-longer : (v : ℕ) → n < length (f .widths) → partBytes f n vs ++ bytesOf (width f n) v ≡ partBytes f (suc n) (vs ++ (v ∷ []))
+  part-longer : (v : ℕ) → n < length (f .widths) → partBytes f n vs ++ bytesOf (widthOf f n) v ≡ partBytes f (suc n) (vs ++ (v ∷ []))
   unfolding partBytes
   part-longer v more =
-      append-assoc (tagBytes (f .tag) (contentLength f)) (numbersBytes (take n (f .widths)) vs) (bytesOf (width f n) v)
+      append-assoc (tagBytes (f .tag) (contentLength f)) (numbersBytes (take n (f .widths)) vs) (bytesOf (widthOf f n) v)
       ∙ ap (λ (l : List ℕ). tagBytes (f .tag) (contentLength f) ++ l)
-      (numbers-last (take n (f .widths)) vs (width f n) v known ∙ ap (λ (ws : List ℕ). numbersBytes ws (vs ++ (v ∷ []))) (sym (take-suc (f .widths) n 0 more)))
+      (numbers-last (take n (f .widths)) vs (widthOf f n) v known ∙ ap (λ (ws : List ℕ). numbersBytes ws (vs ++ (v ∷ []))) (sym (take-suc (f .widths) n 0 more)))
 
   part-whole : length (f .widths) ≤ n → partBytes f n vs ≡ formBytes f vs
   unfolding partBytes tagBytes formBytes fieldBytes
@@ -67,10 +67,10 @@ module _ (f : Form) (n : ℕ) (vs : List ℕ) (known : length (take n (f .widths
       ap (λ (ws : List ℕ). f .tag ∷ bytesOf 2 (contentLength f) ++ numbersBytes ws vs) all
       ∙ ap (λ (len : ℕ). f .tag ∷ bytesOf 2 len ++ numbersBytes (f .widths) vs) (sym (length-numbers (f .widths) vs (sym (ap length all) ∙ known)))
 
-  stored-next : (d d₁ d₂ : List ℕ) (at v : ℕ) → n < length (f .widths) → d₁ ≡ put d at (partBytes f n vs) → d₂ ≡ put d₁ (at + behind f n) (bytesOf (width f n) v)
+  stored-next : (d d₁ d₂ : List ℕ) (at v : ℕ) → n < length (f .widths) → d₁ ≡ put d at (partBytes f n vs) → d₂ ≡ put d₁ (at + offsetOf f n) (bytesOf (widthOf f n) v)
       → d₂ ≡ put d at (partBytes f (suc n) (vs ++ (v ∷ [])))
   stored-next d d₁ d₂ at v more e₁ e₂ =
-      joined d d₁ d₂ at (at + behind f n) (partBytes f n vs) (bytesOf (width f n) v) e₁ e₂ (ap (λ (k : ℕ). at + k) (sym part-length))
+      joined d d₁ d₂ at (at + offsetOf f n) (partBytes f n vs) (bytesOf (widthOf f n) v) e₁ e₂ (ap (λ (k : ℕ). at + k) (sym part-length))
       ∙ ap (put d at) (part-longer v more)
 
   stored-all : (d d₁ : List ℕ) (at : ℕ) → length (f .widths) ≤ n → d₁ ≡ put d at (partBytes f n vs) → d₁ ≡ put d at (formBytes f vs)
@@ -83,14 +83,14 @@ stored-none f d d₁ at e = e ∙ ap (put d at) (sym (append-nil (tagBytes (f .t
 -- The fields, each by its stores: the tag, then number by number.
 module _ (d d₁ d₂ : List ℕ) (at : ℕ) where
   pub mosaic-head-stored : (figure : ℕ) → d₁ ≡ put d at (tagBytes (mosaicHeadForm .tag) (contentLength mosaicHeadForm))
-      → d₂ ≡ put d₁ (at + behind mosaicHeadForm 0) (bytesOf (width mosaicHeadForm 0) figure)
+      → d₂ ≡ put d₁ (at + offsetOf mosaicHeadForm 0) (bytesOf (widthOf mosaicHeadForm 0) figure)
       → d₂ ≡ put d at (formBytes mosaicHeadForm (figure ∷ []))
   mosaic-head-stored figure e₁ e₂ =
       stored-all mosaicHeadForm 1 (figure ∷ []) refl d d₂ at (omega arith)
       (stored-next mosaicHeadForm 0 [] refl d d₁ d₂ at figure (omega arith) (stored-none mosaicHeadForm d d₁ at e₁) e₂)
 
   pub sorting-head-stored : (figure : ℕ) → d₁ ≡ put d at (tagBytes (sortingHeadForm .tag) (contentLength sortingHeadForm))
-      → d₂ ≡ put d₁ (at + behind sortingHeadForm 0) (bytesOf (width sortingHeadForm 0) figure)
+      → d₂ ≡ put d₁ (at + offsetOf sortingHeadForm 0) (bytesOf (widthOf sortingHeadForm 0) figure)
       → d₂ ≡ put d at (formBytes sortingHeadForm (figure ∷ []))
   sorting-head-stored figure e₁ e₂ =
       stored-all sortingHeadForm 1 (figure ∷ []) refl d d₂ at (omega arith)
@@ -98,8 +98,8 @@ module _ (d d₁ d₂ : List ℕ) (at : ℕ) where
 
   module _ (d₃ : List ℕ) where
     pub flight-head-stored : (figure order : ℕ) → d₁ ≡ put d at (tagBytes (flightHeadForm .tag) (contentLength flightHeadForm))
-        → d₂ ≡ put d₁ (at + behind flightHeadForm 0) (bytesOf (width flightHeadForm 0) figure)
-        → d₃ ≡ put d₂ (at + behind flightHeadForm 1) (bytesOf (width flightHeadForm 1) order)
+        → d₂ ≡ put d₁ (at + offsetOf flightHeadForm 0) (bytesOf (widthOf flightHeadForm 0) figure)
+        → d₃ ≡ put d₂ (at + offsetOf flightHeadForm 1) (bytesOf (widthOf flightHeadForm 1) order)
         → d₃ ≡ put d at (formBytes flightHeadForm (figure ∷ order ∷ []))
     flight-head-stored figure order e₁ e₂ e₃ =
         stored-all flightHeadForm 2 (figure ∷ order ∷ []) refl d d₃ at (omega arith)
@@ -108,8 +108,8 @@ module _ (d d₁ d₂ : List ℕ) (at : ℕ) where
         e₃)
 
     pub passes-stored : (first second : ℕ) → d₁ ≡ put d at (tagBytes (passesForm .tag) (contentLength passesForm))
-        → d₂ ≡ put d₁ (at + behind passesForm 0) (bytesOf (width passesForm 0) first)
-        → d₃ ≡ put d₂ (at + behind passesForm 1) (bytesOf (width passesForm 1) second)
+        → d₂ ≡ put d₁ (at + offsetOf passesForm 0) (bytesOf (widthOf passesForm 0) first)
+        → d₃ ≡ put d₂ (at + offsetOf passesForm 1) (bytesOf (widthOf passesForm 1) second)
         → d₃ ≡ put d at (passesBytes (passes first second))
     unfolding passesBytes
     passes-stored first second e₁ e₂ e₃ =
@@ -119,9 +119,9 @@ module _ (d d₁ d₂ : List ℕ) (at : ℕ) where
         e₃)
 
     pub batch-stored : (d₄ : List ℕ) (last start finish : ℕ) → d₁ ≡ put d at (tagBytes (batchForm .tag) (contentLength batchForm))
-        → d₂ ≡ put d₁ (at + behind batchForm 0) (bytesOf (width batchForm 0) last)
-        → d₃ ≡ put d₂ (at + behind batchForm 1) (bytesOf (width batchForm 1) start)
-        → d₄ ≡ put d₃ (at + behind batchForm 2) (bytesOf (width batchForm 2) finish)
+        → d₂ ≡ put d₁ (at + offsetOf batchForm 0) (bytesOf (widthOf batchForm 0) last)
+        → d₃ ≡ put d₂ (at + offsetOf batchForm 1) (bytesOf (widthOf batchForm 1) start)
+        → d₄ ≡ put d₃ (at + offsetOf batchForm 2) (bytesOf (widthOf batchForm 2) finish)
         → d₄ ≡ put d at (batchBytes (batch last start finish))
     unfolding batchBytes
     batch-stored d₄ last start finish e₁ e₂ e₃ e₄ =
@@ -133,8 +133,8 @@ module _ (d d₁ d₂ : List ℕ) (at : ℕ) where
         e₄)
 
     pub strip-stored : (desk number : ℕ) → d₁ ≡ put d at (tagBytes (jobForm .tag) (contentLength jobForm))
-        → d₂ ≡ put d₁ (at + behind jobForm 0) (bytesOf (width jobForm 0) desk)
-        → d₃ ≡ put d₂ (at + behind jobForm 1) (bytesOf (width jobForm 1) number)
+        → d₂ ≡ put d₁ (at + offsetOf jobForm 0) (bytesOf (widthOf jobForm 0) desk)
+        → d₃ ≡ put d₂ (at + offsetOf jobForm 1) (bytesOf (widthOf jobForm 1) number)
         → d₃ ≡ put d at (stripBytes desk number)
     strip-stored desk number e₁ e₂ e₃ =
         stored-next jobForm 1 (desk ∷ []) refl d d₂ d₃ at number (omega arith)
@@ -142,8 +142,8 @@ module _ (d d₁ d₂ : List ℕ) (at : ℕ) where
         e₃
 
     pub job-stored : (desk number scan start : ℕ) → d₁ ≡ put d at (stripBytes desk number)
-        → d₂ ≡ put d₁ (at + behind jobForm 2) (bytesOf (width jobForm 2) scan)
-        → d₃ ≡ put d₂ (at + behind jobForm 3) (bytesOf (width jobForm 3) start)
+        → d₂ ≡ put d₁ (at + offsetOf jobForm 2) (bytesOf (widthOf jobForm 2) scan)
+        → d₃ ≡ put d₂ (at + offsetOf jobForm 3) (bytesOf (widthOf jobForm 3) start)
         → d₃ ≡ put d at (jobBytes (job desk number scan start))
     unfolding jobBytes
     job-stored desk number scan start e₁ e₂ e₃ =
@@ -152,14 +152,14 @@ module _ (d d₁ d₂ : List ℕ) (at : ℕ) where
         (stored-next jobForm 2 (desk ∷ number ∷ []) refl d d₁ d₂ at scan (omega arith) e₁ e₂)
         e₃)
 
-pub length-refusal : (number place : ℕ) → length (refusalBytes number place) ≡ size refusalForm
+pub length-refusal : (number place : ℕ) → length (refusalBytes number place) ≡ sizeOf refusalForm
 unfolding refusalBytes
 length-refusal number place = length-form refusalForm (number ∷ place ∷ []) refl
 
-pub refusal-stored : (d d₁ d₂ d₃ : List ℕ) (number place : ℕ) → size refusalForm ≤ length d
+pub refusal-stored : (d d₁ d₂ d₃ : List ℕ) (number place : ℕ) → sizeOf refusalForm ≤ length d
     → d₁ ≡ put d 0 (tagBytes (refusalForm .tag) (contentLength refusalForm))
-    → d₂ ≡ put d₁ (behind refusalForm 0) (bytesOf (width refusalForm 0) number)
-    → d₃ ≡ put d₂ (behind refusalForm 1) (bytesOf (width refusalForm 1) place)
+    → d₂ ≡ put d₁ (offsetOf refusalForm 0) (bytesOf (widthOf refusalForm 0) number)
+    → d₃ ≡ put d₂ (offsetOf refusalForm 1) (bytesOf (widthOf refusalForm 1) place)
     → d₃ ≡ holding (refusalBytes number place) d
 refusal-stored d d₁ d₂ d₃ number place h e₁ e₂ e₃ = stored ∙ put-whole d (refusalBytes number place) (omega (arith, length-refusal number place))
   where

@@ -3,7 +3,7 @@ use Prim.Native.Nat.{ℕ, zero, suc, _+_, _*_, _≤_}
 use mathlib.Core.List.{List, [], _∷_, _++_}
 use lib.ListN.{length, getD, take}
 use Rattle.field.specs.Bytes.{bytesOf}
-use Rattle.plan_format.specs.Format.{Form, contentLength, size, numbersBytes, batchForm, jobForm, passesForm}
+use Rattle.plan_format.specs.Format.{Form, contentLength, sizeOf, numbersBytes, batchForm, jobForm, passesForm}
 use Rattle.rules.specs.declared.Batch.{Batch}
 use Rattle.rules.specs.declared.Job.{Job}
 use Rattle.rules.specs.declared.Passes.{Passes}
@@ -49,16 +49,16 @@ pub record BatchLists (d : List ℕ) (at : ℕ) (last start finish : List ℕ) (
   pub last-long : n ≤ length last
   pub start-long : n ≤ length start
   pub finish-long : n ≤ length finish
-  pub room : at + size batchForm * n ≤ length d
+  pub room : at + sizeOf batchForm * n ≤ length d
 
 pub record JobLists (d : List ℕ) (at : ℕ) (desk number scan start : List ℕ) (n : ℕ) : Type 0 where
   pub desk-long : n ≤ length desk
   pub number-long : n ≤ length number
   pub scan-long : n ≤ length scan
   pub start-long : n ≤ length start
-  pub room : at + size jobForm * n ≤ length d
+  pub room : at + sizeOf jobForm * n ≤ length d
 
 pub record PassLists (d : List ℕ) (at : ℕ) (first second : List ℕ) (n : ℕ) : Type 0 where
   pub first-long : n ≤ length first
   pub second-long : n ≤ length second
-  pub room : at + size passesForm * n ≤ length d
+  pub room : at + sizeOf passesForm * n ≤ length d

@@ -3,7 +3,7 @@ ghost use mathlib.Core.Path.{_≡_};
 ghost use Prim.Native.Nat.{_+_, _≤_};
 ghost use lib.ListN.{length};
 ghost use Rattle.field.specs.Put.{put};
-ghost use Rattle.plan_format.specs.Format.{size, behind, batchForm, jobForm, passesForm};
+ghost use Rattle.plan_format.specs.Format.{sizeOf, offsetOf, batchForm, jobForm, passesForm};
 ghost use Rattle.rules.specs.Plan.{batchBytes, jobBytes, passesBytes};
 ghost use Rattle.plan_fields.specs.Stored.{stripBytes, batch, job, passes, batchIn, jobIn, passesIn, membersTo, BatchLists, JobLists, PassLists};
 use crate::tag::put_tag;
@@ -28,7 +28,7 @@ use sheet::tags::PLAN_BLOCK;
 use sheet::tags::PLAN_STRIP;
 
 fn put_batch(d: &mut [u8], at: usize, last: u64, start: u64, finish: u64)
-    requires { ⌜ at + size batchForm ≤ length (now d) ⌝ }
+    requires { ⌜ at + sizeOf batchForm ≤ length (now d) ⌝ }
     ensures { λ _. ⌜ now (d .exit) ≡ put (now (d .entry)) at (batchBytes (batch last start finish)) ⌝ }
 {
     put_tag(d, at, PLAN_BATCH, BATCH_LENGTH);
@@ -58,7 +58,7 @@ pub fn put_batches<'a>(
 
 // The field of a job as far as its number within the desk.
 fn put_strip(d: &mut [u8], at: usize, desk: u64, number: u64)
-    requires { ⌜ at + behind jobForm 2 ≤ length (now d) ⌝ }
+    requires { ⌜ at + offsetOf jobForm 2 ≤ length (now d) ⌝ }
     ensures { λ _. ⌜ now (d .exit) ≡ put (now (d .entry)) at (stripBytes desk number) ⌝ }
 {
     put_tag(d, at, PLAN_STRIP, JOB_LENGTH);
@@ -67,7 +67,7 @@ fn put_strip(d: &mut [u8], at: usize, desk: u64, number: u64)
 }
 
 fn put_job(d: &mut [u8], at: usize, desk: u64, number: u64, scan: u64, start: u64)
-    requires { ⌜ at + size jobForm ≤ length (now d) ⌝ }
+    requires { ⌜ at + sizeOf jobForm ≤ length (now d) ⌝ }
     ensures { λ _. ⌜ now (d .exit) ≡ put (now (d .entry)) at (jobBytes (job desk number scan start)) ⌝ }
 {
     put_strip(d, at, desk, number);
@@ -96,7 +96,7 @@ pub fn put_jobs<'a>(
 }
 
 fn put_passes(d: &mut [u8], at: usize, first: u64, second: u64)
-    requires { ⌜ at + size passesForm ≤ length (now d) ⌝ }
+    requires { ⌜ at + sizeOf passesForm ≤ length (now d) ⌝ }
     ensures { λ _. ⌜ now (d .exit) ≡ put (now (d .entry)) at (passesBytes (passes first second)) ⌝ }
 {
     put_tag(d, at, PLAN_BLOCK, PASSES_LENGTH);

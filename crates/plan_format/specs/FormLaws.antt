@@ -10,7 +10,7 @@ use Rattle.field.specs.Field.{fieldAt, fieldBytes}
 use Rattle.field.specs.Fields.{whole-at}
 use Rattle.field.specs.Numbers.{length-bytes}
 use Rattle.field.specs.declared.Field.the-variants.{Whole}
-use Rattle.plan_format.specs.Format.{Form, widthsSum, contentLength, size, numbersBytes, formBytes, numbersFrom, valuesFrom, EachFits}
+use Rattle.plan_format.specs.Format.{Form, widthsSum, contentLength, sizeOf, numbersBytes, formBytes, numbersFrom, valuesFrom, EachFits}
 use Rattle.plan_format.specs.ByteLaws.{AreBytes, number-back, number-then, length-field, field-written, field-stands}
 
 -- as many numbers as widths
@@ -25,7 +25,7 @@ length-numbers (w ∷ ws) [] e = absurd (omega arith)
 length-numbers (w ∷ ws) (v ∷ vs) e =
     length-append (bytesOf w v) (numbersBytes ws vs) ∙ ap₂ _+_ (length-bytes w v) (length-numbers ws vs (omega arith))
 
-pub length-form : (f : Form) (vs : List ℕ) → length (f .widths) ≡ length vs → length (formBytes f vs) ≡ size f
+pub length-form : (f : Form) (vs : List ℕ) → length (f .widths) ≡ length vs → length (formBytes f vs) ≡ sizeOf f
 unfolding formBytes
 length-form f vs e = length-field (f .tag) (numbersBytes (f .widths) vs) ∙ ap (λ (n : ℕ). 3 + n) (length-numbers (f .widths) vs e)
 
@@ -70,7 +70,7 @@ module _ (s : List ℕ) (b : AreBytes s) where
       number-then s b (at + skip) w (widthsSum ws) (at + (skip + w)) (omega arith) (omega arith)
       ∙ ap (λ (l : List ℕ). bytesOf w (numberAt s (at + skip) w) ++ l) (numbers-stand ws at (skip + w) (omega arith))
 
-  pub form-stands : (f : Form) (at : ℕ) → fieldAt s at ≡ Whole (f .tag) (contentLength f) → take (size f) (drop at s) ≡ formBytes f (valuesFrom f s at)
+  pub form-stands : (f : Form) (at : ℕ) → fieldAt s at ≡ Whole (f .tag) (contentLength f) → take (sizeOf f) (drop at s) ≡ formBytes f (valuesFrom f s at)
   unfolding formBytes
   form-stands f at e =
       field-stands s b at (f .tag) (contentLength f) e

@@ -48,15 +48,15 @@ abbrev pub contentLength : Form → ℕ
 contentLength f = widthsSum (f .widths)
 
 -- "A field is a one-byte tag, a two-byte content length and the content."
-abbrev pub size : Form → ℕ
-size f = 3 + contentLength f
+abbrev pub sizeOf : Form → ℕ
+sizeOf f = 3 + contentLength f
 
 -- the width of number i of a field, from 0, and how far behind the tag it stands
-abbrev pub width : Form → ℕ → ℕ
-width f i = getD (f .widths) i 0
+abbrev pub widthOf : Form → ℕ → ℕ
+widthOf f i = getD (f .widths) i 0
 
-abbrev pub behind : Form → ℕ → ℕ
-behind f i = 3 + widthsSum (take i (f .widths))
+abbrev pub offsetOf : Form → ℕ → ℕ
+offsetOf f i = 3 + widthsSum (take i (f .widths))
 
 -- the bytes of numbers, each in its width
 unfoldable pub numbersBytes : List ℕ → List ℕ → List ℕ

@@ -22,9 +22,13 @@ pub const REFUSAL_WIDTH: usize = 2;
 pub const PLACE_WIDTH: usize = 4;
 
 // The heads of a mosaic and of a sorting: the figure.
-pub const FIGURE_HEAD_LENGTH: usize = FIGURE_WIDTH;
+pub const MOSAIC_HEAD_LENGTH: usize = FIGURE_WIDTH;
 
-pub const FIGURE_HEAD_SIZE: usize = CONTENT + FIGURE_HEAD_LENGTH;
+pub const MOSAIC_HEAD_SIZE: usize = CONTENT + MOSAIC_HEAD_LENGTH;
+
+pub const SORTING_HEAD_LENGTH: usize = FIGURE_WIDTH;
+
+pub const SORTING_HEAD_SIZE: usize = CONTENT + SORTING_HEAD_LENGTH;
 
 // A batch: its last strip, its mount's start, its finish.
 pub const BATCH_START: usize = CONTENT + NUMBER_WIDTH;

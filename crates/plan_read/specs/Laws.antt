@@ -8,7 +8,7 @@ use native.Mathlib.Omega.{arith}
 use lib.ListN.{length, getD}
 use Rattle.field.specs.Bytes.{NumberRead}
 use Rattle.field.specs.Numbers.{past-read}
-use Rattle.plan_format.specs.Format.{Form, width, behind, valuesFrom, EachFits, mosaicHeadForm, batchForm, sortingHeadForm, jobForm, flightHeadForm, passesForm}
+use Rattle.plan_format.specs.Format.{Form, widthOf, offsetOf, valuesFrom, EachFits, mosaicHeadForm, batchForm, sortingHeadForm, jobForm, flightHeadForm, passesForm}
 use Rattle.rules.specs.Plan.{batchValues, jobValues, passesValues}
 use Rattle.rules.specs.declared.Batch.{Batch}
 use Rattle.rules.specs.declared.Job.{Job}
@@ -20,42 +20,42 @@ pub past-behind : (plan : List ℕ) (at skip width : ℕ) → length plan ≤ at
 past-behind plan at skip width h = past-read plan (at + skip) width (omega arith)
 
 module _ (plan : List ℕ) (at : ℕ) where
-  pub batch-read : (last start finish : ℕ) → NumberRead plan (at + behind batchForm 0) (width batchForm 0) last
-      → NumberRead plan (at + behind batchForm 1) (width batchForm 1) start
-      → NumberRead plan (at + behind batchForm 2) (width batchForm 2) finish
+  pub batch-read : (last start finish : ℕ) → NumberRead plan (at + offsetOf batchForm 0) (widthOf batchForm 0) last
+      → NumberRead plan (at + offsetOf batchForm 1) (widthOf batchForm 1) start
+      → NumberRead plan (at + offsetOf batchForm 2) (widthOf batchForm 2) finish
       → BatchRead plan at (record { last = last; start = start; finish = finish })
   unfolding batchFrom
   batch-read last start finish a b c = record { is = rw (a .is, b .is, c .is); fits = record { last = a .fits; start = b .fits; finish = c .fits } }
 
-  pub job-read : (desk number scan start : ℕ) → NumberRead plan (at + behind jobForm 0) (width jobForm 0) desk
-      → NumberRead plan (at + behind jobForm 1) (width jobForm 1) number
-      → NumberRead plan (at + behind jobForm 2) (width jobForm 2) scan
-      → NumberRead plan (at + behind jobForm 3) (width jobForm 3) start
+  pub job-read : (desk number scan start : ℕ) → NumberRead plan (at + offsetOf jobForm 0) (widthOf jobForm 0) desk
+      → NumberRead plan (at + offsetOf jobForm 1) (widthOf jobForm 1) number
+      → NumberRead plan (at + offsetOf jobForm 2) (widthOf jobForm 2) scan
+      → NumberRead plan (at + offsetOf jobForm 3) (widthOf jobForm 3) start
       → JobRead plan at (record { desk = desk; number = number; scan = scan; start = start })
   unfolding jobFrom
   job-read desk number scan start a b c d =
       record { is = rw (a .is, b .is, c .is, d .is); fits = record { desk = a .fits; number = b .fits; scan = c .fits; start = d .fits } }
 
-  pub passes-read : (first second : ℕ) → NumberRead plan (at + behind passesForm 0) (width passesForm 0) first
-      → NumberRead plan (at + behind passesForm 1) (width passesForm 1) second
+  pub passes-read : (first second : ℕ) → NumberRead plan (at + offsetOf passesForm 0) (widthOf passesForm 0) first
+      → NumberRead plan (at + offsetOf passesForm 1) (widthOf passesForm 1) second
       → PassesRead plan at (record { first = first; second = second })
   unfolding passesFrom
   passes-read first second a b = record { is = rw (a .is, b .is); fits = record { first = a .fits; second = b .fits } }
 
   module _ (value : ℕ) where
-    pub mosaic-figure-read : NumberRead plan (at + behind mosaicHeadForm 0) (width mosaicHeadForm 0) value → value ≡ figureFrom mosaicHeadForm plan at
+    pub mosaic-figure-read : NumberRead plan (at + offsetOf mosaicHeadForm 0) (widthOf mosaicHeadForm 0) value → value ≡ figureFrom mosaicHeadForm plan at
     unfolding figureFrom
     mosaic-figure-read r = r .is
 
-    pub sorting-figure-read : NumberRead plan (at + behind sortingHeadForm 0) (width sortingHeadForm 0) value → value ≡ figureFrom sortingHeadForm plan at
+    pub sorting-figure-read : NumberRead plan (at + offsetOf sortingHeadForm 0) (widthOf sortingHeadForm 0) value → value ≡ figureFrom sortingHeadForm plan at
     unfolding figureFrom
     sorting-figure-read r = r .is
 
-    pub flight-figure-read : NumberRead plan (at + behind flightHeadForm 0) (width flightHeadForm 0) value → value ≡ figureFrom flightHeadForm plan at
+    pub flight-figure-read : NumberRead plan (at + offsetOf flightHeadForm 0) (widthOf flightHeadForm 0) value → value ≡ figureFrom flightHeadForm plan at
     unfolding figureFrom
     flight-figure-read r = r .is
 
-    pub order-read : NumberRead plan (at + behind flightHeadForm 1) (width flightHeadForm 1) value → value ≡ orderFrom plan at
+    pub order-read : NumberRead plan (at + offsetOf flightHeadForm 1) (widthOf flightHeadForm 1) value → value ≡ orderFrom plan at
     unfolding orderFrom
     order-read r = r .is
 

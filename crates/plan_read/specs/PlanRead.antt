@@ -3,7 +3,7 @@ use Prim.Native.Nat.{ℕ, zero, suc, _+_, _*_, _^_, _<_}
 use mathlib.Core.Path.{_≡_}
 use mathlib.Core.List.{List, [], _∷_}
 use lib.ListN.{getD}
-use Rattle.plan_format.specs.Format.{Form, size, width, valuesFrom, batchForm, jobForm, flightHeadForm, passesForm}
+use Rattle.plan_format.specs.Format.{Form, sizeOf, widthOf, valuesFrom, batchForm, jobForm, flightHeadForm, passesForm}
 use Rattle.rules.specs.declared.Batch.{Batch}
 use Rattle.rules.specs.declared.Job.{Job}
 use Rattle.rules.specs.declared.Passes.{Passes}
@@ -41,29 +41,29 @@ membersFrom read size plan at zero = []
 membersFrom read size plan at (suc n) = read plan at ∷ membersFrom read size plan (at + size) n
 
 abbrev pub batchesFrom : List ℕ → ℕ → ℕ → List Batch
-batchesFrom plan at n = membersFrom batchFrom (size batchForm) plan at n
+batchesFrom plan at n = membersFrom batchFrom (sizeOf batchForm) plan at n
 
 abbrev pub jobsFrom : List ℕ → ℕ → ℕ → List Job
-jobsFrom plan at n = membersFrom jobFrom (size jobForm) plan at n
+jobsFrom plan at n = membersFrom jobFrom (sizeOf jobForm) plan at n
 
 abbrev pub blocksFrom : List ℕ → ℕ → ℕ → List Passes
-blocksFrom plan at n = membersFrom passesFrom (size passesForm) plan at n
+blocksFrom plan at n = membersFrom passesFrom (sizeOf passesForm) plan at n
 
 -- members whose values fit their widths
 pub record BatchFits (b : Batch) : Type 0 where
-  pub last : b .last < 2 ^ (8 * width batchForm 0)
-  pub start : b .start < 2 ^ (8 * width batchForm 1)
-  pub finish : b .finish < 2 ^ (8 * width batchForm 2)
+  pub last : b .last < 2 ^ (8 * widthOf batchForm 0)
+  pub start : b .start < 2 ^ (8 * widthOf batchForm 1)
+  pub finish : b .finish < 2 ^ (8 * widthOf batchForm 2)
 
 pub record JobFits (j : Job) : Type 0 where
-  pub desk : j .desk < 2 ^ (8 * width jobForm 0)
-  pub number : j .number < 2 ^ (8 * width jobForm 1)
-  pub scan : j .scan < 2 ^ (8 * width jobForm 2)
-  pub start : j .start < 2 ^ (8 * width jobForm 3)
+  pub desk : j .desk < 2 ^ (8 * widthOf jobForm 0)
+  pub number : j .number < 2 ^ (8 * widthOf jobForm 1)
+  pub scan : j .scan < 2 ^ (8 * widthOf jobForm 2)
+  pub start : j .start < 2 ^ (8 * widthOf jobForm 3)
 
 pub record PassesFits (p : Passes) : Type 0 where
-  pub first : p .first < 2 ^ (8 * width passesForm 0)
-  pub second : p .second < 2 ^ (8 * width passesForm 1)
+  pub first : p .first < 2 ^ (8 * widthOf passesForm 0)
+  pub second : p .second < 2 ^ (8 * widthOf passesForm 1)
 
 -- what reading a member answers: the member, whose values fit their widths
 pub record BatchRead (plan : List ℕ) (at : ℕ) (b : Batch) : Type 0 where

@@ -9,7 +9,7 @@ use Rattle.mosaic.specs.Plan.{batchesOf, batchesIn}
 use Rattle.mosaic.specs.declared.MosaicPlan.{MosaicPlan}
 use Rattle.sorting.specs.Plan.{jobsOfPlan, listed}
 use Rattle.sorting.specs.declared.SortingPlan.{SortingPlan}
-use Rattle.flight.specs.Choice.{passesOf}
+use Rattle.flight.specs.Choice.{passesOfPlan}
 use Rattle.flight.specs.declared.FlightPlan.{FlightPlan}
 use Rattle.flight_order.specs.Timetable.{listOf}
 use Rattle.plan_fields.specs.Stored.{batchIn, jobIn, passesIn, membersTo}
@@ -62,6 +62,6 @@ passes-listed zero member = refl
 passes-listed (suc n) member =
     ap (λ (l : List ℕ). passesBytes (member 0) ++ l) (passes-listed n (λ i. member (suc i))) ∙ sym (members-first passesBytes member n)
 
-pub passes-bytes : (n : ℕ) (p : FlightPlan) → membersBytes passesBytes (passesOf n p) ≡ membersTo passesBytes (passesIn (p .first) (p .second)) n
-unfolding passesOf passesIn
+pub passes-bytes : (n : ℕ) (p : FlightPlan) → membersBytes passesBytes (passesOfPlan n p) ≡ membersTo passesBytes (passesIn (p .first) (p .second)) n
+unfolding passesOfPlan passesIn
 passes-bytes n p = passes-listed n (passesIn (p .first) (p .second))

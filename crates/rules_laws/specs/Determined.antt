@@ -12,7 +12,7 @@ use borrow.Author.Tests.{lt-ltb}
 use Rattle.sheet.specs.Limits.{planLength}
 use Rattle.sheet.specs.Sound.{SheetSound, stripsInAll}
 use Rattle.sheet.specs.declared.Sheet.{Sheet}
-use Rattle.plan_format.specs.Format.{size, mosaicHeadForm, batchForm, sortingHeadForm, jobForm, flightHeadForm, passesForm}
+use Rattle.plan_format.specs.Format.{sizeOf, mosaicHeadForm, batchForm, sortingHeadForm, jobForm, flightHeadForm, passesForm}
 use Rattle.rules.specs.Mosaic.{mosaicFigure}
 use Rattle.rules.specs.Sorting.{sortingFigure}
 use Rattle.rules.specs.Flight.{flightFigure}
@@ -91,31 +91,31 @@ module _ (s : Sheet) (sound : SheetSound s) where
           sound .flight .most-blocks,
         )
 
-    pub sorting-size : length (sortingOf s p) ≡ cond (ltb 0 (stripsInAll (s .sorting))) (size sortingHeadForm + size jobForm * stripsInAll (s .sorting)) 0
+    pub sorting-size : length (sortingOf s p) ≡ cond (ltb 0 (stripsInAll (s .sorting))) (sizeOf sortingHeadForm + sizeOf jobForm * stripsInAll (s .sorting)) 0
     sorting-size =
         present-length (stripsInAll (s .sorting)) (sortingBytes (sortingFigure (s .sorting) (p .jobs)) (p .jobs))
         ∙ ap (λ (k : ℕ). cond (ltb 0 (stripsInAll (s .sorting))) k 0)
-        (length-sorting (sortingFigure (s .sorting) (p .jobs)) (p .jobs) ∙ ap (λ (k : ℕ). size sortingHeadForm + size jobForm * k) (jobs-all (s .sorting) (p .jobs) (sound .sorting) (L .sorting)))
+        (length-sorting (sortingFigure (s .sorting) (p .jobs)) (p .jobs) ∙ ap (λ (k : ℕ). sizeOf sortingHeadForm + sizeOf jobForm * k) (jobs-all (s .sorting) (p .jobs) (sound .sorting) (L .sorting)))
 
-    pub flight-size : length (flightOf s p) ≡ cond (ltb 0 (s .flight .blocks)) (size flightHeadForm + size passesForm * s .flight .blocks) 0
+    pub flight-size : length (flightOf s p) ≡ cond (ltb 0 (s .flight .blocks)) (sizeOf flightHeadForm + sizeOf passesForm * s .flight .blocks) 0
     flight-size =
         present-length (s .flight .blocks) (flightBytes (flightFigure (s .flight) (p .passes)) (p .order) (p .passes))
         ∙ ap (λ (k : ℕ). cond (ltb 0 (s .flight .blocks)) k 0)
-        (length-flight (flightFigure (s .flight) (p .passes)) (p .order) (p .passes) ∙ ap (λ (k : ℕ). size flightHeadForm + size passesForm * k) (L .flight .every-block))
+        (length-flight (flightFigure (s .flight) (p .passes)) (p .order) (p .passes) ∙ ap (λ (k : ℕ). sizeOf flightHeadForm + sizeOf passesForm * k) (L .flight .every-block))
 
-    pub mosaic-size : 0 < s .mosaic .strips → length (mosaicOf s p) ≡ size mosaicHeadForm + size batchForm * length (p .batches)
+    pub mosaic-size : 0 < s .mosaic .strips → length (mosaicOf s p) ≡ sizeOf mosaicHeadForm + sizeOf batchForm * length (p .batches)
     mosaic-size h = ap length (present-some (s .mosaic .strips) (mosaicBytes (mosaicFigure (s .mosaic) (p .batches)) (p .batches)) h) ∙ length-mosaic (mosaicFigure (s .mosaic) (p .batches)) (p .batches)
 
-    pub batches-read : 0 < s .mosaic .strips → batchesFrom (planBytes s p) (size mosaicHeadForm) (length (p .batches)) ≡ p .batches
+    pub batches-read : 0 < s .mosaic .strips → batchesFrom (planBytes s p) (sizeOf mosaicHeadForm) (length (p .batches)) ≡ p .batches
     batches-read h =
-        ap (λ (l : List ℕ). batchesFrom l (size mosaicHeadForm) (length (p .batches)))
+        ap (λ (l : List ℕ). batchesFrom l (sizeOf mosaicHeadForm) (length (p .batches)))
         (plan-is s p ∙ append-assoc (mosaicOf s p) (sortingOf s p) (flightOf s p)
         ∙ ap (λ (l : List ℕ). l ++ (sortingOf s p ++ flightOf s p)) (present-some (s .mosaic .strips) (mosaicBytes (mosaicFigure (s .mosaic) (p .batches)) (p .batches)) h))
         ∙ mosaic-back (mosaicFigure (s .mosaic) (p .batches)) (p .batches) [] (sortingOf s p ++ flightOf s p) (batch-fits (s .mosaic) (p .batches) (sound .mosaic) (L .mosaic))
 
-    pub jobs-read : 0 < stripsInAll (s .sorting) → jobsFrom (planBytes s p) (length (mosaicOf s p) + size sortingHeadForm) (length (p .jobs)) ≡ p .jobs
+    pub jobs-read : 0 < stripsInAll (s .sorting) → jobsFrom (planBytes s p) (length (mosaicOf s p) + sizeOf sortingHeadForm) (length (p .jobs)) ≡ p .jobs
     jobs-read h =
-        ap (λ (l : List ℕ). jobsFrom l (length (mosaicOf s p) + size sortingHeadForm) (length (p .jobs)))
+        ap (λ (l : List ℕ). jobsFrom l (length (mosaicOf s p) + sizeOf sortingHeadForm) (length (p .jobs)))
         (plan-is s p ∙ ap (λ (l : List ℕ). mosaicOf s p ++ l ++ flightOf s p) (present-some (stripsInAll (s .sorting)) (sortingBytes (sortingFigure (s .sorting) (p .jobs)) (p .jobs)) h))
         ∙ sorting-back (sortingFigure (s .sorting) (p .jobs)) (p .jobs) (mosaicOf s p) (flightOf s p) (job-fits (s .sorting) (p .jobs) (sound .sorting) (L .sorting))
 
@@ -125,9 +125,9 @@ module _ (s : Sheet) (sound : SheetSound s) where
         ∙ ap (λ (l : List ℕ). mosaicOf s p ++ sortingOf s p ++ l) (present-some (s .flight .blocks) (flightBytes (flightFigure (s .flight) (p .passes)) (p .order) (p .passes)) h)
         ∙ sym (append-nil (mosaicOf s p ++ sortingOf s p ++ flightBytes (flightFigure (s .flight) (p .passes)) (p .order) (p .passes)))
 
-    pub passes-read : 0 < s .flight .blocks → blocksFrom (planBytes s p) (length (mosaicOf s p ++ sortingOf s p) + size flightHeadForm) (length (p .passes)) ≡ p .passes
+    pub passes-read : 0 < s .flight .blocks → blocksFrom (planBytes s p) (length (mosaicOf s p ++ sortingOf s p) + sizeOf flightHeadForm) (length (p .passes)) ≡ p .passes
     passes-read h =
-        ap (λ (l : List ℕ). blocksFrom l (length (mosaicOf s p ++ sortingOf s p) + size flightHeadForm) (length (p .passes))) (flight-last h)
+        ap (λ (l : List ℕ). blocksFrom l (length (mosaicOf s p ++ sortingOf s p) + sizeOf flightHeadForm) (length (p .passes))) (flight-last h)
         ∙ flight-back (flightFigure (s .flight) (p .passes)) (p .order) (p .passes) (mosaicOf s p ++ sortingOf s p) [] (passes-fits (s .flight) (p .passes) (sound .flight) (L .flight))
 
     pub order-read : 0 < s .flight .blocks → orderFrom (planBytes s p) (length (mosaicOf s p ++ sortingOf s p)) ≡ p .order
@@ -163,7 +163,7 @@ module _ (s : Sheet) (sound : SheetSound s) where
         count h = omega (arith, mosaic-size p P h, mosaic-size q Q h, same-mosaic)
 
         go : Dec (0 < s .mosaic .strips) → p .batches ≡ q .batches
-        go (yes h) = sym (batches-read p P h) ∙ ap₂ (λ (l : List ℕ) (n : ℕ). batchesFrom l (size mosaicHeadForm) n) same (count h) ∙ batches-read q Q h
+        go (yes h) = sym (batches-read p P h) ∙ ap₂ (λ (l : List ℕ) (n : ℕ). batchesFrom l (sizeOf mosaicHeadForm) n) same (count h) ∙ batches-read q Q h
         go (no h) =
             both-none (p .batches) (q .batches)
             (omega (arith, h, batches-most (s .mosaic) (p .batches) (sound .mosaic) (P .mosaic)))
@@ -181,8 +181,8 @@ module _ (s : Sheet) (sound : SheetSound s) where
         go : Dec (0 < stripsInAll (s .sorting)) → p .jobs ≡ q .jobs
         go (yes h) =
             sym (jobs-read p P h)
-            ∙ ap₂ (λ (l : List ℕ) (k : ℕ). jobsFrom l (k + size sortingHeadForm) (length (p .jobs))) same same-mosaic
-            ∙ ap (jobsFrom (planBytes s q) (length (mosaicOf s q) + size sortingHeadForm)) (countP ∙ sym countQ)
+            ∙ ap₂ (λ (l : List ℕ) (k : ℕ). jobsFrom l (k + sizeOf sortingHeadForm) (length (p .jobs))) same same-mosaic
+            ∙ ap (jobsFrom (planBytes s q) (length (mosaicOf s q) + sizeOf sortingHeadForm)) (countP ∙ sym countQ)
             ∙ jobs-read q Q h
         go (no h) = both-none (p .jobs) (q .jobs) (omega (arith, h, countP)) (omega (arith, h, countQ))
 
@@ -192,8 +192,8 @@ module _ (s : Sheet) (sound : SheetSound s) where
         go : Dec (0 < s .flight .blocks) → p .passes ≡ q .passes
         go (yes h) =
             sym (passes-read p P h)
-            ∙ ap₂ (λ (l : List ℕ) (k : ℕ). blocksFrom l (k + size flightHeadForm) (length (p .passes))) same same-front
-            ∙ ap (blocksFrom (planBytes s q) (length (mosaicOf s q ++ sortingOf s q) + size flightHeadForm)) (P .flight .every-block ∙ sym (Q .flight .every-block))
+            ∙ ap₂ (λ (l : List ℕ) (k : ℕ). blocksFrom l (k + sizeOf flightHeadForm) (length (p .passes))) same same-front
+            ∙ ap (blocksFrom (planBytes s q) (length (mosaicOf s q ++ sortingOf s q) + sizeOf flightHeadForm)) (P .flight .every-block ∙ sym (Q .flight .every-block))
             ∙ passes-read q Q h
         go (no h) = both-none (p .passes) (q .passes) (omega (arith, h, P .flight .every-block)) (omega (arith, h, Q .flight .every-block))
 

@@ -20,7 +20,7 @@ use Rattle.rules.specs.Mosaic.{benchSum, noBatch, batchAt, batchBefore, MosaicL
 use Rattle.rules.specs.Sorting.{stripsOf, slot, deskTime, scanEnd, deskFinish, jobAt, jobsOf, SortingLawful, sortingFigure}
 use Rattle.rules.specs.Flight.{passesAt, passEnd, FlightLawful, OrderAllowed, flightFigure}
 use Rattle.running.specs.Running.{BatchFollows, MosaicRuns, none, more}
-use Rattle.plan_format.specs.Format.{width, EachFits, mosaicHeadForm, sortingHeadForm, flightHeadForm}
+use Rattle.plan_format.specs.Format.{widthOf, EachFits, mosaicHeadForm, sortingHeadForm, flightHeadForm}
 use Rattle.plan_read.specs.PlanRead.{BatchFits, JobFits, PassesFits}
 use Rattle.rules.specs.declared.Batch.{Batch}
 use Rattle.rules.specs.declared.Job.{Job}
@@ -85,7 +85,7 @@ module _ (m : MosaicSection) (bs : List Batch) (sound : MosaicSound m) (L : Mosa
 
   pub mosaic-head-fits : EachFits (mosaicHeadForm .widths) (mosaicFigure m bs ∷ [])
   mosaic-head-fits =
-      let h : mosaicFigure m bs < 2 ^ (8 * width mosaicHeadForm 0) = omega (arith, mosaic-figure-most) in
+      let h : mosaicFigure m bs < 2 ^ (8 * widthOf mosaicHeadForm 0) = omega (arith, mosaic-figure-most) in
       EachFits.more h EachFits.none
 
 -- The sorting.
@@ -167,11 +167,11 @@ module _ (s : SortingSection) (js : List Job) (sound : SortingSound s) (L : Sort
 
   pub sorting-head-fits : EachFits (sortingHeadForm .widths) (sortingFigure s js ∷ [])
   sorting-head-fits =
-      let h : sortingFigure s js < 2 ^ (8 * width sortingHeadForm 0) = omega (arith, sorting-figure-most) in
+      let h : sortingFigure s js < 2 ^ (8 * widthOf sortingHeadForm 0) = omega (arith, sorting-figure-most) in
       EachFits.more h EachFits.none
 
 -- The flight.
-pub order-fits : (f : FlightSection) (order : ℕ) → FlightSound f → OrderAllowed f order → order < 2 ^ (8 * width flightHeadForm 1)
+pub order-fits : (f : FlightSection) (order : ℕ) → FlightSound f → OrderAllowed f order → order < 2 ^ (8 * widthOf flightHeadForm 1)
 order-fits f order sound allowed = proper-fits (allowed .proper) (sound .most-blocks)
 
 module _ (f : FlightSection) (ps : List Passes) (sound : FlightSound f) (L : FlightLawful f ps) where
@@ -195,5 +195,5 @@ module _ (f : FlightSection) (ps : List Passes) (sound : FlightSound f) (L : Fli
 
   pub flight-head-fits : (order : ℕ) → OrderAllowed f order → EachFits (flightHeadForm .widths) (flightFigure f ps ∷ order ∷ [])
   flight-head-fits order allowed =
-      let h : flightFigure f ps < 2 ^ (8 * width flightHeadForm 0) = omega (arith, flight-figure-most) in
+      let h : flightFigure f ps < 2 ^ (8 * widthOf flightHeadForm 0) = omega (arith, flight-figure-most) in
       EachFits.more h (EachFits.more (order-fits f order sound allowed) EachFits.none)

@@ -8,7 +8,7 @@ use lib.ListN.{length, getD, take, drop}
 use Rattle.field.specs.Field.{fieldAt}
 use Rattle.field.specs.declared.Field.the-variants.{Whole}
 use Rattle.plan_format.specs.ByteLaws.{AreBytes}
-use Rattle.plan_format.specs.Format.{Form, contentLength, size, formBytes, valuesFrom, EachFits, mosaicHeadForm, batchForm, sortingHeadForm, jobForm, flightHeadForm, passesForm}
+use Rattle.plan_format.specs.Format.{Form, contentLength, sizeOf, formBytes, valuesFrom, EachFits, mosaicHeadForm, batchForm, sortingHeadForm, jobForm, flightHeadForm, passesForm}
 use Rattle.plan_format.specs.FormLaws.{form-back, form-stands}
 use Rattle.rules.specs.Plan.{batchValues, batchBytes, jobValues, jobBytes, passesValues, passesBytes}
 use Rattle.rules.specs.declared.Batch.{Batch}
@@ -94,16 +94,16 @@ module _ (pre post : List ℕ) where
 -- a head that is found is what is read from it
 module _ (plan : List ℕ) (b : AreBytes plan) (at : ℕ) where
   pub mosaic-head-stands : fieldAt plan at ≡ Whole (mosaicHeadForm .tag) (contentLength mosaicHeadForm)
-      → take (size mosaicHeadForm) (drop at plan) ≡ formBytes mosaicHeadForm (figureFrom mosaicHeadForm plan at ∷ [])
+      → take (sizeOf mosaicHeadForm) (drop at plan) ≡ formBytes mosaicHeadForm (figureFrom mosaicHeadForm plan at ∷ [])
   unfolding figureFrom
   mosaic-head-stands e = form-stands plan b mosaicHeadForm at e
 
   pub sorting-head-stands : fieldAt plan at ≡ Whole (sortingHeadForm .tag) (contentLength sortingHeadForm)
-      → take (size sortingHeadForm) (drop at plan) ≡ formBytes sortingHeadForm (figureFrom sortingHeadForm plan at ∷ [])
+      → take (sizeOf sortingHeadForm) (drop at plan) ≡ formBytes sortingHeadForm (figureFrom sortingHeadForm plan at ∷ [])
   unfolding figureFrom
   sorting-head-stands e = form-stands plan b sortingHeadForm at e
 
   pub flight-head-stands : fieldAt plan at ≡ Whole (flightHeadForm .tag) (contentLength flightHeadForm)
-      → take (size flightHeadForm) (drop at plan) ≡ formBytes flightHeadForm (figureFrom flightHeadForm plan at ∷ orderFrom plan at ∷ [])
+      → take (sizeOf flightHeadForm) (drop at plan) ≡ formBytes flightHeadForm (figureFrom flightHeadForm plan at ∷ orderFrom plan at ∷ [])
   unfolding figureFrom orderFrom
   flight-head-stands e = form-stands plan b flightHeadForm at e

@@ -32,7 +32,7 @@ use Rattle.sorting.specs.Plan.{instanceOf as sortingInstance, listedDesk, reach
 use Rattle.interleaving.specs.Search.{maxOf, stepOf, keep, overDesks, branch, searchFrom, startState, firstBest}
 use Rattle.difference.specs.System.{relax, relaxed, rounds, holds, leastValues, solvable}
 use Rattle.flight_order.specs.Constraints.{passOf, timeOf, constraintOf, leastStarts, possibleIn, orderFigure}
-use Rattle.flight_order.specs.Timetable.{listOf, passesFrom, leastPasses}
+use Rattle.flight_order.specs.Timetable.{listOf, passesByStart, leastPasses}
 use Rattle.flight_search.specs.Search.{improves, tried, searched}
 use Rattle.flight_search.specs.Orders.{ordersOf}
 use Rattle.flight.specs.Choice.{chosenOrder, isPossible, chosenPasses}
@@ -94,7 +94,7 @@ all-say [] c = tt
 all-say (r ∷ rs) c = (says (r .sheet) (r .claim) (c .0), all-say rs (c .1))
 
 computed : All Computed table × FirstCase
-unfolding readyTimes isPlan figuresOf seconds firsts neverMoreSeconds isProper numberAt bytesOf fieldAt fieldBytes check endsSection sectionFilled fewBlocks orderGiven orderPermitted permitted lengthDue between mosaicHeadInRange stationTimesInRange mosaicStripInRange sortingStripInRange flightBlockInRange inRange hasRoom stripsOfDesk orderProper zeros noMosaic noSorting noFlight withMosaicHead withStationTimes withMosaicStrip withSortingHead withStripAt withSortingStrip withBlock withOrder nextMosaic nextSorting nextFlight nextSection nextMembers nextHead nextReading startReading contentNumber fieldNumber endNumber placeOf refused accepted atEnd readFrom readSheet stripsInAll sumOver greatestOver stationSum ready benchSum noBatch batchAt batchBefore batchSize completion ruleMosaicFigure stripsOf slot scanTime deskTime scanEnd deskFinish noJob jobAt jobsOf ruleSortingFigure noPasses passesAt passStart passTime passEnd passAt ruleFlightFigure allBelow batchTest isMosaic jobTest jobsTest isSorting blockTest apartTest isFlight startTest keepsOrder mayHaveOrder membersBytes batchBytes mosaicBytes jobBytes sortingBytes passesBytes flightBytes ifPresent planBytes mountStart benchStart finishOf leastOpen leastFrom weightOf weightSum instanceOf batchOf chosenOpen chosenFrom chosenBatches sortingInstance listedDesk reached jobOf listed jobsOfList chosenJobs maxOf stepOf keep overDesks branch searchFrom startState firstBest relax relaxed rounds holds leastValues solvable passOf timeOf constraintOf leastStarts possibleIn orderFigure listOf passesFrom leastPasses improves tried searched ordersOf chosenOrder isPossible chosenPasses chosenPlan sheetAnswer sheetPlan answerOf plannedBytes figureOfMosaic figureOfSorting figureOfFlight
+unfolding readyTimes isPlan figuresOf seconds firsts neverMoreSeconds isProper numberAt bytesOf fieldAt fieldBytes check endsSection sectionFilled fewBlocks orderGiven orderPermitted permitted lengthDue between mosaicHeadInRange stationTimesInRange mosaicStripInRange sortingStripInRange flightBlockInRange inRange hasRoom stripsOfDesk orderProper zeros noMosaic noSorting noFlight withMosaicHead withStationTimes withMosaicStrip withSortingHead withStripAt withSortingStrip withBlock withOrder nextMosaic nextSorting nextFlight nextSection nextMembers nextHead nextReading startReading contentNumber fieldNumber endNumber placeOf refused accepted atEnd readFrom readSheet stripsInAll sumOver greatestOver stationSum ready benchSum noBatch batchAt batchBefore batchSize completion ruleMosaicFigure stripsOf slot scanTime deskTime scanEnd deskFinish noJob jobAt jobsOf ruleSortingFigure noPasses passesAt passStart passTime passEnd passAt ruleFlightFigure allBelow batchTest isMosaic jobTest jobsTest isSorting blockTest apartTest isFlight startTest keepsOrder mayHaveOrder membersBytes batchBytes mosaicBytes jobBytes sortingBytes passesBytes flightBytes ifPresent planBytes mountStart benchStart finishOf leastOpen leastFrom weightOf weightSum instanceOf batchOf chosenOpen chosenFrom chosenBatches sortingInstance listedDesk reached jobOf listed jobsOfList chosenJobs maxOf stepOf keep overDesks branch searchFrom startState firstBest relax relaxed rounds holds leastValues solvable passOf timeOf constraintOf leastStarts possibleIn orderFigure listOf passesByStart leastPasses improves tried searched ordersOf chosenOrder isPossible chosenPasses chosenPlan sheetAnswer sheetPlan answerOf plannedBytes figureOfMosaic figureOfSorting figureOfFlight
 computed = ((refl, ((refl, refl, refl, refl, refl, refl), ((refl, refl, refl), ((refl, refl, refl), ((refl, refl, refl, refl, refl, refl), ((refl, refl, refl), ((refl, refl, refl, refl, refl, refl), ((refl, refl, refl, refl), ((refl, refl, refl, refl, refl, refl), ((refl, refl, refl, refl, refl, refl), ((refl, refl, refl), ((refl, refl, refl, refl, refl, refl), ((refl, refl, refl, refl, refl, refl), tt))))))))))))), (refl, refl))
 
 -- What 01 says of the sheets that it works through.
