@@ -1,10 +1,10 @@
 // The passes of a plan's flight: whether they come in the order that its head states, one after another, and when the last one ends.
 // The first member of the flight stands at offset `at` of the plan.
+use base::greater;
 use plan_format::PASSES_SIZE;
 use plan_read::passes_from;
 use running::flight::pass_at;
 use running::flight::pass_time;
-use running::mosaic::greater;
 use sheet::FlightSection;
 ghost use mathlib.Core.Path.{_≡_};
 ghost use Prim.Native.Nat.{_+_, _-_, _*_, _<_};

@@ -153,7 +153,7 @@ module _ (s : Sheet) (plan : List ℕ) (sound : SheetSound s) where
       let o = no-order (s .flight) (sound .flight) z (s .flight .ordered) refl in
       record {
         members = λ i l. absurd (omega arith);
-        head = record { every-block = sym z; proper = o .0; as-given = o .1; in-order = λ k l. absurd (omega arith) };
+        head = record { every-block = sym z; allowed = record { proper = o .0; as-given = o .1 }; in-order = λ k l. absurd (omega arith) };
       }
 
   pub flight-read : sectionVerdict s plan 3 .number ≡ 0 → FlightRuns (s .flight) (statedOrder s plan) (statedPasses s plan)

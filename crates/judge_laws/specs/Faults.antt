@@ -8,7 +8,7 @@ use native.Mathlib.Decide.{ℕ-discrete}
 use native.Mathlib.Omega.{arith}
 use lib.Dec.{eqb}
 use borrow.Author.Tests.{ne-eqb, eqb-false}
-use Rattle.field.specs.Branch.{check}
+use Rattle.base.specs.Branch.{check}
 use Rattle.order.specs.Order.{Decides}
 use Rattle.sheet.specs.Refusals.{layoutWrong, ruleBroken, figureUntrue}
 use Rattle.sheet.specs.Read.{readSheet, refused}

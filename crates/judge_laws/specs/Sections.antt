@@ -8,7 +8,7 @@ use native.Mathlib.Decide.{ℕ-discrete}
 use native.Mathlib.Omega.{arith}
 use lib.ListN.{length}
 use borrow.Author.Tests.{eq-eqb, eqb-true}
-use Rattle.field.specs.Branch.{check, passed}
+use Rattle.base.specs.Branch.{check, passed}
 use Rattle.sheet.specs.Refusals.{ruleBroken}
 use Rattle.sheet.specs.declared.Sheet.{Sheet}
 use Rattle.sheet.specs.declared.MosaicSection.{MosaicSection}

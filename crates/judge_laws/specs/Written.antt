@@ -13,7 +13,7 @@ use Rattle.plan_format.specs.Format.{Form, sizeOf, formBytes, mosaicHeadForm, b
 use Rattle.sheet.specs.Tags.{planBatchTag, planStripTag, planBlockTag}
 use Rattle.sheet.specs.Sound.{SheetSound, stripsInAll}
 use Rattle.sheet.specs.declared.Sheet.{Sheet}
-use Rattle.rules.specs.Sums.{sumOver, greatestOver}
+use Rattle.base.specs.Sums.{sumOver, greatestOver}
 use Rattle.rules.specs.Mosaic.{noBatch, batchAt, mosaicFigure}
 use Rattle.rules.specs.Sorting.{noJob, jobAt, sortingFigure}
 use Rattle.rules.specs.Flight.{noPasses, passesAt, flightFigure}

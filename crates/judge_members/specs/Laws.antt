@@ -8,7 +8,7 @@ use native.Mathlib.Omega.{arith}
 use lib.ListN.{length, getD, set, length-set}
 use lib.Dec.{ltb, leb, eqb}
 use borrow.Author.Tests.{eq-eqb, ne-eqb, eqb-true, ltb-true, leb-true, not-true, not-false}
-use Rattle.field.specs.Branch.{both, check}
+use Rattle.base.specs.Branch.{both, check}
 use Rattle.sheet.specs.Limits.{mostStrips, mostDesks, mostStripsOfDesk, mostBlocks, ceiling}
 use Rattle.sheet.specs.Refusals.{ruleBroken, figureUntrue}
 use Rattle.sheet.specs.Sound.{SheetSound, stripsInAll}

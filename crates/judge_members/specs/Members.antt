@@ -3,7 +3,7 @@ use Prim.Native.Nat.{ℕ, _+_, _-_, _*_}
 use mathlib.Core.Bool.{Bool, cond}
 use mathlib.Core.List.{List}
 use lib.Dec.{ltb, eqb}
-use Rattle.field.specs.Branch.{check}
+use Rattle.base.specs.Branch.{check}
 use Rattle.sheet.specs.Refusals.{ruleBroken, figureUntrue}
 use Rattle.sheet.specs.Sound.{stripsInAll}
 use Rattle.sheet.specs.declared.Sheet.{Sheet}

@@ -3,7 +3,7 @@ use rules::Batch;
 use rules::Job;
 use rules::Passes;
 use running::Desks;
-use running::mosaic::bench_sum;
+use running::mosaic::finish_due;
 use running::mosaic::ready_time;
 use running::sorting::desk_time;
 use running::sorting::scan_time;
@@ -46,15 +46,13 @@ pub fn batch_follows(m: MosaicSection, before: Batch, b: Batch) -> bool
     requires { ⌜ BatchAsked m b ⌝ }
     ensures { λ r. ⌜ r ≡ batchFollows m before b ⌝ }
 {
-    let from = before.last;
     let last = b.last;
-    let start = b.start;
-    if !batch_in_run(m.strips as u64, from, last) {
+    if !batch_in_run(m.strips as u64, before.last, last) {
         return false;
     }
     let ready = ready_time(m, last as usize);
-    let due = start + m.mount + bench_sum(m, from as usize, (last - from) as usize);
-    batch_in_time(ready, before.finish, start, b.finish, due)
+    let due = finish_due(m, before, b);
+    batch_in_time(ready, before.finish, b.start, b.finish, due)
 }
 
 fn job_in_turn(desks: u64, strips: u64, done: u64, desk: u64, number: u64) -> bool

@@ -9,16 +9,16 @@ use native.Mathlib.Omega.{arith}
 use lib.ListN.{length, getD}
 use lib.Dec.{ltb, leb, eqb}
 use borrow.Author.Tests.{lt-ltb, le-leb, eq-eqb, ltb-true, leb-true, eqb-true}
-use Rattle.field.specs.Branch.{both}
+use Rattle.base.specs.Branch.{both}
 use Rattle.order.specs.Order.{isProper, Decides}
 use Rattle.order.specs.Decided.{proper-true, true-proper}
 use Rattle.sheet.specs.Limits.{ceiling}
 use Rattle.sheet.specs.declared.MosaicSection.{MosaicSection}
 use Rattle.sheet.specs.declared.SortingSection.{SortingSection}
 use Rattle.sheet.specs.declared.FlightSection.{FlightSection}
-use Rattle.rules.specs.Mosaic.{ready, benchSum, batchAt, batchBefore, batchSize, MosaicLawful}
-use Rattle.rules.specs.Sorting.{stripsOf, scanEnd, deskFinish, jobAt, jobsOf, SortingLawful}
-use Rattle.rules.specs.Flight.{passesAt, passStart, passEnd, passAt, FlightLawful, Keeps, OrderAllowed}
+use Rattle.rules.specs.Mosaic.{ready, batchAt, batchBefore, finishDue, BatchLawful, MosaicLawful}
+use Rattle.rules.specs.Sorting.{stripsOf, scanEnd, deskFinish, jobAt, jobsOf, JobLawful, SortingLawful}
+use Rattle.rules.specs.Flight.{passesAt, passStart, passEnd, secondDue, clearAt, Clear, FlightLawful, passAt, Keeps, OrderAllowed}
 use Rattle.rules.specs.declared.Batch.{Batch}
 use Rattle.rules.specs.declared.Job.{Job}
 use Rattle.rules.specs.declared.Passes.{Passes}
@@ -68,73 +68,70 @@ decides : (P : Type 0) (r : Bool) → (r ≡ true → P) → (P → r ≡ true) 
 decides P r f g = record { holds = f; fails = λ e p. true≢false (sym (g p) ∙ e) }
 
 -- The mosaic.
-unfoldable pub batchTest : MosaicSection → List Batch → ℕ → Bool
-batchTest m bs i =
-    ltb (batchBefore bs i .last) (batchAt bs i .last)
-    && (leb (ready m (batchAt bs i .last)) (batchAt bs i .start)
-    && (leb (batchBefore bs i .finish) (batchAt bs i .start)
-    && (eqb (batchAt bs i .finish) (batchAt bs i .start + m .mount + benchSum m (batchBefore bs i .last) (batchSize bs i))
-    && leb (batchAt bs i .finish) ceiling)))
+unfoldable pub batchTest : MosaicSection → Batch → Batch → Bool
+batchTest m before b =
+    ltb (before .last) (b .last)
+    && (leb (ready m (b .last)) (b .start)
+    && (leb (before .finish) (b .start)
+    && (eqb (b .finish) (finishDue m before b)
+    && leb (b .finish) ceiling)))
+
+unfoldable pub batchesTest : MosaicSection → List Batch → ℕ → Bool
+batchesTest m bs i = batchTest m (batchBefore bs i) (batchAt bs i)
 
 unfoldable pub isMosaic : MosaicSection → List Batch → Bool
-isMosaic m bs = eqb (batchBefore bs (length bs) .last) (m .strips) && allBelow (length bs) (batchTest m bs)
+isMosaic m bs = eqb (batchBefore bs (length bs) .last) (m .strips) && allBelow (length bs) (batchesTest m bs)
 
-module _ (m : MosaicSection) (bs : List Batch) where
-  record BatchTested (i : ℕ) : Type 0 where
-    pub runs : batchBefore bs i .last < batchAt bs i .last
-    pub waits-strip : ready m (batchAt bs i .last) ≤ batchAt bs i .start
-    pub waits-batch : batchBefore bs i .finish ≤ batchAt bs i .start
-    pub finishes : batchAt bs i .finish ≡ batchAt bs i .start + m .mount + benchSum m (batchBefore bs i .last) (batchSize bs i)
-    pub within : batchAt bs i .finish ≤ ceiling
-
-  batch-tested : (i : ℕ) → batchTest m bs i ≡ true → BatchTested i
+module _ (m : MosaicSection) (before b : Batch) where
+  batch-true : batchTest m before b ≡ true → BatchLawful m before b
   unfolding batchTest
-  batch-tested i e =
-      let a = both _ _ e in
-      let b = both _ _ (a .1) in
-      let c = both _ _ (b .1) in
-      let d = both _ _ (c .1) in
+  batch-true e =
+      let p = both _ _ e in
+      let q = both _ _ (p .1) in
+      let r = both _ _ (q .1) in
+      let t = both _ _ (r .1) in
       record {
-        runs = ltb-true _ _ (a .0);
-        waits-strip = leb-true _ _ (b .0);
-        waits-batch = leb-true _ _ (c .0);
-        finishes = eqb-true _ _ (d .0);
-        within = leb-true _ _ (d .1);
+        rises = ltb-true _ _ (p .0);
+        waits-strip = leb-true _ _ (q .0);
+        waits-batch = leb-true _ _ (r .0);
+        finishes = eqb-true _ _ (t .0);
+        within = leb-true _ _ (t .1);
       }
 
+  true-batch : BatchLawful m before b → batchTest m before b ≡ true
+  unfolding batchTest
+  true-batch L =
+      join _ _ (lt-ltb _ _ (L .rises))
+      (join _ _ (le-leb _ _ (L .waits-strip))
+      (join _ _ (le-leb _ _ (L .waits-batch))
+      (join _ _ (eq-eqb _ _ (L .finishes)) (le-leb _ _ (L .within)))))
+
+module _ (m : MosaicSection) (bs : List Batch) where
   mosaic-true : isMosaic m bs ≡ true → MosaicLawful m bs
-  unfolding isMosaic
+  unfolding isMosaic batchesTest
   mosaic-true e =
-      let w = both (eqb (batchBefore bs (length bs) .last) (m .strips)) (allBelow (length bs) (batchTest m bs)) e in
-      let at : (i : ℕ) → i < length bs → BatchTested i = λ i l. batch-tested i (all-true (length bs) (batchTest m bs) (w .1) i l) in
+      let w = both (eqb (batchBefore bs (length bs) .last) (m .strips)) (allBelow (length bs) (batchesTest m bs)) e in
       record {
-        runs = λ i l. at i l .runs;
+        each = λ i l. batch-true m (batchBefore bs i) (batchAt bs i) (all-true (length bs) (batchesTest m bs) (w .1) i l);
         covers = eqb-true _ _ (w .0);
-        waits-strip = λ i l. at i l .waits-strip;
-        waits-batch = λ i l. at i l .waits-batch;
-        finishes = λ i l. at i l .finishes;
-        within = λ i l. at i l .within;
       }
 
   true-mosaic : MosaicLawful m bs → isMosaic m bs ≡ true
-  unfolding isMosaic batchTest
+  unfolding isMosaic batchesTest
   true-mosaic L =
       join _ _ (eq-eqb _ _ (L .covers))
-      (true-all (length bs) (batchTest m bs) (λ i l.
-      join _ _ (lt-ltb _ _ (L .runs i l))
-      (join _ _ (le-leb _ _ (L .waits-strip i l))
-      (join _ _ (le-leb _ _ (L .waits-batch i l))
-      (join _ _ (eq-eqb _ _ (L .finishes i l)) (le-leb _ _ (L .within i l)))))))
+      (true-all (length bs) (batchesTest m bs) (λ i l. true-batch m (batchBefore bs i) (batchAt bs i) (L .each i l)))
 
   pub mosaic-decided : Decides (MosaicLawful m bs) (isMosaic m bs)
   mosaic-decided = decides (MosaicLawful m bs) (isMosaic m bs) mosaic-true true-mosaic
 
 -- The sorting.
-unfoldable pub jobTest : SortingSection → List Job → ℕ → Bool
-jobTest s js i =
-    (leb 1 (jobAt js i .desk) && leb (jobAt js i .desk) (s .desks))
-    && (eqb (jobAt js i .number) (jobsOf js (jobAt js i .desk) i + 1)
-    && (leb (scanEnd s (jobAt js i)) (jobAt js i .start) && leb (deskFinish s (jobAt js i)) ceiling))
+unfoldable pub jobTest : SortingSection → Job → Bool
+jobTest s j = leb 1 (j .desk) && (leb (j .desk) (s .desks) && (leb (scanEnd s j) (j .start) && leb (deskFinish s j) ceiling))
+
+-- job i is the next strip of its desk
+unfoldable pub turnTest : List Job → ℕ → Bool
+turnTest js i = eqb (jobAt js i .number) (jobsOf js (jobAt js i .desk) i + 1)
 
 -- two jobs of which the first comes earlier in the list
 unfoldable pub jobsTest : SortingSection → Job → Job → Bool
@@ -142,26 +139,28 @@ jobsTest s a b = leb (scanEnd s a) (b .scan) && (not (eqb (a .desk) (b .desk)) |
 
 unfoldable pub isSorting : SortingSection → List Job → Bool
 isSorting s js =
-    allBelow (length js) (jobTest s js)
+    allBelow (length js) (λ i. jobTest s (jobAt js i))
+    && (allBelow (length js) (turnTest js)
     && (allBelow (s .desks) (λ d. eqb (jobsOf js (d + 1) (length js)) (stripsOf s (d + 1)))
-    && allBelow (length js) (λ k. allBelow k (λ i. jobsTest s (jobAt js i) (jobAt js k))))
+    && allBelow (length js) (λ k. allBelow k (λ i. jobsTest s (jobAt js i) (jobAt js k)))))
+
+module _ (s : SortingSection) (j : Job) where
+  job-true : jobTest s j ≡ true → JobLawful s j
+  unfolding jobTest
+  job-true e =
+      let p = both _ _ e in
+      let q = both _ _ (p .1) in
+      let r = both _ _ (q .1) in
+      record { least-desk = leb-true _ _ (p .0); most-desk = leb-true _ _ (q .0); after-scan = leb-true _ _ (r .0); within = leb-true _ _ (r .1) }
+
+  true-job : JobLawful s j → jobTest s j ≡ true
+  unfolding jobTest
+  true-job L =
+      join _ _ (le-leb _ _ (L .least-desk))
+      (join _ _ (le-leb _ _ (L .most-desk))
+      (join _ _ (le-leb _ _ (L .after-scan)) (le-leb _ _ (L .within))))
 
 module _ (s : SortingSection) (js : List Job) where
-  record JobTested (i : ℕ) : Type 0 where
-    pub at-desk : (1 ≤ jobAt js i .desk) × (jobAt js i .desk ≤ s .desks)
-    pub in-turn : jobAt js i .number ≡ jobsOf js (jobAt js i .desk) i + 1
-    pub after-scan : scanEnd s (jobAt js i) ≤ jobAt js i .start
-    pub within : deskFinish s (jobAt js i) ≤ ceiling
-
-  job-tested : (i : ℕ) → jobTest s js i ≡ true → JobTested i
-  unfolding jobTest
-  job-tested i e =
-      let a = both _ _ e in
-      let d = both _ _ (a .0) in
-      let b = both _ _ (a .1) in
-      let c = both _ _ (b .1) in
-      record { at-desk = (leb-true _ _ (d .0), leb-true _ _ (d .1)); in-turn = eqb-true _ _ (b .0); after-scan = leb-true _ _ (c .0); within = leb-true _ _ (c .1) }
-
   record JobsTested (a b : Job) : Type 0 where
     pub one-scan : scanEnd s a ≤ b .scan
     pub one-job : a .desk ≡ b .desk → deskFinish s a ≤ b .start
@@ -176,47 +175,46 @@ module _ (s : SortingSection) (js : List Job) where
   strips-at desk p e = subst (λ (d : ℕ). jobsOf js d (length js) ≡ stripsOf s d) (omega arith) e
 
   sorting-true : isSorting s js ≡ true → SortingLawful s js
-  unfolding isSorting
+  unfolding isSorting turnTest
   sorting-true e =
       let w = both _ _ e in
-      let v = both _ _ (w .1) in
-      let at : (i : ℕ) → i < length js → JobTested i = λ i l. job-tested i (all-true (length js) (jobTest s js) (w .0) i l) in
+      let u = both _ _ (w .1) in
+      let v = both _ _ (u .1) in
       let pair : (i k : ℕ) → i < k → k < length js → JobsTested (jobAt js i) (jobAt js k)
       = λ i k h l. jobs-tested (jobAt js i) (jobAt js k) (all-true k (λ i. jobsTest s (jobAt js i) (jobAt js k)) (all-true (length js) (λ k. allBelow k (λ i. jobsTest s (jobAt js i) (jobAt js k))) (v .1) k l) i h) in
       record {
-        at-desk = λ i l. at i l .at-desk;
-        in-turn = λ i l. at i l .in-turn;
+        each = λ i l. job-true s (jobAt js i) (all-true (length js) (λ i. jobTest s (jobAt js i)) (w .0) i l);
+        in-turn = λ i l. eqb-true _ _ (all-true (length js) (turnTest js) (u .0) i l);
         all-strips = λ desk p q. strips-at desk p (eqb-true _ _ (all-true (s .desks) (λ d. eqb (jobsOf js (d + 1) (length js)) (stripsOf s (d + 1))) (v .0) (desk - 1) (omega arith)));
         one-scan = λ i k h l. pair i k h l .one-scan;
-        after-scan = λ i l. at i l .after-scan;
         one-job = λ i k h l q. pair i k h l .one-job q;
-        within = λ i l. at i l .within;
       }
 
   true-sorting : SortingLawful s js → isSorting s js ≡ true
-  unfolding isSorting jobTest jobsTest
+  unfolding isSorting turnTest jobsTest
   true-sorting L =
-      join _ _
-      (true-all (length js) (jobTest s js) (λ i l.
-      join _ _ (join _ _ (le-leb _ _ (L .at-desk i l .0)) (le-leb _ _ (L .at-desk i l .1)))
-      (join _ _ (eq-eqb _ _ (L .in-turn i l))
-      (join _ _ (le-leb _ _ (L .after-scan i l)) (le-leb _ _ (L .within i l))))))
+      join _ _ (true-all (length js) (λ i. jobTest s (jobAt js i)) (λ i l. true-job s (jobAt js i) (L .each i l)))
+      (join _ _ (true-all (length js) (turnTest js) (λ i l. eq-eqb _ _ (L .in-turn i l)))
       (join _ _
       (true-all (s .desks) (λ d. eqb (jobsOf js (d + 1) (length js)) (stripsOf s (d + 1))) (λ d l. eq-eqb _ _ (L .all-strips (d + 1) (omega arith) (omega arith))))
       (true-all (length js) (λ k. allBelow k (λ i. jobsTest s (jobAt js i) (jobAt js k))) (λ k l.
       true-all k (λ i. jobsTest s (jobAt js i) (jobAt js k)) (λ i h.
       join _ _ (le-leb _ _ (L .one-scan i k h l))
-      (suppose (eqb (jobAt js i .desk) (jobAt js k .desk)) (leb (deskFinish s (jobAt js i)) (jobAt js k .start)) (λ q. le-leb _ _ (L .one-job i k h l (eqb-true _ _ q))))))))
+      (suppose (eqb (jobAt js i .desk) (jobAt js k .desk)) (leb (deskFinish s (jobAt js i)) (jobAt js k .start)) (λ q. le-leb _ _ (L .one-job i k h l (eqb-true _ _ q)))))))))
 
   pub sorting-decided : Decides (SortingLawful s js) (isSorting s js)
   sorting-decided = decides (SortingLawful s js) (isSorting s js) sorting-true true-sorting
 
 -- The flight, with its order.
 unfoldable pub blockTest : FlightSection → List Passes → ℕ → Bool
-blockTest f ps i = eqb (passesAt ps i .second) (passesAt ps i .first + getD (f .first) i 0 + getD (f .delay) i 0)
+blockTest f ps i = eqb (passesAt ps i .second) (secondDue f i (passesAt ps i))
+
+-- pass q comes after pass p, clear of it
+unfoldable pub clearTest : FlightSection → List Passes → ℕ → ℕ → Bool
+clearTest f ps p q = leb (clearAt f ps p) (passStart f ps q)
 
 unfoldable pub apartTest : FlightSection → List Passes → ℕ → ℕ → Bool
-apartTest f ps p q = eqb p q || (leb (passEnd f ps p) (passStart f ps q) || leb (passEnd f ps q) (passStart f ps p))
+apartTest f ps p q = eqb p q || (clearTest f ps p q || clearTest f ps q p)
 
 unfoldable pub isFlight : FlightSection → List Passes → Bool
 isFlight f ps =
@@ -236,25 +234,22 @@ unfoldable pub mayHaveOrder : FlightSection → ℕ → Bool
 mayHaveOrder f order = isProper (f .blocks) order && (not (f .ordered) || eqb order (f .order))
 
 module _ (f : FlightSection) (ps : List Passes) where
-  abbrev Apart : ℕ → ℕ → Type 0
-  Apart p q = (passEnd f ps p ≤ passStart f ps q) ⊎ (passEnd f ps q ≤ passStart f ps p)
-
-  apart-true : (p q : ℕ) → apartTest f ps p q ≡ true → (p ≡ q → ⊥) → Apart p q
-  unfolding apartTest
+  apart-true : (p q : ℕ) → apartTest f ps p q ≡ true → (p ≡ q → ⊥) → Clear f ps p q ⊎ Clear f ps q p
+  unfolding apartTest clearTest
   apart-true p q e ne =
       ⊎-elim (λ h. absurd (ne (eqb-true p q h)))
-      (λ h. ⊎-elim (λ a. inl (leb-true _ _ a)) (λ b. inr (leb-true _ _ b)) (either (leb (passEnd f ps p) (passStart f ps q)) (leb (passEnd f ps q) (passStart f ps p)) h))
-      (either (eqb p q) (leb (passEnd f ps p) (passStart f ps q) || leb (passEnd f ps q) (passStart f ps p)) e)
+      (λ h. ⊎-elim (λ a. inl (leb-true _ _ a)) (λ b. inr (leb-true _ _ b)) (either (clearTest f ps p q) (clearTest f ps q p) h))
+      (either (eqb p q) (clearTest f ps p q || clearTest f ps q p) e)
 
-  true-apart : (p q : ℕ) → ((p ≡ q → ⊥) → Apart p q) → apartTest f ps p q ≡ true
-  unfolding apartTest
+  true-apart : (p q : ℕ) → ((p ≡ q → ⊥) → Clear f ps p q ⊎ Clear f ps q p) → apartTest f ps p q ≡ true
+  unfolding apartTest clearTest
   true-apart p q h = go (ℕ-discrete p q)
     where
-      go : Dec (p ≡ q) → eqb p q || (leb (passEnd f ps p) (passStart f ps q) || leb (passEnd f ps q) (passStart f ps p)) ≡ true
+      go : Dec (p ≡ q) → eqb p q || (clearTest f ps p q || clearTest f ps q p) ≡ true
       go (yes e) = left (eqb p q) _ (eq-eqb p q e)
       go (no n) =
           right (eqb p q) _
-          (⊎-elim (λ a. left (leb (passEnd f ps p) (passStart f ps q)) _ (le-leb _ _ a)) (λ b. right (leb (passEnd f ps p) (passStart f ps q)) _ (le-leb _ _ b)) (h n))
+          (⊎-elim (λ a. left (clearTest f ps p q) _ (le-leb _ _ a)) (λ b. right (clearTest f ps p q) _ (le-leb _ _ b)) (h n))
 
   flight-true : isFlight f ps ≡ true → FlightLawful f ps
   unfolding isFlight blockTest
@@ -264,7 +259,7 @@ module _ (f : FlightSection) (ps : List Passes) where
       let c = both _ _ (b .1) in
       record {
         every-block = eqb-true _ _ (a .0);
-        exact-delay = λ i l. eqb-true _ _ (all-true (f .blocks) (blockTest f ps) (b .0) i l);
+        delay-kept = λ i l. record { exact = eqb-true _ _ (all-true (f .blocks) (blockTest f ps) (b .0) i l) };
         apart = λ p q lp lq ne. apart-true p q (all-true (2 * f .blocks) (apartTest f ps p) (all-true (2 * f .blocks) (λ p. allBelow (2 * f .blocks) (apartTest f ps p)) (c .0) p lp) q lq) ne;
         within = λ p l. leb-true _ _ (all-true (2 * f .blocks) (λ p. leb (passEnd f ps p) ceiling) (c .1) p l);
       }
@@ -273,7 +268,7 @@ module _ (f : FlightSection) (ps : List Passes) where
   unfolding isFlight blockTest
   true-flight L =
       join _ _ (eq-eqb _ _ (L .every-block))
-      (join _ _ (true-all (f .blocks) (blockTest f ps) (λ i l. eq-eqb _ _ (L .exact-delay i l)))
+      (join _ _ (true-all (f .blocks) (blockTest f ps) (λ i l. eq-eqb _ _ (L .delay-kept i l .exact)))
       (join _ _
       (true-all (2 * f .blocks) (λ p. allBelow (2 * f .blocks) (apartTest f ps p)) (λ p lp.
       true-all (2 * f .blocks) (apartTest f ps p) (λ q lq. true-apart p q (λ ne. L .apart p q lp lq ne))))

@@ -1,5 +1,4 @@
 -- The rules: when is a timetable lawful, what is its figure, when is a plan allowed.
-pub mod Sums
 pub mod Mosaic
 pub mod Sorting
 pub mod Flight

@@ -12,31 +12,35 @@ use Rattle.sheet.specs.Sound.{MosaicSound, SortingSound, FlightSound}
 use Rattle.sheet.specs.declared.MosaicSection.{MosaicSection}
 use Rattle.sheet.specs.declared.SortingSection.{SortingSection}
 use Rattle.sheet.specs.declared.FlightSection.{FlightSection}
-use Rattle.rules.specs.Sums.{sumOver, greatestOver}
-use Rattle.rules.specs.Mosaic.{stationSum, ready, benchSum}
+use Rattle.base.specs.Sums.{sumOver, greatestOver}
+use Rattle.rules.specs.Mosaic.{stationSum, ready, benchSum, finishDue}
 use Rattle.rules.specs.Sorting.{slot, scanTime, deskTime}
 use Rattle.rules.specs.Flight.{passTime, passAt}
+use Rattle.rules.specs.declared.Batch.{Batch}
 use Rattle.rules.specs.declared.Job.{Job}
 
-pub record StationAsked (m : MosaicSection) (k j : ℕ) : Type 0 where
+pub record StationPre (m : MosaicSection) (k j : ℕ) : Type 0 where
   pub sound : MosaicSound m
   pub station : k < m .stations
   pub strips : j ≤ mostStrips
 
-pub record ReadyAsked (m : MosaicSection) (j : ℕ) : Type 0 where
+pub record ReadyPre (m : MosaicSection) (j : ℕ) : Type 0 where
   pub sound : MosaicSound m
   pub strips : j ≤ mostStrips
 
-pub record BenchAsked (m : MosaicSection) (i count : ℕ) : Type 0 where
+pub record BenchPre (m : MosaicSection) (i count : ℕ) : Type 0 where
   pub sound : MosaicSound m
   pub strips : i + count ≤ mostStrips
 
--- a sum of at most 40 times
-pub record ReadyTold (value r : ℕ) : Type 0 where
-  pub is : r ≡ value
-  pub fits : r ≤ mostStrips * mostTime
+-- a batch of known strips, after the batch before it, whose start has four bytes
+pub record FinishPre (m : MosaicSection) (before b : Batch) : Type 0 where
+  pub sound : MosaicSound m
+  pub rises : before .last ≤ b .last
+  pub strips : b .last ≤ mostStrips
+  pub fits : b .start < 2 ^ 32
 
-pub record BenchTold (value r : ℕ) : Type 0 where
+-- a sum of at most 40 times
+pub record SumTold (value r : ℕ) : Type 0 where
   pub is : r ≡ value
   pub fits : r ≤ mostStrips * mostTime
 
@@ -44,18 +48,18 @@ pub record TimeTold (value r : ℕ) : Type 0 where
   pub is : r ≡ value
   pub fits : r ≤ mostTime
 
-pub record SlotAsked (s : SortingSection) (j : Job) : Type 0 where
+pub record SlotPre (s : SortingSection) (j : Job) : Type 0 where
   pub sound : SortingSound s
   pub least-desk : 1 ≤ j .desk
   pub most-desk : j .desk ≤ mostDesks
   pub least-number : 1 ≤ j .number
   pub most-number : j .number ≤ mostStripsOfDesk
 
-pub record PassAsked (f : FlightSection) (p : ℕ) : Type 0 where
+pub record PassPre (f : FlightSection) (p : ℕ) : Type 0 where
   pub sound : FlightSound f
   pub known : p < 2 * f .blocks
 
-pub record PositionAsked (f : FlightSection) (order k : ℕ) : Type 0 where
+pub record PositionPre (f : FlightSection) (order k : ℕ) : Type 0 where
   pub sound : FlightSound f
   pub known : k < 2 * f .blocks
 
@@ -84,14 +88,14 @@ sum-all f n i sum s h = s .is ∙ ap (λ k. sumOver k f) all
     all : i ≡ n
     all = let w = s .within in omega arith
 
-module _ (m : MosaicSection) (k j : ℕ) (a : StationAsked m k j) where
+module _ (m : MosaicSection) (k j : ℕ) (a : StationPre m k j) where
   pub station-more : (i sum : ℕ) → Summed (λ i. getD (m .station) (4 * i + k) 0) mostTime j i sum → i < j → Summed (λ i. getD (m .station) (4 * i + k) 0) mostTime j (i + 1) (sum + getD (m .station) (4 * i + k) 0)
   station-more i sum s h = sum-more (λ i. getD (m .station) (4 * i + k) 0) j i sum _ s h refl (a .sound .most-station (4 * i + k))
 
   pub station-fits : (i sum : ℕ) → Summed (λ i. getD (m .station) (4 * i + k) 0) mostTime j i sum → i < j → sum + getD (m .station) (4 * i + k) 0 < 2 ^ 64
   station-fits i sum s h = let b = s .fits in let l = a .strips in omega (arith, a .sound .most-station (4 * i + k))
 
-  pub station-all : (i sum : ℕ) → Summed (λ i. getD (m .station) (4 * i + k) 0) mostTime j i sum → j ≤ i → ReadyTold (stationSum m k j) sum
+  pub station-all : (i sum : ℕ) → Summed (λ i. getD (m .station) (4 * i + k) 0) mostTime j i sum → j ≤ i → SumTold (stationSum m k j) sum
   unfolding stationSum
   station-all i sum s h =
       let b = s .fits in
@@ -99,20 +103,34 @@ module _ (m : MosaicSection) (k j : ℕ) (a : StationAsked m k j) where
       let l = a .strips in
       record { is = sum-all (λ i. getD (m .station) (4 * i + k) 0) j i sum s h; fits = omega arith }
 
-module _ (m : MosaicSection) (i count : ℕ) (a : BenchAsked m i count) where
+module _ (m : MosaicSection) (i count : ℕ) (a : BenchPre m i count) where
   pub bench-more : (k sum : ℕ) → Summed (λ k. getD (m .bench) (i + k) 0) mostTime count k sum → k < count → Summed (λ k. getD (m .bench) (i + k) 0) mostTime count (k + 1) (sum + getD (m .bench) (i + k) 0)
   bench-more k sum s h = sum-more (λ k. getD (m .bench) (i + k) 0) count k sum _ s h refl (a .sound .most-bench (i + k))
 
   pub bench-fits : (k sum : ℕ) → Summed (λ k. getD (m .bench) (i + k) 0) mostTime count k sum → k < count → sum + getD (m .bench) (i + k) 0 < 2 ^ 64
   bench-fits k sum s h = let b = s .fits in let l = a .strips in omega (arith, a .sound .most-bench (i + k))
 
-  pub bench-all : (k sum : ℕ) → Summed (λ k. getD (m .bench) (i + k) 0) mostTime count k sum → count ≤ k → BenchTold (benchSum m i count) sum
+  pub bench-all : (k sum : ℕ) → Summed (λ k. getD (m .bench) (i + k) 0) mostTime count k sum → count ≤ k → SumTold (benchSum m i count) sum
   unfolding benchSum
   bench-all k sum s h =
       let b = s .fits in
       let w = s .within in
       let l = a .strips in
       record { is = sum-all (λ k. getD (m .bench) (i + k) 0) count k sum s h; fits = omega arith }
+
+module _ (m : MosaicSection) (before b : Batch) (a : FinishPre m before b) where
+  pub finish-bench : BenchPre m (before .last) (b .last - before .last)
+  finish-bench = let h = a .rises in let l = a .strips in record { sound = a .sound; strips = omega arith }
+
+  pub finish-mounted : b .start + m .mount < 2 ^ 64
+  finish-mounted = let f = a .fits in omega (arith, a .sound .most-mount)
+
+  pub finish-fits : (sum : ℕ) → SumTold (benchSum m (before .last) (b .last - before .last)) sum → b .start + m .mount + sum < 2 ^ 64
+  finish-fits sum t = let f = a .fits in let l = t .fits in omega (arith, a .sound .most-mount)
+
+  pub finish-is : (sum : ℕ) → SumTold (benchSum m (before .last) (b .last - before .last)) sum → b .start + m .mount + sum ≡ finishDue m before b
+  unfolding finishDue
+  finish-is sum t = ap (λ (n : ℕ). b .start + m .mount + n) (t .is)
 
 -- the greatest of the first k stations' sums
 pub record Greatest (m : MosaicSection) (j k value : ℕ) : Type 0 where
@@ -129,13 +147,13 @@ module _ (m : MosaicSection) (j : ℕ) where
   unfolding greatestOver
   greatest-none = record { within = omega arith; is = refl; fits = omega arith }
 
-  pub greatest-more : (k value next sum : ℕ) → Greatest m j k value → k < m .stations → ReadyTold (stationSum m k j) sum → next ≡ max value sum → Greatest m j (k + 1) next
+  pub greatest-more : (k value next sum : ℕ) → Greatest m j k value → k < m .stations → SumTold (stationSum m k j) sum → next ≡ max value sum → Greatest m j (k + 1) next
   greatest-more k value next sum g h t e =
       let b = g .fits in
       let l = t .fits in
       record { within = omega arith; is = e ∙ rw (g .is, t .is, add-one k) (sym (greatest-suc k (λ k. stationSum m k j))); fits = omega arith }
 
-  pub greatest-all : (k value : ℕ) → Greatest m j k value → m .stations ≤ k → ReadyTold (ready m j) value
+  pub greatest-all : (k value : ℕ) → Greatest m j k value → m .stations ≤ k → SumTold (ready m j) value
   unfolding ready
   greatest-all k value g h = record { is = g .is ∙ ap (λ n. greatestOver n (λ k. stationSum m k j)) all; fits = g .fits }
     where
@@ -143,15 +161,15 @@ module _ (m : MosaicSection) (j : ℕ) where
       all = let w = g .within in omega arith
 
 -- single times
-pub scan-told : (s : SortingSection) (j : Job) → SlotAsked s j → TimeTold (scanTime s j) (getD (s .scan) (6 * (j .desk - 1) + (j .number - 1)) 0)
+pub scan-told : (s : SortingSection) (j : Job) → SlotPre s j → TimeTold (scanTime s j) (getD (s .scan) (6 * (j .desk - 1) + (j .number - 1)) 0)
 unfolding scanTime slot
 scan-told s j a = record { is = refl; fits = a .sound .most-scan _ }
 
-pub desk-told : (s : SortingSection) (j : Job) → SlotAsked s j → TimeTold (deskTime s j) (getD (s .desk) (6 * (j .desk - 1) + (j .number - 1)) 0)
+pub desk-told : (s : SortingSection) (j : Job) → SlotPre s j → TimeTold (deskTime s j) (getD (s .desk) (6 * (j .desk - 1) + (j .number - 1)) 0)
 unfolding deskTime slot
 desk-told s j a = record { is = refl; fits = a .sound .most-desk _ }
 
-module _ (f : FlightSection) (p : ℕ) (a : PassAsked f p) where
+module _ (f : FlightSection) (p : ℕ) (a : PassPre f p) where
   pub first-told : p < f .blocks → TimeTold (passTime f p) (getD (f .first) p 0)
   unfolding passTime
   first-told h = record { is = rw (lt-ltb _ _ h); fits = a .sound .most-first p }
@@ -169,5 +187,5 @@ module _ (f : FlightSection) (order k b n : ℕ) (eb : b ≡ bit order k) where
   unfolding passAt
   first-at h e = rw (ne-eqb (bit order k) 1 (λ q. h (eb ∙ q))) e
 
-pub position-fits : (f : FlightSection) (order k n : ℕ) → PositionAsked f order k → n ≡ seconds order k → f .blocks + n < 2 ^ 64
+pub position-fits : (f : FlightSection) (order k n : ℕ) → PositionPre f order k → n ≡ seconds order k → f .blocks + n < 2 ^ 64
 position-fits f order k n a e = let b = a .sound .most-blocks in let h = a .known in omega (arith, seconds-le order k)

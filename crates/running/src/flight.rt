@@ -3,11 +3,11 @@ use sheet::FlightSection;
 ghost use mathlib.Core.Path.{_≡_};
 ghost use Prim.Native.Nat.{_<_, _+_};
 ghost use Rattle.rules.specs.Flight.{passTime, passAt};
-ghost use Rattle.running.specs.FunctionLaws.{PassAsked, TimeTold, PositionAsked};
+ghost use Rattle.running.specs.FunctionLaws.{PassPre, TimeTold, PositionPre};
 
 // The time that a pass takes.
 pub fn pass_time(f: FlightSection, p: usize) -> u64
-    requires { ⌜ PassAsked f p ⌝ }
+    requires { ⌜ PassPre f p ⌝ }
     ensures { λ r. ⌜ TimeTold (passTime f p) r ⌝ }
 {
     let n = f.blocks;
@@ -22,7 +22,7 @@ pub fn pass_time(f: FlightSection, p: usize) -> u64
 
 // The pass that an order has at position k.
 pub fn pass_at(f: FlightSection, order: u64, k: usize) -> usize
-    requires { ⌜ PositionAsked f order k ⌝ }
+    requires { ⌜ PositionPre f order k ⌝ }
     ensures { λ r. ⌜ r ≡ passAt f order k ⌝ }
 {
     let at = k as u64;

@@ -1,14 +1,16 @@
 // Ready times and bench times of a mosaic.
+use base::greater;
+use rules::Batch;
 use sheet::MosaicSection;
 ghost use mathlib.Core.Path.{_≡_};
-ghost use Prim.Native.Nat.{_<_, _+_, max};
-ghost use Rattle.rules.specs.Mosaic.{stationSum, ready, benchSum};
-ghost use Rattle.running.specs.FunctionLaws.{StationAsked, ReadyAsked, BenchAsked, ReadyTold, BenchTold};
+ghost use Prim.Native.Nat.{_<_, _+_};
+ghost use Rattle.rules.specs.Mosaic.{stationSum, ready, benchSum, finishDue};
+ghost use Rattle.running.specs.FunctionLaws.{StationPre, ReadyPre, BenchPre, FinishPre, SumTold};
 
 // When station k, from 0, is done with the first j strips.
 fn station_sum(m: MosaicSection, k: usize, j: usize) -> u64
-    requires { ⌜ StationAsked m k j ⌝ }
-    ensures { λ r. ⌜ ReadyTold (stationSum m k j) r ⌝ }
+    requires { ⌜ StationPre m k j ⌝ }
+    ensures { λ r. ⌜ SumTold (stationSum m k j) r ⌝ }
 {
     let times = m.station;
     let mut sum: u64 = 0;
@@ -20,20 +22,10 @@ fn station_sum(m: MosaicSection, k: usize, j: usize) -> u64
     sum
 }
 
-// The greater of two numbers.
-pub fn greater(a: u64, b: u64) -> u64
-    ensures { λ r. ⌜ r ≡ max a b ⌝ }
-{
-    if a < b {
-        return b;
-    }
-    a
-}
-
 // When strip j, from 1, is ready.
 pub fn ready_time(m: MosaicSection, j: usize) -> u64
-    requires { ⌜ ReadyAsked m j ⌝ }
-    ensures { λ r. ⌜ ReadyTold (ready m j) r ⌝ }
+    requires { ⌜ ReadyPre m j ⌝ }
+    ensures { λ r. ⌜ SumTold (ready m j) r ⌝ }
 {
     let stations = m.stations;
     let mut greatest: u64 = 0;
@@ -46,9 +38,9 @@ pub fn ready_time(m: MosaicSection, j: usize) -> u64
 }
 
 // The bench times of `count` strips after the first i.
-pub fn bench_sum(m: MosaicSection, i: usize, count: usize) -> u64
-    requires { ⌜ BenchAsked m i count ⌝ }
-    ensures { λ r. ⌜ BenchTold (benchSum m i count) r ⌝ }
+fn bench_sum(m: MosaicSection, i: usize, count: usize) -> u64
+    requires { ⌜ BenchPre m i count ⌝ }
+    ensures { λ r. ⌜ SumTold (benchSum m i count) r ⌝ }
 {
     let times = m.bench;
     let mut sum: u64 = 0;
@@ -58,4 +50,14 @@ pub fn bench_sum(m: MosaicSection, i: usize, count: usize) -> u64
         k += 1;
     }
     sum
+}
+
+// When a batch is due to finish, by the batch before it.
+pub fn finish_due(m: MosaicSection, before: Batch, b: Batch) -> u64
+    requires { ⌜ FinishPre m before b ⌝ }
+    ensures { λ r. ⌜ r ≡ finishDue m before b ⌝ }
+{
+    let from = before.last;
+    let count = b.last - from;
+    b.start + m.mount + bench_sum(m, from as usize, count as usize)
 }

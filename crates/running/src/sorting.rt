@@ -3,11 +3,11 @@ use rules::Job;
 use sheet::SortingSection;
 ghost use Prim.Native.Nat.{_+_};
 ghost use Rattle.rules.specs.Sorting.{scanTime, deskTime};
-ghost use Rattle.running.specs.FunctionLaws.{SlotAsked, TimeTold};
+ghost use Rattle.running.specs.FunctionLaws.{SlotPre, TimeTold};
 
 // The scan time of a strip.
 pub fn scan_time(s: SortingSection, j: Job) -> u64
-    requires { ⌜ SlotAsked s j ⌝ }
+    requires { ⌜ SlotPre s j ⌝ }
     ensures { λ r. ⌜ TimeTold (scanTime s j) r ⌝ }
 {
     let times = s.scan;
@@ -18,7 +18,7 @@ pub fn scan_time(s: SortingSection, j: Job) -> u64
 
 // The desk time of a strip.
 pub fn desk_time(s: SortingSection, j: Job) -> u64
-    requires { ⌜ SlotAsked s j ⌝ }
+    requires { ⌜ SlotPre s j ⌝ }
     ensures { λ r. ⌜ TimeTold (deskTime s j) r ⌝ }
 {
     let times = s.desk;

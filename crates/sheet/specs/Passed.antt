@@ -7,7 +7,7 @@ use mathlib.Core.Logic.{_⊎_, inl, inr, ⊎-elim}
 use native.Mathlib.Omega.{arith}
 use lib.Dec.{leb, eqb}
 use borrow.Author.Tests.{eqb-true, ltb-true, leb-true}
-use Rattle.field.specs.Branch.{passed, both}
+use Rattle.base.specs.Branch.{passed, both}
 use Rattle.field.specs.Bytes.{numberAt}
 use Rattle.sheet.specs.Tags.{mosaicHeadTag, mosaicStripTag, sortingHeadTag, sortingStripTag, flightHeadTag, flightBlockTag, flightOrderTag}
 use Rattle.sheet.specs.Checks.{noSection, inMosaic, inSorting, inFlight, sectionFilled, orderGiven, orderPermitted, permitted, lengthDue, between, inRange, hasRoom, stripsOfDesk, orderProper}

@@ -7,7 +7,7 @@ use native.Mathlib.Decide.{ℕ-discrete}
 use native.Mathlib.Omega.{arith}
 use lib.ListN.{length, getD, set, length-set}
 use borrow.Author.Tests.{leb-true}
-use Rattle.field.specs.Branch.{both}
+use Rattle.base.specs.Branch.{both}
 use Rattle.field.specs.Bytes.{numberAt}
 use Rattle.order.specs.Order.{isProper}
 use Rattle.order.specs.Decided.{proper-true}

@@ -4,7 +4,7 @@ use mathlib.Core.Path.{_≡_}
 use mathlib.Core.Bool.{Bool, true, false, not}
 use mathlib.Core.List.{List}
 use borrow.Author.Tests.{eq-eqb, ne-eqb, not-true, not-false}
-use Rattle.field.specs.Branch.{check}
+use Rattle.base.specs.Branch.{check}
 use Rattle.field.specs.Bytes.{NumberRead}
 use Rattle.sheet.specs.Refusals.{tagNotPermitted, lengthWrong, outOfRange, tooMany, noMembers, orderNotProper, orderMissing}
 use Rattle.sheet.specs.Checks.{sectionFilled, orderGiven, permitted, lengthDue, inRange, hasRoom, stripsOfDesk, orderProper}

@@ -1,5 +1,5 @@
 -- `end_number` meets its contract: each way through its tests is one through the definition.
-use Rattle.field.specs.Branch.{flags}
+use Rattle.base.specs.Branch.{flags}
 use Rattle.sheet.specs.Read.{endNumber}
 use borrow.Author.Needs.{needs}
 use Rattle.sheet_checks.proofs.end_number.Statement.{statement}

@@ -3,7 +3,7 @@ use mathlib.Core.Path.{_≡_}
 use mathlib.Core.Bool.{Bool, false, not}
 use Prim.Native.Nat.{ℕ, _≤_}
 use borrow.Author.Tests.{le-leb, not-false}
-use Rattle.field.specs.Branch.{flags}
+use Rattle.base.specs.Branch.{flags}
 use Rattle.sheet.specs.Limits.{mostTime}
 use Rattle.sheet.specs.Checks.{between, flightBlockInRange}
 use borrow.Author.Needs.{needs}

@@ -1,5 +1,5 @@
 -- `is_between` meets its contract: each way through its tests is one through the definition.
-use Rattle.field.specs.Branch.{branches}
+use Rattle.base.specs.Branch.{branches}
 use Rattle.sheet.specs.Checks.{between}
 use Rattle.sheet_ranges.proofs.is_between.Statement.{statement}
 use Rattle.sheet_ranges.proofs.is_between.Tie as tie

@@ -1,6 +1,6 @@
 -- `is_in_range` meets its contract: one case a tag: the values tested are those that stand in the content.
 use Rattle.sheet_ranges.specs.RangeLaws.{mosaic-head-read, mosaic-strip-read, sorting-head-read, sorting-strip-read, flight-block-read}
-use Rattle.field.specs.Branch.{branches}
+use Rattle.base.specs.Branch.{branches}
 use Rattle.sheet.specs.Checks.{inRange}
 use borrow.Author.Needs.{needs}
 use Rattle.sheet_ranges.proofs.is_in_range.Statement.{statement}

@@ -1,5 +1,5 @@
 -- `mosaic_head_in_range` meets its contract: each way through its tests is one through the definition.
-use Rattle.field.specs.Branch.{flags}
+use Rattle.base.specs.Branch.{flags}
 use Rattle.sheet.specs.Checks.{mosaicHeadInRange}
 use borrow.Author.Needs.{needs}
 use Rattle.sheet_ranges.proofs.mosaic_head_in_range.Statement.{statement}

@@ -1,10 +1,10 @@
--- `difference::clear` meets its contract: after z turns the first z values are 0.
+-- `base::clear` meets its contract: after z turns the first z values are 0.
 use Prim.Native.Nat.{_-_}
 use borrow.Author.Needs.{needs}
 use lib.ListN.{length}
-use Rattle.difference.proofs.Clearing.{Cleared, cleared-none, cleared-more, cleared-all}
-use Rattle.difference.proofs.clear.Statement.{statement}
-use Rattle.difference.proofs.clear.Tie as tie
+use Rattle.base.proofs.Clearing.{Cleared, cleared-none, cleared-more, cleared-all}
+use Rattle.base.proofs.clear.Statement.{statement}
+use Rattle.base.proofs.clear.Tie as tie
 
 abbrev Inv-loop : tie.InvT-loop
 Inv-loop values₀ z₀ values z = Cleared values₀ values z
