@@ -2,6 +2,7 @@
 use field::Field;
 use field::field_at;
 use sheet::Sheet;
+use sheet::desks::strips_in_all;
 use sheet::numbers::LAYOUT_WRONG;
 use sheet::tags::PLAN_BATCH;
 use sheet::tags::PLAN_BLOCK;
@@ -9,7 +10,6 @@ use sheet::tags::PLAN_FLIGHT;
 use sheet::tags::PLAN_MOSAIC;
 use sheet::tags::PLAN_SORTING;
 use sheet::tags::PLAN_STRIP;
-use sheet_checks::strips_in_all;
 ghost use mathlib.Core.Path.{_≡_};
 ghost use Prim.Native.Nat.{_+_, _≤_, _<_};
 ghost use lib.ListN.{length};

@@ -14,9 +14,9 @@ use plan_fields::members::put_batches;
 use plan_fields::members::put_blocks;
 use plan_fields::members::put_jobs;
 use sheet::Sheet;
+use sheet::desks::strips_in_all;
 use sheet::tags::PLAN_MOSAIC;
 use sheet::tags::PLAN_SORTING;
-use sheet_checks::strips_in_all;
 use sorting::SortingPlan;
 
 fn put_mosaic_batches(d: &mut [u8], at: usize, p: MosaicPlan)

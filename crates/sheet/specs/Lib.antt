@@ -12,5 +12,6 @@ pub mod Refused
 pub mod Stores
 pub mod Passed
 pub mod SectionLaws
+pub mod DeskLaws
 pub mod Invariant
 pub mod Progress

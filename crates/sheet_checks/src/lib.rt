@@ -2,7 +2,7 @@
 use field::byte;
 use field::number;
 use sheet::Reading;
-use sheet::SortingSection;
+use sheet::desks::strips_of_desk;
 use sheet::limits::MOST_BLOCKS;
 use sheet::limits::MOST_BLOCKS_WITHOUT_ORDER;
 use sheet::limits::MOST_STRIPS;
@@ -27,10 +27,9 @@ use sheet::tags::SORTING_HEAD;
 use sheet::tags::SORTING_STRIP;
 use sheet_ranges::is_in_range;
 ghost use mathlib.Core.Path.{_≡_};
-ghost use Prim.Native.Nat.{_-_, _≤_};
-ghost use Rattle.sheet.specs.Checks.{endsSection, sectionFilled, fewBlocks, orderGiven, orderPermitted, permitted, lengthDue, stripsOfDesk, hasRoom, orderProper};
+ghost use Prim.Native.Nat.{_≤_};
+ghost use Rattle.sheet.specs.Checks.{endsSection, sectionFilled, fewBlocks, orderGiven, orderPermitted, permitted, lengthDue, hasRoom, orderProper};
 ghost use Rattle.sheet.specs.Read.{contentNumber, fieldNumber, endNumber, placeOf};
-ghost use Rattle.sheet.specs.Sound.{SortingSound, stripsInAll};
 ghost use Rattle.sheet_checks.specs.FieldPre.{FieldPre};
 
 pub fn ends_section(tag: u8) -> bool
@@ -113,29 +112,6 @@ fn has_room(tag: u8, members: usize, of_desk: usize) -> bool
         FLIGHT_BLOCK => members < MOST_BLOCKS,
         _ => true,
     }
-}
-
-// The index of a desk that is numbered from 1.
-pub fn desk_index(desk: u64) -> usize
-    ensures { λ r. ⌜ r ≡ desk - 1 ⌝ }
-{
-    if desk == 0 { 0 } else { (desk - 1) as usize }
-}
-
-pub fn strips_of_desk(counts: [usize; 3], desk: u64) -> usize
-    ensures { λ r. ⌜ r ≡ stripsOfDesk counts desk ⌝ }
-{
-    let d = desk_index(desk);
-    if d < 3 { counts[d] } else { 0 }
-}
-
-// The strips of all desks.
-pub fn strips_in_all(t: SortingSection) -> usize
-    requires { ⌜ SortingSound t ⌝ }
-    ensures { λ r. ⌜ r ≡ stripsInAll t ⌝ }
-{
-    let counts = t.counts;
-    counts[0] + counts[1] + counts[2]
 }
 
 fn order_proper(tag: u8, members: usize, order: u64) -> bool
