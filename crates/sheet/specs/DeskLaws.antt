@@ -4,7 +4,7 @@ use mathlib.Core.Path.{_≡_, sym}
 use mathlib.Core.List.{List}
 use native.Mathlib.Omega.{arith}
 use lib.ListN.{length, getD, List·getD-eq-default}
-use Rattle.sheet.specs.Checks.{stripsOfDesk}
+use Rattle.sheet.specs.Sections.{stripsOfDesk}
 use Rattle.sheet.specs.Sound.{SortingSound}
 use Rattle.sheet.specs.declared.SortingSection.{SortingSection}
 

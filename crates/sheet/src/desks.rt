@@ -1,7 +1,7 @@
 // The desks of a sorting section: a desk's index and its strips, and the strips of all desks.
 ghost use mathlib.Core.Path.{_≡_};
 ghost use Prim.Native.Nat.{_-_};
-ghost use Rattle.sheet.specs.Checks.{stripsOfDesk};
+ghost use Rattle.sheet.specs.Sections.{stripsOfDesk};
 ghost use Rattle.sheet.specs.Sound.{SortingSound, stripsInAll};
 use super::SortingSection;
 

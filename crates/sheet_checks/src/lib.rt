@@ -11,7 +11,6 @@ use sheet::numbers::LENGTH_WRONG;
 use sheet::numbers::NO_MEMBERS;
 use sheet::numbers::ORDER_MISSING;
 use sheet::numbers::ORDER_NOT_PROPER;
-use sheet::numbers::OUT_OF_RANGE;
 use sheet::numbers::TAG_NOT_PERMITTED;
 use sheet::numbers::TOO_MANY;
 use sheet::sections::IN_FLIGHT;
@@ -25,11 +24,13 @@ use sheet::tags::MOSAIC_HEAD;
 use sheet::tags::MOSAIC_STRIP;
 use sheet::tags::SORTING_HEAD;
 use sheet::tags::SORTING_STRIP;
-use sheet_ranges::is_in_range;
+use sheet_ranges::range_number;
 ghost use mathlib.Core.Path.{_≡_};
 ghost use Prim.Native.Nat.{_≤_};
-ghost use Rattle.sheet.specs.Checks.{endsSection, sectionFilled, fewBlocks, orderGiven, orderPermitted, permitted, lengthDue, hasRoom, orderProper};
-ghost use Rattle.sheet.specs.Read.{contentNumber, fieldNumber, endNumber, placeOf};
+ghost use Rattle.sheet.specs.FieldTable.{lengthDue};
+ghost use Rattle.sheet.specs.Rows.{firstFailure};
+ghost use Rattle.sheet.specs.Checks.{endsSection, sectionFilled, fewBlocks, orderGiven, orderPermitted, permitted, hasRoom, orderProper};
+ghost use Rattle.sheet.specs.Read.{contentChecks, fieldNumber, endNumber, placeOf};
 ghost use Rattle.sheet_checks.specs.FieldPre.{FieldPre};
 
 pub fn ends_section(tag: u8) -> bool
@@ -123,10 +124,10 @@ fn order_proper(tag: u8, members: usize, order: u64) -> bool
     true
 }
 
-// 5, 6, 7 or 9 for the content of a field, 0 where it passes.
+// The number that the content of a field is refused with, 0 where it passes.
 fn content_number(s: &[u8], st: Reading, tag: u8, length: usize) -> u64
     requires { ⌜ FieldPre (now s) st length ⌝ }
-    ensures { λ r. ⌜ r ≡ contentNumber (now (s .entry)) st tag length ⌝ }
+    ensures { λ r. ⌜ r ≡ firstFailure (contentChecks (now (s .entry)) st tag length) ⌝ }
 {
     let content = st.at + 3;
     let stations = st.mosaic.stations;
@@ -136,8 +137,9 @@ fn content_number(s: &[u8], st: Reading, tag: u8, length: usize) -> u64
     if length != length_due(tag, stations) {
         return LENGTH_WRONG;
     }
-    if !is_in_range(s, content, tag, stations, desks) {
-        return OUT_OF_RANGE;
+    let range = range_number(s, content, tag, length, desks);
+    if range != 0 {
+        return range;
     }
     if !has_room(tag, members, strips_of_desk(counts, byte(s, content))) {
         return TOO_MANY;

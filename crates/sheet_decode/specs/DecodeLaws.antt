@@ -8,7 +8,7 @@ use native.Mathlib.Omega.{arith}
 use lib.ListN.{length, set, length-set}
 use Rattle.field.specs.Bytes.{numberAt, NumberRead}
 use Rattle.sheet.specs.Decode.{zeros, noMosaic, noSorting, noFlight, startReading, withMosaicHead, withStationTimes, withMosaicStrip, withSortingHead, withStripAt, withSortingStrip, withBlock, withOrder, nextMosaic, nextSorting, nextFlight, nextSection, nextHead, nextMembers, nextReading}
-use Rattle.sheet.specs.Checks.{stripsOfDesk}
+use Rattle.sheet.specs.Sections.{stripsOfDesk}
 use Rattle.sheet.specs.Tags.{sortingStripTag}
 use Rattle.sheet.specs.Read.{refused}
 use Rattle.sheet.specs.declared.MosaicSection.{MosaicSection}
