@@ -4,7 +4,7 @@
 An edit of code keeps the shape of the code: the row of token kinds is the same before and after, so that only operands differ. An operand is a
 name, a path as a.b or a::B, a literal, true or false. Every other token is its own kind, and so is the name of a function that is called.
 
-An edit of a definition (specs/) or of a contract (requires, ensures) is listed apart. Its second line says which statement becomes false:
+An edit of a definition (specs/, or a page of proofs/) or of a contract (requires, ensures) is listed apart. Its second line says which statement becomes false:
 
     # false: `NAME` (FILE), in words.
 
@@ -27,7 +27,10 @@ TOKEN = re.compile(r"""
   | (?P<mark> '[a-z_]\w* | <<= | >>= | \.\.= | => | -> | == | != | <= | >= | && | \|\| | << | >> | [-+*/%&|^]= | \.\. | :: | . )
 """, re.X | re.S)
 
-FALSE = re.compile(r"# false: `(?P<name>[^`]+)` \((?P<file>(?:specs|src)/[^)]+)\), \S.*\.$")
+# A page of definitions and laws: of specs/, or one that stands in proofs/ itself. What is below proofs/ is the proof of one function.
+PAGE = re.compile(r"specs/|proofs/[A-Z]\w*\.antt$")
+
+FALSE = re.compile(r"# false: `(?P<name>[^`]+)` \((?P<file>(?:specs|proofs|src)/[^)]+)\), \S.*\.$")
 
 # What the prover says of a fact that does not hold.
 REFUSED = (
@@ -129,7 +132,7 @@ def parts(edit):
 
 
 def is_stated(edit, name, file):
-    """Whether a file of the crate states what is said to become false: a declaration of specs/, or the contract of a function of src/."""
+    """Whether a file of the crate states what is said to become false: a declaration of a page, or the contract of a function of src/."""
     text = (edit.crate / file).read_text()
     start = r"^\s*(?:pub )?fn %s\b" if file.endswith(".rt") else r"^\s*(?:pub )?%s : "
     return re.search(start % re.escape(name), text, re.M) is not None
@@ -140,7 +143,7 @@ def faults(edit):
     in_code, in_definition, shapes = parts(edit)
     if not re.match(r"# \S.*\.$", edit.lines[0]) or edit.lines[0].startswith("# false"):
         yield "its first line does not say in words what the wrong program is"
-    if any(not file.startswith(("src/", "specs/")) for file in edit.texts):
+    if any(not file.startswith("src/") and not PAGE.match(file) for file in edit.texts):
         yield "it changes a proof, not a program or a definition"
     for file in shapes:
         yield "it does not keep the shape of %s" % file
@@ -189,7 +192,7 @@ def log_faults(edit):
     found = re.search(r"expected type\s+`([^`]*)`.*but this has type\s+`([^`]*)`", said, re.S)
     if found and is_function(found.group(2)) and not is_function(found.group(1)):
         yield "it is refused for a missing argument: %s" % short
-    if edit.false and edit.false["file"].startswith("specs/") and (file, name) != (edit.false["file"], edit.false["name"]):
+    if edit.false and PAGE.match(edit.false["file"]) and (file, name) != (edit.false["file"], edit.false["name"]):
         yield "it is refused at %s of %s, not at the statement that becomes false" % (name, file)
     if edit.false and edit.false["file"].startswith("src/") and "/%s/" % edit.false["name"] not in file:
         yield "it is refused in %s, not at the contract that becomes false" % file

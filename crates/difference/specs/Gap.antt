@@ -8,7 +8,9 @@ use Prim.Native.Nat.{ℕ, zero, suc, _+_, _-_, _≤_, _<_, min, max}
 use native.Mathlib.Omega.{arith}
 use native.Mathlib.Decide.{decLe}
 use Rattle.difference.specs.System.{System, Solves, Inside}
-use Rattle.difference.specs.Total.{total, total-le, total-lt, total-full, all-or}
+use Rattle.base.specs.Sums.{sumOver}
+use Rattle.base.specs.SumLaws.{sum-le, sum-lt, sum-full}
+use Rattle.difference.specs.Bounded.{all-or}
 
 -- 1 where x and y agree, else 0 (where x ≤ y)
 same : (ℕ → ℕ) → (ℕ → ℕ) → ℕ → ℕ
@@ -23,8 +25,8 @@ lower : (ℕ → ℕ) → (ℕ → ℕ) → ℕ → ℕ
 lower x y j = max (x j) (y j - 1)
 
 -- each place at which x and y differ lowers the sum
-shrink : (n : ℕ) (x y : ℕ → ℕ) → ((j : ℕ) → x j ≤ y j) → total n (lower x y) + n ≤ total n y + total n (same x y)
-unfolding total same lower
+shrink : (n : ℕ) (x y : ℕ → ℕ) → ((j : ℕ) → x j ≤ y j) → sumOver n (lower x y) + n ≤ sumOver n y + sumOver n (same x y)
+unfolding sumOver same lower
 shrink zero x y h = omega arith
 shrink (suc n) x y h = omega (arith, h n, shrink n x y h)
 
@@ -41,14 +43,14 @@ module _ (S : System) (inside : Inside S) (x : ℕ → ℕ → ℕ)
     (below : (y : ℕ → ℕ) → Solves S y → (r j : ℕ) → x r j ≤ y j)
     (push : (r k : ℕ) → k < S .count → x r (S .from k) + S .up k ≤ x (suc r) (S .to k) + S .down k) where
   settled : (ℕ → ℕ) → ℕ → ℕ
-  settled y r = total (S .variables) (same (x r) y)
+  settled y r = sumOver (S .variables) (same (x r) y)
 
   -- the last iterate that counts
   Done : Type 0
   Done = Solves S (x (S .variables - 1))
 
   module _ (y : ℕ → ℕ) (sol : Solves S y)
-      (less : (z : ℕ → ℕ) → Solves S z → total (S .variables) z < total (S .variables) y → Done) where
+      (less : (z : ℕ → ℕ) → Solves S z → sumOver (S .variables) z < sumOver (S .variables) y → Done) where
     -- a constraint that the lowered vector breaks starts at a settled variable and ends at one that is settled in the next round
     broken-from : (r k : ℕ) → k < S .count → lower (x r) y (S .to k) + S .down k < lower (x r) y (S .from k) + S .up k
         → same (x r) y (S .from k) ≡ 1
@@ -79,8 +81,8 @@ module _ (S : System) (inside : Inside S) (x : ℕ → ℕ → ℕ)
         go e (yes h) = inr (inl h)
         go (inr z) (no h) = inl (less (lower (x r) y) z (omega (arith, shrink (S .variables) (x r) y (below y sol r))))
         go (inl w) (no h) = inr (inr (
-          omega (arith, total-lt (S .variables) (λ j. 0) (same (x r) y) (λ j q. omega arith) (S .from (w .0)) (inside .from-in (w .0) (w .1)) (omega (arith, broken-from r (w .0) (w .1) (w .2)))),
-          total-lt (S .variables) (same (x r) y) (same (x (suc r)) y) (λ j q. kept r j) (S .to (w .0)) (inside .to-in (w .0) (w .1)) (broken-to r (w .0) (w .1) (w .2)),
+          omega (arith, sum-lt (S .variables) (λ j. 0) (same (x r) y) (λ j q. omega arith) (S .from (w .0)) (inside .from-in (w .0) (w .1)) (omega (arith, broken-from r (w .0) (w .1) (w .2)))),
+          sum-lt (S .variables) (same (x r) y) (same (x (suc r)) y) (λ j q. kept r j) (S .to (w .0)) (inside .to-in (w .0) (w .1)) (broken-to r (w .0) (w .1) (w .2)),
         ))
 
     -- so by round r at least r + 1 variables are settled
@@ -101,7 +103,7 @@ module _ (S : System) (inside : Inside S) (x : ℕ → ℕ → ℕ)
         go (inr (inl h)) (inr g) = inr (omega (arith, mono))
           where
             mono : settled y r ≤ settled y (suc r)
-            mono = total-le (S .variables) (same (x r) y) (same (x (suc r)) y) (λ j q. kept r j)
+            mono = sum-le (S .variables) (same (x r) y) (same (x (suc r)) y) (λ j q. kept r j)
         go (inr (inr h)) (inr g) = inr (omega arith)
 
     -- and the last iterate that counts is y itself
@@ -110,7 +112,7 @@ module _ (S : System) (inside : Inside S) (x : ℕ → ℕ → ℕ)
     reach = go (grown (S .variables - 1))
       where
         equal : S .variables ≤ settled y (S .variables - 1) → (j : ℕ) → j < S .variables → x (S .variables - 1) j ≡ y j
-        equal h j l = omega (arith, total-full (S .variables) (same (x (S .variables - 1)) y) (same-le (x (S .variables - 1)) y) h j l, below y sol (S .variables - 1) j)
+        equal h j l = omega (arith, sum-full (S .variables) (same (x (S .variables - 1)) y) (same-le (x (S .variables - 1)) y) h j l, below y sol (S .variables - 1) j)
 
         go : Done ⊎ (min (S .variables) (S .variables - 1 + 1) ≤ settled y (S .variables - 1)) → Done
         go (inl d) = d
@@ -118,11 +120,11 @@ module _ (S : System) (inside : Inside S) (x : ℕ → ℕ → ℕ)
             λ k l. let e = equal (omega (arith, inside .some)) in
             omega (arith, sol k l, e (S .from k) (inside .from-in k l), e (S .to k) (inside .to-in k l))
 
-  by-fuel : (n : ℕ) (y : ℕ → ℕ) → Solves S y → total (S .variables) y < n → Done
+  by-fuel : (n : ℕ) (y : ℕ → ℕ) → Solves S y → sumOver (S .variables) y < n → Done
   by-fuel zero y sol h = absurd (omega arith)
   by-fuel (suc n) y sol h = reach y sol (λ z solz q. by-fuel n z solz (omega arith))
 
   -- where there is a solution at all, the iterate before the last round is one
   pub gap : (y : ℕ → ℕ) → Solves S y → Solves S (x (S .variables - 1))
   unfolding Done
-  gap y sol = by-fuel (suc (total (S .variables) y)) y sol (omega arith)
+  gap y sol = by-fuel (suc (sumOver (S .variables) y)) y sol (omega arith)

@@ -1,6 +1,6 @@
 -- Difference constraints: their rounds, and that these reach the least solution or show that there is none.
 pub mod System
-pub mod Total
+pub mod Bounded
 pub mod Gap
 pub mod Round
 pub mod Least

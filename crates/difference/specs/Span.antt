@@ -7,7 +7,9 @@ use Prim.Native.Nat.{ℕ, zero, suc, _+_, _-_, _≤_, _<_, min}
 use native.Mathlib.Omega.{arith}
 use native.Mathlib.Decide.{decLe, decLt}
 use Rattle.difference.specs.System.{System, Solves, Inside}
-use Rattle.difference.specs.Total.{total, total-le, total-part, total-swap, total-many, all-or}
+use Rattle.base.specs.Sums.{sumOver}
+use Rattle.base.specs.SumLaws.{sum-le, sum-part, sum-swap, sum-least}
+use Rattle.difference.specs.Bounded.{all-or}
 
 -- a, one less where it is above v
 lowered : ℕ → ℕ → ℕ
@@ -42,20 +44,20 @@ unfolding covers
 covers-after a w v l = omega arith
 
 -- The numbers below m that an interval covers.
-count-step : (a w m c : ℕ) → c + min m a ≡ min m (a + w) → covers a w m + c + min (suc m) a ≡ min (suc m) (a + w)
+count-step : (a w m c : ℕ) → c + min m a ≡ min m (a + w) → c + covers a w m + min (suc m) a ≡ min (suc m) (a + w)
 count-step a w m c h = go (decLt m a) (decLt m (a + w))
   where
-    go : Dec (m < a) → Dec (m < a + w) → covers a w m + c + min (suc m) a ≡ min (suc m) (a + w)
+    go : Dec (m < a) → Dec (m < a + w) → c + covers a w m + min (suc m) a ≡ min (suc m) (a + w)
     go (yes l) q = omega (arith, covers-before a w m l)
     go (no l) (yes q) = omega (arith, covers-one a w m (omega arith) q)
     go (no l) (no q) = omega (arith, covers-after a w m (omega arith))
 
-count-covered : (a w m : ℕ) → total m (covers a w) + min m a ≡ min m (a + w)
-unfolding total
+count-covered : (a w m : ℕ) → sumOver m (covers a w) + min m a ≡ min m (a + w)
+unfolding sumOver
 count-covered a w zero = omega arith
-count-covered a w (suc m) = count-step a w m (total m (covers a w)) (count-covered a w m)
+count-covered a w (suc m) = count-step a w m (sumOver m (covers a w)) (count-covered a w m)
 
-covered-most : (a w m : ℕ) → total m (covers a w) ≤ w
+covered-most : (a w m : ℕ) → sumOver m (covers a w) ≤ w
 covered-most a w m = omega (arith, count-covered a w m)
 
 module _ (S : System) (inside : Inside S) (x reach : ℕ → ℕ) (solves : Solves S x)
@@ -71,21 +73,21 @@ module _ (S : System) (inside : Inside S) (x reach : ℕ → ℕ) (solves : Solv
           (S .from (w .0), inside .from-in (w .0) (w .1), f .0, omega (arith, f .1, reaches (w .0) (w .1)))
       go (inr s) = absurd (omega (arith, least (λ i. lowered v (x i)) s j l, lowered-less v (x j) h))
 
-  number-covered : (j v : ℕ) → j < S .variables → v < x j + reach j → 1 ≤ total (S .variables) (λ i. covers (x i) (reach i) v)
+  number-covered : (j v : ℕ) → j < S .variables → v < x j + reach j → 1 ≤ sumOver (S .variables) (λ i. covers (x i) (reach i) v)
   number-covered j v l h = go (decLt v (x j))
     where
-      part : (i : ℕ) → i < S .variables → x i ≤ v → v < x i + reach i → 1 ≤ total (S .variables) (λ i. covers (x i) (reach i) v)
-      part i q a b = omega (arith, covers-one (x i) (reach i) v a b, total-part (S .variables) (λ i. covers (x i) (reach i) v) i q)
+      part : (i : ℕ) → i < S .variables → x i ≤ v → v < x i + reach i → 1 ≤ sumOver (S .variables) (λ i. covers (x i) (reach i) v)
+      part i q a b = omega (arith, covers-one (x i) (reach i) v a b, sum-part (S .variables) (λ i. covers (x i) (reach i) v) i q)
 
-      go : Dec (v < x j) → 1 ≤ total (S .variables) (λ i. covers (x i) (reach i) v)
+      go : Dec (v < x j) → 1 ≤ sumOver (S .variables) (λ i. covers (x i) (reach i) v)
       go (yes q) = let w = covered j v l q in part (w .0) (w .1) (w .2) (w .3)
       go (no q) = part j l (omega arith) h
 
-  pub span : (j : ℕ) → j < S .variables → x j + reach j ≤ total (S .variables) reach
+  pub span : (j : ℕ) → j < S .variables → x j + reach j ≤ sumOver (S .variables) reach
   span j l =
       omega (
         arith,
-        total-many (x j + reach j) (λ v. total (S .variables) (λ i. covers (x i) (reach i) v)) (λ v q. number-covered j v l q),
-        total-swap (x j + reach j) (S .variables) (λ i. covers (x i) (reach i)),
-        total-le (S .variables) (λ i. total (x j + reach j) (covers (x i) (reach i))) reach (λ i q. covered-most (x i) (reach i) (x j + reach j)),
+        sum-least (x j + reach j) (λ v. sumOver (S .variables) (λ i. covers (x i) (reach i) v)) (λ v q. number-covered j v l q),
+        sum-swap (x j + reach j) (S .variables) (λ i. covers (x i) (reach i)),
+        sum-le (S .variables) (λ i. sumOver (x j + reach j) (covers (x i) (reach i))) reach (λ i q. covered-most (x i) (reach i) (x j + reach j)),
       )

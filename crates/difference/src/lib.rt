@@ -1,7 +1,7 @@
 // Difference constraints over slices: rounds that raise values from 0 to the least solution.
 // Constraint k stands in `rows` at 4 k: from, to, up, down. It says: value[from] + up <= value[to] + down.
 ghost use mathlib.Core.Path.{_≡_};
-ghost use lib.ListN.{length, replicate};
+ghost use lib.ListN.{length};
 ghost use Rattle.difference.specs.Rows.{systemOf, Fit, Ready, RoundDone, SolveDone};
 
 // The numbers of a row.
@@ -11,16 +11,6 @@ fn index(x: u64) -> usize
     ensures { λ r. ⌜ r ≡ x ⌝ }
 {
     x as usize
-}
-
-fn clear(values: &mut [u64])
-    ensures { λ _. ⌜ now (values .exit) ≡ replicate (length (now (values .entry))) 0 ⌝ }
-{
-    let mut z = 0;
-    while z < values.len() {
-        values[z] = 0;
-        z += 1;
-    }
 }
 
 // One round over all constraints; true where the values were a solution, and stay as they were.
@@ -52,7 +42,7 @@ pub fn solve(rows: &[u64], values: &mut [u64]) -> bool
     ensures { λ r. ⌜ SolveDone (systemOf (length (now (values .entry))) (now (rows .entry))) (now (values .exit)) r ⌝ }
 {
     let variables = values.len();
-    clear(values);
+    base::clear(values);
     let mut r = 0;
     while r < variables {
         if round(rows, values) {

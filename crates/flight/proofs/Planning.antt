@@ -1,13 +1,14 @@
 -- The plan put together: the least starts of the order, copied by block; and the order, given or searched for.
 use mathlib.Core.Path.{_≡_, refl, sym, ap, ap₂, subst, _∙_}
 use mathlib.Core.Bool.{Bool, true, false}
-use mathlib.Core.List.{List, _∷_}
+use mathlib.Core.List.{List}
 use Prim.Native.Nat.{ℕ, zero, suc, _+_, _-_, _*_, _^_, _<_}
 use native.Mathlib.Nat.{zero-add}
 use native.Mathlib.Omega.{arith}
 use lib.ListN.{length, getD, take, replicate}
 use lib.Seq.{length-take-le}
 use borrow.Author.Tests.{ne-eqb}
+use Rattle.base.specs.Listed.{listed-same}
 use Rattle.order.specs.Order.{Proper}
 use Rattle.difference.specs.System.{value}
 use Rattle.difference.specs.Round.{zeros-value}
@@ -15,7 +16,7 @@ use Rattle.sheet.specs.Sound.{FlightSound}
 use Rattle.sheet.specs.declared.FlightSection.{FlightSection}
 use Rattle.rules.specs.declared.Passes.{Passes}
 use Rattle.flight_order.specs.Constraints.{orderedFlight, leastStarts, possibleIn, orderFigure}
-use Rattle.flight_order.specs.Timetable.{listOf, passesFrom, leastPasses}
+use Rattle.flight_order.specs.Timetable.{passesWithStarts, leastPasses}
 use Rattle.flight_order.specs.Good.{least-low}
 use Rattle.flight_order.specs.Ceiling.{sound-good}
 use Rattle.flight_order.specs.Planned.{empty-possible, figure-none}
@@ -28,11 +29,6 @@ use Rattle.flight.specs.Chosen.{chosen-given, chosen-free, chosen-proper
 use Rattle.flight.specs.Contracts.{SomeBlocks, PlanAsked, OrderAsked, BlocksAsked, Copied}
 use Rattle.flight_search.specs.declared.Incumbent.{Incumbent}
 use Rattle.flight.specs.declared.FlightPlan.{FlightPlan}
-
-list-agree : (n : ℕ) (g h : ℕ → Passes) → ((i : ℕ) → i < n → g i ≡ h i) → listOf n g ≡ listOf n h
-unfolding listOf
-list-agree zero g h e = refl
-list-agree (suc n) g h e = ap₂ _∷_ (e 0 (omega arith)) (list-agree n (λ i. g (suc i)) (λ i. h (suc i)) (λ i l. e (suc i) (omega arith)))
 
 module _ (f : FlightSection) (w : ℕ) {rows₀ starts₀ : List ℕ} (asked : OrderAsked f w rows₀ starts₀) where
   pub order-rooms : Rooms (orderedFlight (f .blocks) w 0 (f .first) (f .second) (f .delay) (f .delay)) rows₀ starts₀
@@ -55,13 +51,13 @@ module _ (f : FlightSection) (w : ℕ) {rows₀ starts₀ : List ℕ} (asked : O
     pub plan-made : (firsts seconds : List ℕ) → Copied starts 0 (f .blocks) firsts → Copied starts (f .blocks) (f .blocks) seconds
         → PlannedIn f w
         (record { possible = found; figure = getD starts (2 * f .blocks - 1) 0 + getD (f .second) (f .blocks - 1) 0; order = w; first = firsts; second = seconds })
-    unfolding possibleIn orderFigure leastStarts passesOf leastPasses passesFrom
+    unfolding possibleIn orderFigure leastStarts passesOf leastPasses passesWithStarts
     plan-made firsts seconds a b = record {
       possible = least .result;
       figure = rw (ne-eqb (f .blocks) 0 (λ e. omega (arith, asked .plan .blocks .some)), least .starts);
       order = refl;
       passes =
-          list-agree (f .blocks) (λ i. record { first = getD firsts i 0; second = getD seconds i 0 })
+          listed-same (f .blocks) (λ i. record { first = getD firsts i 0; second = getD seconds i 0 })
           (λ i. record { first = value (leastStarts f w) i; second = value (leastStarts f w) (f .blocks + i) })
           agree;
       no-more-first = a .no-more;
@@ -120,12 +116,12 @@ module _ (f : FlightSection) (rows starts : List ℕ) (asked : BlocksAsked f row
 -- No block, no passes.
 pub plan-none : (f : FlightSection) → FlightSound f → f .blocks ≡ 0
     → Planned f (record { possible = true; figure = 0; order = 0; first = replicate 32 0; second = replicate 32 0 })
-unfolding isPossible leastFigure chosenPasses passesOf leastPasses passesFrom
+unfolding isPossible leastFigure chosenPasses passesOf leastPasses passesWithStarts
 plan-none f sound e = record {
   possible = sym (empty-possible f (chosenOrder f) sound proper (λ l. omega arith));
   figure = sym (figure-none f (chosenOrder f) sound proper (λ l. omega arith));
   order = zero-order;
-  passes = list-agree (f .blocks) _ _ (λ i l. absurd (omega arith));
+  passes = listed-same (f .blocks) _ _ (λ i l. absurd (omega arith));
   no-more-first = λ i l. zeros-value 32 i;
   no-more-second = λ i l. zeros-value 32 i;
 }

@@ -15,7 +15,7 @@ use Rattle.order.specs.Beginning.{Beginning, Extends}
 use Rattle.order.specs.Children.{beginning-empty, first-child, second-child, whole-proper, extends-bit, extends-seconds, extends-firsts, extends-itself, first-parent, second-parent}
 use Rattle.sheet.specs.Sound.{FlightSound}
 use Rattle.sheet.specs.declared.FlightSection.{FlightSection}
-use Rattle.rules.specs.Sums.{sumOver}
+use Rattle.base.specs.Sums.{sumOver}
 use Rattle.flight_order.specs.Constraints.{passOf, timeOf, exactFlight, possibleIn}
 use Rattle.flight_order.specs.Schedule.{Schedule}
 use Rattle.flight_order.specs.Good.{pass-first, pass-second}

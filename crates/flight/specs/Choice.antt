@@ -4,10 +4,11 @@ use mathlib.Core.Bool.{Bool, true, false}
 use mathlib.Core.List.{List}
 use Prim.Native.Nat.{ℕ, _*_, _≤_}
 use lib.ListN.{getD}
+use Rattle.base.specs.Listed.{listed}
 use Rattle.sheet.specs.declared.FlightSection.{FlightSection}
 use Rattle.rules.specs.declared.Passes.{Passes}
 use Rattle.flight_order.specs.Constraints.{possibleIn, orderFigure}
-use Rattle.flight_order.specs.Timetable.{listOf, leastPasses}
+use Rattle.flight_order.specs.Timetable.{leastPasses}
 use Rattle.flight_search.specs.Search.{noIncumbent, searched}
 use Rattle.flight_search.specs.Orders.{ordersOf}
 use Rattle.flight.specs.declared.FlightPlan.{FlightPlan}
@@ -25,9 +26,12 @@ leastFigure f = orderFigure f (chosenOrder f)
 unfoldable pub chosenPasses : FlightSection → List Passes
 chosenPasses f = leastPasses f (chosenOrder f)
 
--- The passes that a plan states for n blocks.
+-- The passes of block i, from 0, in a plan, and those of all n blocks.
+abbrev pub planPasses : FlightPlan → ℕ → Passes
+planPasses r i = record { first = getD (r .first) i 0; second = getD (r .second) i 0 }
+
 unfoldable pub passesOf : ℕ → FlightPlan → List Passes
-passesOf n r = listOf n (λ i. record { first = getD (r .first) i 0; second = getD (r .second) i 0 })
+passesOf n r = listed n (planPasses r)
 
 -- A plan r of the flight f says this: whether it is possible, its figure, its order, and its passes, with zeros after them.
 pub record PlanSays (f : FlightSection) (p : Bool) (v w : ℕ) (ps : List Passes) (r : FlightPlan) : Type 0 where

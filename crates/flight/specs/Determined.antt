@@ -6,22 +6,19 @@ use native.Mathlib.Decide.{decLt}
 use native.Mathlib.Omega.{arith}
 use lib.ListN.{length, getD}
 use lib.Seq.{ext-getD}
+use Rattle.base.specs.Listed.{listed-at}
 use Rattle.sheet.specs.declared.FlightSection.{FlightSection}
 use Rattle.rules.specs.Flight.{noPasses}
 use Rattle.rules.specs.declared.Passes.{Passes}
-use Rattle.flight_order.specs.Timetable.{list-at}
-use Rattle.flight.specs.Choice.{passesOf, Planned}
+use Rattle.flight.specs.Choice.{planPasses, passesOf, Planned}
 use Rattle.flight.specs.declared.FlightPlan.{FlightPlan}
 
-abbrev entry : FlightPlan → ℕ → Passes
-entry r i = record { first = getD (r .first) i 0; second = getD (r .second) i 0 }
-
-entry-at : (n : ℕ) (r : FlightPlan) (i : ℕ) → i < n → getD (passesOf n r) i noPasses ≡ entry r i
+entry-at : (n : ℕ) (r : FlightPlan) (i : ℕ) → i < n → getD (passesOf n r) i noPasses ≡ planPasses r i
 unfolding passesOf
-entry-at n r i l = list-at n (entry r) noPasses i l
+entry-at n r i l = listed-at n (planPasses r) i noPasses l
 
 module _ {f : FlightSection} {p r : FlightPlan} (P : Planned f p) (R : Planned f r) where
-  same-passes : (i : ℕ) → i < f .blocks → entry p i ≡ entry r i
+  same-passes : (i : ℕ) → i < f .blocks → planPasses p i ≡ planPasses r i
   same-passes i l =
       sym (entry-at (f .blocks) p i l) ∙ ap (λ (ps : List Passes). getD ps i noPasses) (P .passes ∙ sym (R .passes)) ∙ entry-at (f .blocks) r i l
 

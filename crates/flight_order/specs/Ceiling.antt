@@ -9,9 +9,9 @@ use native.Mathlib.Omega.{arith}
 use lib.Dec.{ltb}
 use lib.ListN.{getD}
 use borrow.Author.Tests.{lt-ltb, le-ltb}
+use Rattle.base.specs.Sums.{sumOver}
 use Rattle.order.specs.Order.{Proper}
 use Rattle.difference.specs.System.{value}
-use Rattle.difference.specs.Total.{total}
 use Rattle.difference.specs.Least.{solvable-solves, least-below}
 use Rattle.difference.specs.Span.{span}
 use Rattle.sheet.specs.Sound.{FlightSound}
@@ -72,18 +72,18 @@ module _ (f : FlightSection) where
           p = passOf (f .blocks) w (k - 2 * f .blocks)
 
   module _ (s : FlightSound f) where
-    firsts-total : (m : ℕ) → m ≤ f .blocks → total m (reach f) ≤ 20000 * m
-    unfolding total
-    firsts-total zero l = omega arith
-    firsts-total (suc m) l = omega (arith, firsts-total m (omega arith), reach-first m l, s .most-first m, s .most-delay m)
+    firsts-sum : (m : ℕ) → m ≤ f .blocks → sumOver m (reach f) ≤ 20000 * m
+    unfolding sumOver
+    firsts-sum zero l = omega arith
+    firsts-sum (suc m) l = omega (arith, firsts-sum m (omega arith), reach-first m l, s .most-first m, s .most-delay m)
 
-    all-total : (m : ℕ) → total (f .blocks + m) (reach f) ≤ 20000 * f .blocks + 10000 * m
-    unfolding total
-    all-total zero = rw (add-zero (f .blocks)) (omega (arith, firsts-total (f .blocks) (omega arith)))
-    all-total (suc m) = rw (add-suc (f .blocks) m) (omega (arith, all-total m, reach-second (f .blocks + m) (omega arith), s .most-second (f .blocks + m - f .blocks)))
+    all-sum : (m : ℕ) → sumOver (f .blocks + m) (reach f) ≤ 20000 * f .blocks + 10000 * m
+    unfolding sumOver
+    all-sum zero = rw (add-zero (f .blocks)) (omega (arith, firsts-sum (f .blocks) (omega arith)))
+    all-sum (suc m) = rw (add-suc (f .blocks) m) (omega (arith, all-sum m, reach-second (f .blocks + m) (omega arith), s .most-second (f .blocks + m - f .blocks)))
 
-    reach-total : total (2 * f .blocks) (reach f) ≤ 960000
-    reach-total = rw e (omega (arith, all-total (f .blocks), s .most-blocks))
+    reach-sum : sumOver (2 * f .blocks) (reach f) ≤ 960000
+    reach-sum = rw e (omega (arith, all-sum (f .blocks), s .most-blocks))
       where
         e : 2 * f .blocks ≡ f .blocks + f .blocks
         e = omega arith
@@ -101,7 +101,7 @@ module _ (f : FlightSection) where
               p
               l,
           time-reach p,
-          reach-total,
+          reach-sum,
         )
       where
         good : Good (exactFlight f w)

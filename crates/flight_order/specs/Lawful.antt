@@ -10,25 +10,25 @@ use Rattle.order.specs.Order.{Proper}
 use Rattle.sheet.specs.Limits.{ceiling}
 use Rattle.sheet.specs.Sound.{FlightSound}
 use Rattle.sheet.specs.declared.FlightSection.{FlightSection}
-use Rattle.rules.specs.Flight.{passStart, passTime, passEnd, passAt, FlightLawful, Keeps, flightFigure}
+use Rattle.rules.specs.Flight.{passStart, passTime, passEnd, secondDue, clearAt, Clear, passAt, FlightLawful, Keeps, flightFigure}
 use Rattle.rules.specs.declared.Passes.{Passes}
-use Rattle.rules_laws.specs.Sums.{greatest-most, greatest-part}
-use Rattle.rules_laws.specs.FlightRunning.{position, start-first, second-start, end-is, next-apart, before-later, all-apart, order-kept}
+use Rattle.base.specs.SumLaws.{greatest-most, greatest-part}
+use Rattle.rules_laws.specs.FlightRunning.{position, start-first, second-start, end-is, clear-end, next-apart, before-later, all-apart, order-kept}
 use Rattle.flight_order.specs.Constraints.{passOf, timeOf, exactFlight}
 use Rattle.flight_order.specs.Schedule.{Schedule}
 use Rattle.flight_order.specs.Good.{pass-in}
 use Rattle.flight_order.specs.Positions.{last-pass}
-use Rattle.flight_order.specs.Timetable.{passesFrom, passes-length, passes-first, passes-second, start-from, time-is, pass-is}
+use Rattle.flight_order.specs.Timetable.{passesWithStarts, passes-length, passes-first, passes-second, start-from, time-is, pass-is}
 
 module _ (f : FlightSection) (w : ℕ) (proper : Proper (f .blocks) w) where
   -- From the rules to the constraints.
   pub lawful-schedule : (ps : List Passes) → FlightLawful f ps → Keeps f w ps → Schedule (exactFlight f w) (passStart f ps)
-  unfolding passEnd
+  unfolding passEnd clearAt secondDue
   lawful-schedule ps law keeps = record { at-least = λ i l. omega (arith, delay i l); at-most = λ i l. omega (arith, delay i l); in-order = order }
     where
       delay : (i : ℕ) → i < f .blocks → passStart f ps (f .blocks + i) ≡ passStart f ps i + (getD (f .first) i 0 + getD (f .delay) i 0)
       delay i l =
-          second-start f ps i ∙ omega (arith, law .exact-delay i l, start-first f ps i l)
+          second-start f ps i ∙ omega (arith, law .delay-kept i l .exact, start-first f ps i l)
 
       order : (j : ℕ) → j + 1 < 2 * f .blocks
           → passStart f ps (passOf (f .blocks) w j) + (timeOf (f .blocks) (f .first) (f .second) (passOf (f .blocks) w j) + 0)
@@ -43,8 +43,8 @@ module _ (f : FlightSection) (w : ℕ) (proper : Proper (f .blocks) w) where
   -- From the constraints to the rules.
   module _ (y : ℕ → ℕ) (schedule : Schedule (exactFlight f w) y) where
     next : (k : ℕ) → k + 1 < 2 * f .blocks
-        → passEnd f (passesFrom (f .blocks) y) (passAt f w k) ≤ passStart f (passesFrom (f .blocks) y) (passAt f w (k + 1))
-    unfolding passEnd
+        → Clear f (passesWithStarts (f .blocks) y) (passAt f w k) (passAt f w (k + 1))
+    unfolding passEnd clearAt
     next k l =
         rw (
           pass-is f w k,
@@ -54,15 +54,17 @@ module _ (f : FlightSection) (w : ℕ) (proper : Proper (f .blocks) w) where
         )
         (omega (arith, schedule .in-order k l, time-is f (passOf (f .blocks) w k)))
 
-    pub schedule-keeps : FlightSound f → Keeps f w (passesFrom (f .blocks) y)
-    schedule-keeps sound = order-kept f (passesFrom (f .blocks) y) w proper next sound
+    pub schedule-keeps : FlightSound f → Keeps f w (passesWithStarts (f .blocks) y)
+    schedule-keeps sound = order-kept f (passesWithStarts (f .blocks) y) w proper next sound
 
-    pub schedule-lawful : ((p : ℕ) → p < 2 * f .blocks → y p + passTime f p ≤ ceiling) → FlightLawful f (passesFrom (f .blocks) y)
-    unfolding passEnd
+    pub schedule-lawful : ((p : ℕ) → p < 2 * f .blocks → y p + passTime f p ≤ ceiling) → FlightLawful f (passesWithStarts (f .blocks) y)
+    unfolding passEnd secondDue
     schedule-lawful low = record {
       every-block = passes-length (f .blocks) y;
-      exact-delay = λ i l. rw (passes-first (f .blocks) y i l, passes-second (f .blocks) y i l) (omega (arith, schedule .at-least i l, schedule .at-most i l));
-      apart = all-apart f (passesFrom (f .blocks) y) w proper next;
+      delay-kept = λ i l. record {
+        exact = rw (passes-first (f .blocks) y i l, passes-second (f .blocks) y i l) (omega (arith, schedule .at-least i l, schedule .at-most i l));
+      };
+      apart = all-apart f (passesWithStarts (f .blocks) y) w proper next;
       within = λ p l. rw (start-from f y p l) (low p l);
     }
 
@@ -82,9 +84,9 @@ module _ (f : FlightSection) (w : ℕ) (proper : Proper (f .blocks) w) where
               where
                 same : p ≡ 2 * f .blocks - 1
                 same = sym (a .2) ∙ ap (passAt f w) e ∙ last-at
-            at (no e) = omega (arith, before, end-is f ps (2 * f .blocks - 1))
+            at (no e) = omega (arith, before, clear-end f ps p, end-is f ps (2 * f .blocks - 1))
               where
-                before : passEnd f ps p ≤ passStart f ps (2 * f .blocks - 1)
+                before : Clear f ps p (2 * f .blocks - 1)
                 before = rw (a .2, last-at) at (before-later f ps w proper (next-apart f ps w law keeps proper) (a .0) (2 * f .blocks - 1) (omega arith) (omega arith))
 
     pub figure-last : flightFigure f ps ≡ passEnd f ps (2 * f .blocks - 1)

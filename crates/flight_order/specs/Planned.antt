@@ -15,12 +15,12 @@ use Rattle.sheet.specs.Sound.{FlightSound}
 use Rattle.sheet.specs.declared.FlightSection.{FlightSection}
 use Rattle.rules.specs.Flight.{passStart, passTime, passEnd, FlightLawful, Keeps, flightFigure}
 use Rattle.rules.specs.declared.Passes.{Passes}
-use Rattle.rules_laws.specs.Sums.{greatest-most}
+use Rattle.base.specs.SumLaws.{greatest-most}
 use Rattle.rules_laws.specs.FlightRunning.{time-second}
 use Rattle.flight_order.specs.Constraints.{exactFlight, systemFor, leastStarts, possibleIn, orderFigure}
 use Rattle.flight_order.specs.Schedule.{Schedule, schedule-solves, solves-schedule}
 use Rattle.flight_order.specs.Good.{inside}
-use Rattle.flight_order.specs.Timetable.{passesFrom, leastPasses, passes-length, start-from}
+use Rattle.flight_order.specs.Timetable.{passesWithStarts, leastPasses, passes-length, start-from}
 use Rattle.flight_order.specs.Lawful.{lawful-schedule, schedule-keeps, schedule-lawful, figure-last}
 use Rattle.flight_order.specs.Ceiling.{sound-good, least-end}
 
@@ -59,7 +59,7 @@ module _ (f : FlightSection) (w : ℕ) (sound : FlightSound f) (proper : Proper 
   unfolding leastPasses
   possible-keeps e = go (decLt 0 (f .blocks))
     where
-      go : Dec (0 < f .blocks) → Keeps f w (passesFrom (f .blocks) (value (leastStarts f w)))
+      go : Dec (0 < f .blocks) → Keeps f w (passesWithStarts (f .blocks) (value (leastStarts f w)))
       go (yes some) = schedule-keeps f w proper (value (leastStarts f w)) (least-schedule some e) sound
       go (no none) = record { by-start = λ j k h l. absurd (omega (arith, none)) }
 
@@ -67,13 +67,13 @@ module _ (f : FlightSection) (w : ℕ) (sound : FlightSound f) (proper : Proper 
   unfolding leastPasses
   possible-lawful e = go (decLt 0 (f .blocks))
     where
-      go : Dec (0 < f .blocks) → FlightLawful f (passesFrom (f .blocks) (value (leastStarts f w)))
+      go : Dec (0 < f .blocks) → FlightLawful f (passesWithStarts (f .blocks) (value (leastStarts f w)))
       go (yes some) =
           schedule-lawful f w proper (value (leastStarts f w)) (least-schedule some e)
           (λ p l. omega (arith, least-end f sound w some proper e p l))
       go (no none) = record {
         every-block = passes-length (f .blocks) (value (leastStarts f w));
-        exact-delay = λ i l. absurd (omega (arith, none));
+        delay-kept = λ i l. absurd (omega (arith, none));
         apart = λ p q lp lq ne. absurd (omega (arith, none));
         within = λ p l. absurd (omega (arith, none));
       }

@@ -1,7 +1,7 @@
 -- What keeps the sums of a state and of a step within 64 bits, and that a step keeps it.
 use mathlib.Core.Path.{_≡_}
 use mathlib.Core.List.{List}
-use Prim.Native.Nat.{ℕ, suc, _+_, _-_, _*_, _^_, _≤_, _<_}
+use Prim.Native.Nat.{ℕ, suc, _+_, _-_, _*_, _^_, _≤_, _<_, max}
 use native.Mathlib.Nat.{le-trans, lt-of-lt-of-le, pow-suc, pow-le-pow-right, mul-le-mul-right}
 use native.Mathlib.Decide.{ℕ-discrete}
 use native.Mathlib.Omega.{arith}
@@ -9,7 +9,7 @@ use lib.ListN.{length, getD, set, length-set}
 use lib.Seq.{getD-set-same, getD-set-other}
 use Rattle.interleaving.specs.declared.State.{State}
 use Rattle.interleaving.specs.Instance.{Instance, desk-capped, scanOf, deskOf, weightOf, instanceLength, timeCap, weightCap, scannerCap, stripSpan, freeCap, stripCost, costCap, pathCap}
-use Rattle.interleaving.specs.Search.{maxOf, StripLeft, scanned, finish, stepOf}
+use Rattle.interleaving.specs.Search.{StripLeft, scanned, finish, stepOf}
 use Rattle.interleaving.specs.SearchLaws.{max-least}
 
 -- what keeps the sums small
@@ -105,9 +105,9 @@ module _ (J : List ℕ) (j : Instance J) (s : State) (f : Capped s) (d : ℕ) (p
 pub can-serve-capped : {J : List ℕ} {s : State} {d : ℕ} → CanServe J s d → StepCapped J s d
 can-serve-capped {J} {s} {d} h = step-capped J (h .jobs) s (h .capped) d (h .desk) (h .strip) (h .left)
 
--- the later of two times that are capped, and the cost of a strip that starts there
-pub later-capped : (a b m : ℕ) → m ≡ maxOf a b → a ≤ freeCap → b ≤ freeCap → m ≤ freeCap
-later-capped a b m e p q = rw e (max-least a b freeCap p q)
+-- the greater of two times that are capped, and the cost of a strip that starts there
+pub greater-capped : (a b m : ℕ) → m ≡ max a b → a ≤ freeCap → b ≤ freeCap → m ≤ freeCap
+greater-capped a b m e p q = rw e (max-least a b freeCap p q)
 
 pub weighted-capped : {J : List ℕ} {s : State} {d : ℕ} → StepCapped J s d → (m : ℕ) → m ≤ freeCap
     → weightOf J d (getD (s .taken) d 0) * (m + deskOf J d (getD (s .taken) d 0)) ≤ weightCap * (freeCap + timeCap)

@@ -2,16 +2,12 @@
 use mathlib.Core.Path.{_≡_}
 use mathlib.Core.Bool.{cond}
 use mathlib.Core.List.{List}
-use Prim.Native.Nat.{ℕ, zero, suc, _+_, _-_, _*_, _≤_, _<_}
+use Prim.Native.Nat.{ℕ, zero, suc, _+_, _-_, _*_, _≤_, _<_, max}
 use lib.Dec.{ltb}
 use lib.ListN.{getD, set, replicate}
 use Rattle.interleaving.specs.declared.State.{State}
 use Rattle.interleaving.specs.declared.Incumbent.{Incumbent}
 use Rattle.interleaving.specs.Instance.{largest, scanOf, deskOf, weightOf}
-
--- the greater of two
-unfoldable pub maxOf : ℕ → ℕ → ℕ
-maxOf a b = cond (ltb a b) b a
 
 -- desk d has a strip left
 abbrev pub StripLeft : List ℕ → State → ℕ → Type 0
@@ -22,7 +18,7 @@ abbrev pub scanned : List ℕ → State → ℕ → ℕ
 scanned J s d = s .time + scanOf J d (getD (s .taken) d 0)
 
 abbrev pub finish : List ℕ → State → ℕ → ℕ
-finish J s d = maxOf (getD (s .free) d 0) (scanned J s d) + deskOf J d (getD (s .taken) d 0)
+finish J s d = max (getD (s .free) d 0) (scanned J s d) + deskOf J d (getD (s .taken) d 0)
 
 -- the state after the next strip of desk d; the desk's number, from 1, is one more digit of the list's number
 unfoldable pub stepOf : List ℕ → State → ℕ → State

@@ -2,7 +2,7 @@
 use mathlib.Core.Path.{_≡_, refl, sym, ap, _∙_}
 use mathlib.Core.Bool.{cond}
 use mathlib.Core.List.{List}
-use Prim.Native.Nat.{ℕ, zero, suc, _+_, _-_, _*_, _≤_, _<_}
+use Prim.Native.Nat.{ℕ, zero, suc, _+_, _-_, _*_, _≤_, _<_, max}
 use native.Mathlib.Nat.{le-refl, le-trans}
 use native.Mathlib.Numerals.{add-one}
 use native.Mathlib.Decide.{decLt, ℕ-discrete}
@@ -13,32 +13,17 @@ use borrow.Author.Tests.{lt-ltb, le-ltb}
 use Rattle.interleaving.specs.declared.State.{State}
 use Rattle.interleaving.specs.declared.Incumbent.{Incumbent}
 use Rattle.interleaving.specs.Instance.{deskOf, weightOf}
-use Rattle.interleaving.specs.Search.{maxOf, StripLeft, scanned, stepOf, keep, overDesks, branch, searchFrom, LowerBound}
+use Rattle.interleaving.specs.Search.{StripLeft, scanned, stepOf, keep, overDesks, branch, searchFrom, LowerBound}
 
 -- the greater of two
-pub max-left : (a b : ℕ) → a ≤ maxOf a b
-unfolding maxOf
-max-left a b = go (decLt a b)
-  where
-    go : Dec (a < b) → a ≤ cond (ltb a b) b a
-    go (yes l) = rw (lt-ltb a b l) (omega arith)
-    go (no l) = rw (le-ltb a b (omega arith)) (omega arith)
+pub max-left : (a b : ℕ) → a ≤ max a b
+max-left a b = omega arith
 
-pub max-right : (a b : ℕ) → b ≤ maxOf a b
-unfolding maxOf
-max-right a b = go (decLt a b)
-  where
-    go : Dec (a < b) → b ≤ cond (ltb a b) b a
-    go (yes l) = rw (lt-ltb a b l) (omega arith)
-    go (no l) = rw (le-ltb a b (omega arith)) (omega arith)
+pub max-right : (a b : ℕ) → b ≤ max a b
+max-right a b = omega arith
 
-pub max-least : (a b c : ℕ) → a ≤ c → b ≤ c → maxOf a b ≤ c
-unfolding maxOf
-max-least a b c p q = go (decLt a b)
-  where
-    go : Dec (a < b) → cond (ltb a b) b a ≤ c
-    go (yes l) = rw (lt-ltb a b l) q
-    go (no l) = rw (le-ltb a b (omega arith)) p
+pub max-least : (a b c : ℕ) → a ≤ c → b ≤ c → max a b ≤ c
+max-least a b c p q = omega arith
 
 -- the search never worsens the incumbent
 module _ (g : ℕ → Incumbent → Incumbent) (falls : (d : ℕ) (b : Incumbent) → g d b .figure ≤ b .figure) where
@@ -153,7 +138,7 @@ module _ (J : List ℕ) where
       e : s .left ≡ suc (s .left - 1)
       e = omega arith
 
-pub step-is : (J : List ℕ) (s : State) (d m : ℕ) → m ≡ maxOf (getD (s .free) d 0) (scanned J s d) → record {
+pub step-is : (J : List ℕ) (s : State) (d m : ℕ) → m ≡ max (getD (s .free) d 0) (scanned J s d) → record {
   left = s .left - 1;
   time = scanned J s d;
   cost = s .cost + weightOf J d (getD (s .taken) d 0) * (m + deskOf J d (getD (s .taken) d 0));

@@ -5,7 +5,7 @@ ghost use Prim.Native.Nat.{_<_};
 ghost use lib.ListN.{getD};
 ghost use lib.Dec.{ltb};
 ghost use Rattle.interleaving.specs.Instance.{Instance};
-ghost use Rattle.interleaving.specs.Search.{stepOf, maxOf, keep, startState};
+ghost use Rattle.interleaving.specs.Search.{stepOf, keep, startState};
 ghost use Rattle.interleaving.specs.Caps.{CanServe};
 
 // Strips left, the time at which the scanner is free, the cost so far, the scanner list as a number in base 4 with the desks' numbers
@@ -23,12 +23,6 @@ pub struct State {
 pub struct Incumbent {
     pub figure: u64,
     pub path: u64,
-}
-
-pub fn later(a: u64, b: u64) -> u64
-    ensures { λ r. ⌜ r ≡ maxOf a b ⌝ }
-{
-    if a < b { b } else { a }
 }
 
 // Whether desk d has a strip left.
@@ -50,7 +44,7 @@ pub fn step(jobs: &[u64], s: State, d: usize) -> State
     let i = taken[d];
     let at = 3 + (d * 6 + i);
     let scanned = s.time + jobs[at];
-    let done = later(free[d], scanned) + jobs[at + 18];
+    let done = base::greater(free[d], scanned) + jobs[at + 18];
     free[d] = done;
     taken[d] = i + 1;
     State {

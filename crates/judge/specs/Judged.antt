@@ -7,7 +7,7 @@ use lib.Dec.{eqb}
 use Rattle.sheet.specs.Refusals.{ruleBroken}
 use Rattle.sheet.specs.Read.{readSheet}
 use Rattle.sheet.specs.declared.Sheet.{Sheet}
-use Rattle.rules.specs.PlanRead.{figureFrom}
+use Rattle.plan_read.specs.PlanRead.{figureFrom}
 use Rattle.judge_layout.specs.Layout.{mosaicPart, sortingPart, flightPart, verdict, layoutVerdict}
 use Rattle.judge_layout.specs.declared.Part.{Part}
 use Rattle.judge_layout.specs.declared.Verdict.{Verdict}

@@ -13,7 +13,7 @@ use Rattle.sheet.specs.Read.{readSheet}
 use Rattle.sheet.specs.Sound.{SheetSound, SortingSound}
 use Rattle.sheet.specs.Theorems.{read-sound}
 use Rattle.sheet.specs.declared.Sheet.{Sheet}
-use Rattle.rules.specs.PlanRead.{figureFrom}
+use Rattle.plan_read.specs.PlanRead.{figureFrom}
 use Rattle.judge_layout.specs.Layout.{mosaicPart, sortingPart, flightPart, verdict, layoutVerdict}
 use Rattle.judge_layout.specs.Laws.{VerdictAsked, PartFits, parts-fit}
 use Rattle.judge_layout.specs.declared.Part.{Part}

@@ -14,10 +14,10 @@ use Rattle.field.specs.Bytes.{NumberRead}
 use Rattle.order.specs.Order.{isProper}
 use Rattle.order.specs.Decided.{proper-true}
 use Rattle.sheet.specs.declared.FlightSection.{FlightSection}
-use Rattle.rules.specs.Sums.{greatestOver}
-use Rattle.rules.specs.Flight.{noPasses, passesAt, passStart, passTime, passEnd, passAt, flightFigure}
-use Rattle.rules.specs.PlanRead.{passesFrom, membersFrom}
-use Rattle.rules.specs.FunctionLaws.{PositionAsked, TimeTold}
+use Rattle.base.specs.Sums.{greatestOver}
+use Rattle.rules.specs.Flight.{noPasses, passesAt, passStart, passTime, passEnd, clearAt, passAt, flightFigure}
+use Rattle.plan_read.specs.PlanRead.{passesFrom, membersFrom}
+use Rattle.running.specs.FunctionLaws.{PositionPre, TimeTold}
 use Rattle.rules.specs.declared.Passes.{Passes}
 use Rattle.rules_laws.specs.FlightRunning.{pass-known}
 use Rattle.judge_rules.specs.Follows.{passesInOrder, flightHead}
@@ -70,7 +70,7 @@ pub record OrderedSoFar (f : FlightSection) (order : ℕ) (ps : List Passes) (k 
   pub within : k ≤ 2 * f .blocks - 1
   pub so-far : passesInOrder f order ps k ≡ true
 
-order-suc : (f : FlightSection) (order : ℕ) (ps : List Passes) (k : ℕ) → passesInOrder f order ps (suc k) ≡ (passesInOrder f order ps k && leb (passEnd f ps (passAt f order k)) (passStart f ps (passAt f order (k + 1))))
+order-suc : (f : FlightSection) (order : ℕ) (ps : List Passes) (k : ℕ) → passesInOrder f order ps (suc k) ≡ (passesInOrder f order ps k && leb (clearAt f ps (passAt f order k)) (passStart f ps (passAt f order (k + 1))))
 unfolding passesInOrder
 order-suc f order ps k = refl
 
@@ -93,7 +93,8 @@ module _ (f : FlightSection) (order : ℕ) (plan : List ℕ) (at k : ℕ) (a : O
   known-q : q < 2 * f .blocks
   known-q = rw eq (pass-known f order (a .proper) (k + 1) less)
 
-  end-there : end ≡ passEnd f (passesOf plan at (f .blocks)) (passAt f order k)
+  end-there : end ≡ clearAt f (passesOf plan at (f .blocks)) (passAt f order k)
+  unfolding clearAt
   end-there = te .is ∙ end-is f plan at p known-p ∙ ap (passEnd f (passesOf plan at (f .blocks))) ep
 
   start-there : start ≡ passStart f (passesOf plan at (f .blocks)) (passAt f order (k + 1))
@@ -122,10 +123,10 @@ ordered-all f order ps k t h = sym (ap (passesInOrder f order ps) all ∙ t .so-
     all = let w = t .within in omega arith
 
 module _ (f : FlightSection) (order at k p : ℕ) (a : OrderAsked f order at) (less : k + 1 < 2 * f .blocks) where
-  pub this-position : PositionAsked f order k
+  pub this-position : PositionPre f order k
   this-position = record { sound = a .sound; known = omega arith }
 
-  pub next-position : PositionAsked f order (k + 1)
+  pub next-position : PositionPre f order (k + 1)
   next-position = record { sound = a .sound; known = less }
 
   pub next-start : p ≡ passAt f order (k + 1) → StartAsked at (f .blocks) p

@@ -9,7 +9,7 @@ use Rattle.order.specs.Order.{Proper}
 use Rattle.sheet.specs.Sound.{FlightSound}
 use Rattle.sheet.specs.declared.FlightSection.{FlightSection}
 use Rattle.rules.specs.Flight.{passTime}
-use Rattle.rules.specs.PlanRead.{passesFrom, membersFrom}
+use Rattle.plan_read.specs.PlanRead.{passesFrom, membersFrom}
 use Rattle.rules.specs.declared.Passes.{Passes}
 
 -- the members of the flight

@@ -1,9 +1,9 @@
 // The passes of a plan's flight: whether they come in the order that its head states, one after another, and when the last one ends.
 // The first member of the flight stands at offset `at` of the plan.
+use base::greater;
 use field::number;
-use rules::flight::pass_at;
-use rules::flight::pass_time;
-use rules::mosaic::greater;
+use running::flight::pass_at;
+use running::flight::pass_time;
 use sheet::FlightSection;
 ghost use mathlib.Core.Path.{_≡_};
 ghost use Prim.Native.Nat.{_+_, _-_, _*_, _<_};

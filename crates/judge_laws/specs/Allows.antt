@@ -23,8 +23,8 @@ use Rattle.rules.specs.Mosaic.{noBatch, mosaicFigure}
 use Rattle.rules.specs.Sorting.{stripsOf, sortingFigure}
 use Rattle.rules.specs.Flight.{flightFigure}
 use Rattle.rules.specs.Plan.{membersBytes, batchBytes, mosaicBytes, jobBytes, sortingBytes, passesBytes, flightBytes, ifPresent, Plan, planBytes, Allowed}
-use Rattle.rules.specs.PlanRead.{figureFrom, orderFrom, batchFrom, jobFrom, passesFrom, membersFrom}
-use Rattle.rules.specs.Running.{MosaicRuns, freeDesks, AllDone, SortingRuns, FlightRuns}
+use Rattle.plan_read.specs.PlanRead.{figureFrom, orderFrom, batchFrom, jobFrom, passesFrom, membersFrom}
+use Rattle.running.specs.Running.{MosaicRuns, freeDesks, AllDone, SortingRuns, FlightRuns}
 use Rattle.rules.specs.declared.Batch.{Batch}
 use Rattle.rules.specs.declared.Job.{Job}
 use Rattle.rules.specs.declared.Passes.{Passes}
@@ -155,7 +155,7 @@ module _ (s : Sheet) (plan : List ℕ) (sound : SheetSound s) where
       let o = no-order (s .flight) (sound .flight) z (s .flight .ordered) refl in
       record {
         members = λ i l. absurd (omega arith);
-        head = record { every-block = sym z; proper = o .0; as-given = o .1; in-order = λ k l. absurd (omega arith) };
+        head = record { every-block = sym z; allowed = record { proper = o .0; as-given = o .1 }; in-order = λ k l. absurd (omega arith) };
       }
 
   pub flight-read : sectionVerdict s plan 3 .number ≡ 0 → FlightRuns (s .flight) (orderIn s plan) (passesIn s plan)

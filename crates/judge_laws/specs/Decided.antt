@@ -7,7 +7,7 @@ use lib.Dec.{eqb}
 use borrow.Author.Tests.{eq-eqb, eqb-true}
 use Rattle.order.specs.Order.{Decides}
 use Rattle.sheet.specs.declared.Sheet.{Sheet}
-use Rattle.rules.specs.PlanRead.{orderFrom, batchFrom, jobFrom, passesFrom}
+use Rattle.plan_read.specs.PlanRead.{orderFrom, batchFrom, jobFrom, passesFrom}
 use Rattle.judge_flight.specs.Starts.{passesOf}
 use Rattle.judge_layout.specs.declared.Part.{Part}
 use Rattle.judge_members.specs.Members.{memberFollows, headFollows}

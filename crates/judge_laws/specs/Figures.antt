@@ -10,8 +10,8 @@ use borrow.Author.Tests.{ne-eqb}
 use Rattle.sheet.specs.declared.Sheet.{Sheet}
 use Rattle.rules.specs.Mosaic.{noBatch, mosaicFigure}
 use Rattle.rules.specs.Sorting.{sortingFigure}
-use Rattle.rules.specs.PlanRead.{batchFrom, jobFrom, membersFrom}
-use Rattle.rules.specs.Running.{MosaicRuns}
+use Rattle.plan_read.specs.PlanRead.{batchFrom, jobFrom, membersFrom}
+use Rattle.running.specs.Running.{MosaicRuns}
 use Rattle.rules.specs.declared.Batch.{Batch}
 use Rattle.rules.specs.declared.Job.{Job}
 use Rattle.rules_laws.specs.MosaicRunning.{runningFigure}

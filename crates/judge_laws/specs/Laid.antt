@@ -14,7 +14,7 @@ use Rattle.field.specs.Fields.{whole-at}
 use Rattle.field.specs.declared.Field.{Field}
 use Rattle.field.specs.declared.Field.the-variants.{Whole}
 use Rattle.rules.specs.Plan.{membersBytes}
-use Rattle.rules.specs.PlanRead.{membersFrom}
+use Rattle.plan_read.specs.PlanRead.{membersFrom}
 use Rattle.rules_laws.specs.ByteLaws.{AreBytes, length-field, field-written}
 use Rattle.rules_laws.specs.Members.{Kind, length-members, members-back, members-found, members-stand}
 use Rattle.judge_layout.specs.Layout.{isField, run, partFrom, partOf}

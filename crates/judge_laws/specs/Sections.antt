@@ -8,17 +8,17 @@ use native.Mathlib.Decide.{ℕ-discrete}
 use native.Mathlib.Omega.{arith}
 use lib.ListN.{length}
 use borrow.Author.Tests.{eq-eqb, eqb-true}
-use Rattle.field.specs.Branch.{check, passed}
+use Rattle.base.specs.Branch.{check, passed}
 use Rattle.sheet.specs.Refusals.{ruleBroken}
 use Rattle.sheet.specs.declared.Sheet.{Sheet}
 use Rattle.sheet.specs.declared.MosaicSection.{MosaicSection}
 use Rattle.sheet.specs.declared.SortingSection.{SortingSection}
 use Rattle.rules.specs.Flight.{noPasses, passesAt, flightFigure}
-use Rattle.rules.specs.PlanRead.{figureFrom, orderFrom, batchFrom, jobFrom, passesFrom, membersFrom}
-use Rattle.rules.specs.Running.{BatchFollows, MosaicRuns, JobFollows, AllDone, SortingRuns, afterJob, BlockFollows, FlightRuns}
+use Rattle.plan_read.specs.PlanRead.{figureFrom, orderFrom, batchFrom, jobFrom, passesFrom, membersFrom}
+use Rattle.running.specs.Running.{BatchFollows, MosaicRuns, JobFollows, AllDone, SortingRuns, afterJob, BlockFollows, FlightRuns}
 use Rattle.rules.specs.declared.Batch.{Batch}
 use Rattle.rules.specs.declared.Job.{Job}
-use Rattle.rules.specs.declared.Desks.{Desks}
+use Rattle.running.specs.declared.Desks.{Desks}
 use Rattle.rules_laws.specs.MosaicRunning.{runningFigure}
 use Rattle.rules_laws.specs.SortingRunning.{runningFinishes}
 use Rattle.judge_rules.specs.Follows.{flightHead}

@@ -9,18 +9,18 @@ use native.Mathlib.Omega.{arith}
 use lib.ListN.{length, getD}
 use lib.Dec.{leb, eqb}
 use borrow.Author.Tests.{lt-ltb, le-leb, eq-eqb, ltb-true, leb-true, eqb-true}
-use Rattle.field.specs.Branch.{both}
+use Rattle.base.specs.Branch.{both}
 use Rattle.order.specs.Decided.{proper-true, true-proper}
 use Rattle.sheet.specs.declared.MosaicSection.{MosaicSection}
 use Rattle.sheet.specs.declared.SortingSection.{SortingSection}
 use Rattle.sheet.specs.declared.FlightSection.{FlightSection}
 use Rattle.rules.specs.Sorting.{stripsOf}
-use Rattle.rules.specs.Flight.{passStart, passEnd, passAt}
-use Rattle.rules.specs.Running.{BatchFollows, JobFollows, AllDone, BlockFollows, FlightHead}
+use Rattle.rules.specs.Flight.{passStart, clearAt, Clear, passAt}
+use Rattle.running.specs.Running.{BatchFollows, JobFollows, AllDone, BlockFollows, FlightHead}
 use Rattle.rules.specs.declared.Batch.{Batch}
 use Rattle.rules.specs.declared.Job.{Job}
 use Rattle.rules.specs.declared.Passes.{Passes}
-use Rattle.rules.specs.declared.Desks.{Desks}
+use Rattle.running.specs.declared.Desks.{Desks}
 use Rattle.judge_rules.specs.Follows.{batchInRun, batchInTime, batchFollows, jobInTurn, jobInTime, jobFollows, blockInTime, blockFollows, allDone, passesInOrder, flightHead}
 
 -- a conjunction of two that hold
@@ -37,21 +37,23 @@ module _ (m : MosaicSection) (before b : Batch) where
       let t = both _ _ (r .1) in
       let u = both _ _ (t .1) in
       record {
-        rises = ltb-true _ _ (q .0);
+        lawful = record {
+          rises = ltb-true _ _ (q .0);
+          waits-strip = leb-true _ _ (r .0);
+          waits-batch = leb-true _ _ (t .0);
+          finishes = eqb-true _ _ (u .0);
+          within = leb-true _ _ (u .1);
+        };
         known = leb-true _ _ (q .1);
-        waits-strip = leb-true _ _ (r .0);
-        waits-batch = leb-true _ _ (t .0);
-        finishes = eqb-true _ _ (u .0);
-        within = leb-true _ _ (u .1);
       }
 
   pub batch-true : BatchFollows m before b → batchFollows m before b ≡ true
   unfolding batchFollows batchInRun batchInTime
   batch-true f =
-      all-of _ _ (all-of _ _ (lt-ltb _ _ (f .rises)) (le-leb _ _ (f .known)))
-      (all-of _ _ (le-leb _ _ (f .waits-strip))
-      (all-of _ _ (le-leb _ _ (f .waits-batch))
-      (all-of _ _ (eq-eqb _ _ (f .finishes)) (le-leb _ _ (f .within)))))
+      all-of _ _ (all-of _ _ (lt-ltb _ _ (f .lawful .rises)) (le-leb _ _ (f .known)))
+      (all-of _ _ (le-leb _ _ (f .lawful .waits-strip))
+      (all-of _ _ (le-leb _ _ (f .lawful .waits-batch))
+      (all-of _ _ (eq-eqb _ _ (f .lawful .finishes)) (le-leb _ _ (f .lawful .within)))))
 
 module _ (s : SortingSection) (d : Desks) (j : Job) where
   pub true-job : jobFollows s d j ≡ true → JobFollows s d j
@@ -65,26 +67,28 @@ module _ (s : SortingSection) (d : Desks) (j : Job) where
       let v = both _ _ (u .1) in
       let w = both _ _ (v .1) in
       record {
-        least-desk = leb-true _ _ (q .0);
-        most-desk = leb-true _ _ (r .0);
+        lawful = record {
+          least-desk = leb-true _ _ (q .0);
+          most-desk = leb-true _ _ (r .0);
+          after-scan = leb-true _ _ (v .0);
+          within = leb-true _ _ (w .1);
+        };
         in-turn = eqb-true _ _ (t .0);
         known = leb-true _ _ (t .1);
         one-scan = leb-true _ _ (u .0);
-        after-scan = leb-true _ _ (v .0);
         one-job = leb-true _ _ (w .0);
-        within = leb-true _ _ (w .1);
       }
 
   pub job-true : JobFollows s d j → jobFollows s d j ≡ true
   unfolding jobFollows jobInTurn jobInTime
   job-true f =
       all-of _ _
-      (all-of _ _ (le-leb _ _ (f .least-desk))
-      (all-of _ _ (le-leb _ _ (f .most-desk))
+      (all-of _ _ (le-leb _ _ (f .lawful .least-desk))
+      (all-of _ _ (le-leb _ _ (f .lawful .most-desk))
       (all-of _ _ (eq-eqb _ _ (f .in-turn)) (le-leb _ _ (f .known)))))
       (all-of _ _ (le-leb _ _ (f .one-scan))
-      (all-of _ _ (le-leb _ _ (f .after-scan))
-      (all-of _ _ (le-leb _ _ (f .one-job)) (le-leb _ _ (f .within)))))
+      (all-of _ _ (le-leb _ _ (f .lawful .after-scan))
+      (all-of _ _ (le-leb _ _ (f .one-job)) (le-leb _ _ (f .lawful .within)))))
 
 module _ (f : FlightSection) (i : ℕ) (p : Passes) where
   pub true-block : blockFollows f i p ≡ true → BlockFollows f i p
@@ -92,11 +96,11 @@ module _ (f : FlightSection) (i : ℕ) (p : Passes) where
   true-block e =
       let q = both _ _ e in
       let r = both _ _ (q .1) in
-      record { known = ltb-true _ _ (q .0); exact-delay = eqb-true _ _ (r .0); within = leb-true _ _ (r .1) }
+      record { known = ltb-true _ _ (q .0); delay-kept = record { exact = eqb-true _ _ (r .0) }; within = leb-true _ _ (r .1) }
 
   pub block-true : BlockFollows f i p → blockFollows f i p ≡ true
   unfolding blockFollows blockInTime
-  block-true b = all-of _ _ (lt-ltb _ _ (b .known)) (all-of _ _ (eq-eqb _ _ (b .exact-delay)) (le-leb _ _ (b .within)))
+  block-true b = all-of _ _ (lt-ltb _ _ (b .known)) (all-of _ _ (eq-eqb _ _ (b .delay-kept .exact)) (le-leb _ _ (b .within)))
 
 -- the desks, one by one
 done-each : (counts done : List ℕ) (n : ℕ) → allDone counts done n ≡ true → (d : ℕ) → d < n → getD done d 0 ≡ getD counts d 0
@@ -129,16 +133,16 @@ module _ (s : SortingSection) (d : Desks) where
 
 -- the passes, one by one
 module _ (f : FlightSection) (order : ℕ) (ps : List Passes) where
-  order-each : (n : ℕ) → passesInOrder f order ps n ≡ true → (k : ℕ) → k < n → passEnd f ps (passAt f order k) ≤ passStart f ps (passAt f order (k + 1))
+  order-each : (n : ℕ) → passesInOrder f order ps n ≡ true → (k : ℕ) → k < n → Clear f ps (passAt f order k) (passAt f order (k + 1))
   unfolding passesInOrder
   order-each zero e k h = absurd (omega arith)
   order-each (suc n) e k h = go (ℕ-discrete k n) (both _ _ e) (order-each n)
     where
-      go : Dec (k ≡ n) → (passesInOrder f order ps n ≡ true) × (leb (passEnd f ps (passAt f order n)) (passStart f ps (passAt f order (n + 1))) ≡ true) → (passesInOrder f order ps n ≡ true → (i : ℕ) → i < n → passEnd f ps (passAt f order i) ≤ passStart f ps (passAt f order (i + 1))) → passEnd f ps (passAt f order k) ≤ passStart f ps (passAt f order (k + 1))
-      go (yes q) p ih = subst (λ (i : ℕ). passEnd f ps (passAt f order i) ≤ passStart f ps (passAt f order (i + 1))) (sym q) (leb-true _ _ (p .1))
+      go : Dec (k ≡ n) → (passesInOrder f order ps n ≡ true) × (leb (clearAt f ps (passAt f order n)) (passStart f ps (passAt f order (n + 1))) ≡ true) → (passesInOrder f order ps n ≡ true → (i : ℕ) → i < n → Clear f ps (passAt f order i) (passAt f order (i + 1))) → Clear f ps (passAt f order k) (passAt f order (k + 1))
+      go (yes q) p ih = subst (λ (i : ℕ). Clear f ps (passAt f order i) (passAt f order (i + 1))) (sym q) (leb-true _ _ (p .1))
       go (no q) p ih = ih (p .0) k (omega arith)
 
-  each-order : (n : ℕ) → ((k : ℕ) → k < n → passEnd f ps (passAt f order k) ≤ passStart f ps (passAt f order (k + 1))) → passesInOrder f order ps n ≡ true
+  each-order : (n : ℕ) → ((k : ℕ) → k < n → Clear f ps (passAt f order k) (passAt f order (k + 1))) → passesInOrder f order ps n ≡ true
   unfolding passesInOrder
   each-order zero h = refl
   each-order (suc n) h = all-of _ _ (each-order n (λ k l. h k (omega arith))) (le-leb _ _ (h n (omega arith)))
@@ -160,8 +164,7 @@ module _ (f : FlightSection) (order : ℕ) (ps : List Passes) where
         let r = both _ _ (q .1) in
         record {
           every-block = sym em ∙ eqb-true _ _ (p .0);
-          proper = proper-true (f .blocks) order (q .0);
-          as-given = given-is (f .ordered) (f .order) (r .0);
+          allowed = record { proper = proper-true (f .blocks) order (q .0); as-given = given-is (f .ordered) (f .order) (r .0) };
           in-order = λ k l. order-each (2 * f .blocks - 1) (r .1) k (omega arith);
         }
 
@@ -169,5 +172,5 @@ module _ (f : FlightSection) (order : ℕ) (ps : List Passes) where
     unfolding flightHead
     head-true h =
         all-of _ _ (eq-eqb _ _ (em ∙ h .every-block))
-        (all-of _ _ (true-proper (f .blocks) order (h .proper))
-        (all-of _ _ (is-given (f .ordered) (f .order) (h .as-given)) (each-order (2 * f .blocks - 1) (λ k l. h .in-order k (omega arith)))))
+        (all-of _ _ (true-proper (f .blocks) order (h .allowed .proper))
+        (all-of _ _ (is-given (f .ordered) (f .order) (h .allowed .as-given)) (each-order (2 * f .blocks - 1) (λ k l. h .in-order k (omega arith)))))

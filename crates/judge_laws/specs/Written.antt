@@ -13,13 +13,13 @@ use Rattle.field.specs.Field.{fieldBytes}
 use Rattle.sheet.specs.Tags.{planMosaicTag, planBatchTag, planSortingTag, planStripTag, planFlightTag, planBlockTag}
 use Rattle.sheet.specs.Sound.{SheetSound, stripsInAll}
 use Rattle.sheet.specs.declared.Sheet.{Sheet}
-use Rattle.rules.specs.Sums.{sumOver, greatestOver}
+use Rattle.base.specs.Sums.{sumOver, greatestOver}
 use Rattle.rules.specs.Mosaic.{noBatch, batchAt, mosaicFigure}
 use Rattle.rules.specs.Sorting.{noJob, jobAt, sortingFigure}
 use Rattle.rules.specs.Flight.{noPasses, passesAt, flightFigure}
 use Rattle.rules.specs.Plan.{membersBytes, batchBytes, mosaicBytes, jobBytes, sortingBytes, passesBytes, flightBytes, ifPresent, Plan, planBytes, PlanLawful}
-use Rattle.rules.specs.PlanRead.{figureFrom, orderFrom, batchFrom, jobFrom, passesFrom, membersFrom}
-use Rattle.rules.specs.Running.{FlightRuns}
+use Rattle.plan_read.specs.PlanRead.{figureFrom, orderFrom, batchFrom, jobFrom, passesFrom, membersFrom}
+use Rattle.running.specs.Running.{FlightRuns}
 use Rattle.rules.specs.declared.Batch.{Batch}
 use Rattle.rules.specs.declared.Job.{Job}
 use Rattle.rules.specs.declared.Passes.{Passes}

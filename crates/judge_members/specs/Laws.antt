@@ -8,7 +8,7 @@ use native.Mathlib.Omega.{arith}
 use lib.ListN.{length, getD, set, length-set}
 use lib.Dec.{ltb, leb, eqb}
 use borrow.Author.Tests.{eq-eqb, ne-eqb, eqb-true, ltb-true, leb-true, not-true, not-false}
-use Rattle.field.specs.Branch.{both, check}
+use Rattle.base.specs.Branch.{both, check}
 use Rattle.field.specs.Bytes.{NumberRead}
 use Rattle.sheet.specs.Limits.{mostStrips, mostDesks, mostStripsOfDesk, ceiling}
 use Rattle.sheet.specs.Refusals.{ruleBroken, figureUntrue}
@@ -18,13 +18,13 @@ use Rattle.sheet.specs.declared.Sheet.{Sheet}
 use Rattle.rules.specs.Mosaic.{noBatch}
 use Rattle.rules.specs.Sorting.{stripsOf, deskFinish, deskTime}
 use Rattle.rules.specs.Flight.{flightFigure}
-use Rattle.rules.specs.PlanRead.{figureFrom, orderFrom, batchFrom, jobFrom, passesFrom}
-use Rattle.rules.specs.Running.{freeDesks, afterJob}
-use Rattle.rules.specs.FunctionLaws.{TimeTold}
+use Rattle.plan_read.specs.PlanRead.{figureFrom, orderFrom, batchFrom, jobFrom, passesFrom}
+use Rattle.running.specs.Running.{freeDesks, afterJob}
+use Rattle.running.specs.FunctionLaws.{TimeTold}
 use Rattle.rules.specs.declared.Batch.{Batch}
 use Rattle.rules.specs.declared.Job.{Job}
 use Rattle.rules.specs.declared.Passes.{Passes}
-use Rattle.rules.specs.declared.Desks.{Desks}
+use Rattle.running.specs.declared.Desks.{Desks}
 use Rattle.judge_rules.specs.Follows.{batchInRun, batchInTime, batchFollows, jobInTurn, jobInTime, jobFollows, blockFollows, allDone, flightHead}
 use Rattle.rules_laws.specs.RoundTrip.{BatchFits, JobFits, PassesFits}
 use Rattle.judge_rules.specs.Asked.{DesksFit, BatchAsked, JobAsked, JobTaken, BlockAsked}

@@ -9,13 +9,13 @@ use Rattle.sheet.specs.Limits.{ceiling}
 use Rattle.sheet.specs.declared.MosaicSection.{MosaicSection}
 use Rattle.sheet.specs.declared.SortingSection.{SortingSection}
 use Rattle.sheet.specs.declared.FlightSection.{FlightSection}
-use Rattle.rules.specs.Mosaic.{ready, benchSum}
+use Rattle.rules.specs.Mosaic.{ready, finishDue}
 use Rattle.rules.specs.Sorting.{stripsOf, scanEnd, deskFinish}
-use Rattle.rules.specs.Flight.{passStart, passEnd, passAt}
+use Rattle.rules.specs.Flight.{passStart, secondDue, clearAt, passAt}
 use Rattle.rules.specs.declared.Batch.{Batch}
 use Rattle.rules.specs.declared.Job.{Job}
 use Rattle.rules.specs.declared.Passes.{Passes}
-use Rattle.rules.specs.declared.Desks.{Desks}
+use Rattle.running.specs.declared.Desks.{Desks}
 
 -- "At a member: ranges, a member too many, a batch's last strip past that of the batch before"
 unfoldable pub batchInRun : ℕ → ℕ → ℕ → Bool
@@ -28,7 +28,7 @@ batchInTime readyAt before start finish due = leb readyAt start && (leb before s
 unfoldable pub batchFollows : MosaicSection → Batch → Batch → Bool
 batchFollows m before b =
     batchInRun (m .strips) (before .last) (b .last)
-    && batchInTime (ready m (b .last)) (before .finish) (b .start) (b .finish) (b .start + m .mount + benchSum m (before .last) (b .last - before .last))
+    && batchInTime (ready m (b .last)) (before .finish) (b .start) (b .finish) (finishDue m before b)
 
 -- "a strip number next in turn": so many of the desk's strips are done
 unfoldable pub jobInTurn : ℕ → ℕ → ℕ → ℕ → ℕ → Bool
@@ -48,8 +48,7 @@ unfoldable pub blockInTime : ℕ → ℕ → ℕ → Bool
 blockInTime due second end = eqb second due && leb end ceiling
 
 unfoldable pub blockFollows : FlightSection → ℕ → Passes → Bool
-blockFollows f i p =
-    ltb i (f .blocks) && blockInTime (p .first + getD (f .first) i 0 + getD (f .delay) i 0) (p .second) (p .second + getD (f .second) i 0)
+blockFollows f i p = ltb i (f .blocks) && blockInTime (secondDue f i p) (p .second) (p .second + getD (f .second) i 0)
 
 -- "At the head: members missing, order number improper or not the one given, passes not in its order or overlapping."
 unfoldable pub allDone : List ℕ → List ℕ → ℕ → Bool
@@ -58,7 +57,7 @@ allDone counts done (suc desk) = allDone counts done desk && eqb (getD done desk
 
 unfoldable pub passesInOrder : FlightSection → ℕ → List Passes → ℕ → Bool
 passesInOrder f order ps zero = true
-passesInOrder f order ps (suc k) = passesInOrder f order ps k && leb (passEnd f ps (passAt f order k)) (passStart f ps (passAt f order (k + 1)))
+passesInOrder f order ps (suc k) = passesInOrder f order ps k && leb (clearAt f ps (passAt f order k)) (passStart f ps (passAt f order (k + 1)))
 
 unfoldable pub flightHead : FlightSection → ℕ → ℕ → List Passes → Bool
 flightHead f members order ps =

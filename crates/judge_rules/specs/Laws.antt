@@ -8,19 +8,20 @@ use native.Mathlib.Omega.{arith}
 use lib.ListN.{length, getD, set, List·getD-eq-default}
 use lib.Dec.{eqb}
 use borrow.Author.Tests.{lt-ltb, le-ltb, eq-eqb, ne-eqb, not-true, not-false, ltb-true, leb-true, eqb-true}
-use Rattle.field.specs.Branch.{both}
+use Rattle.base.specs.Branch.{both}
 use Rattle.sheet.specs.Sections.{stripsOfDesk}
 use Rattle.sheet.specs.declared.MosaicSection.{MosaicSection}
 use Rattle.sheet.specs.declared.SortingSection.{SortingSection}
 use Rattle.sheet.specs.declared.FlightSection.{FlightSection}
-use Rattle.rules.specs.Mosaic.{ready, benchSum}
+use Rattle.rules.specs.Mosaic.{ready, finishDue}
+use Rattle.rules.specs.Flight.{secondDue}
 use Rattle.rules.specs.Sorting.{stripsOf, scanTime, deskTime, scanEnd, deskFinish}
-use Rattle.rules.specs.Running.{afterJob}
-use Rattle.rules.specs.FunctionLaws.{ReadyAsked, BenchAsked, ReadyTold, BenchTold, SlotAsked, TimeTold}
+use Rattle.running.specs.Running.{afterJob}
+use Rattle.running.specs.FunctionLaws.{ReadyPre, FinishPre, SumTold, SlotPre, TimeTold}
 use Rattle.rules.specs.declared.Batch.{Batch}
 use Rattle.rules.specs.declared.Job.{Job}
 use Rattle.rules.specs.declared.Passes.{Passes}
-use Rattle.rules.specs.declared.Desks.{Desks}
+use Rattle.running.specs.declared.Desks.{Desks}
 use Rattle.judge_rules.specs.Follows.{batchInRun, batchInTime, batchFollows, jobInTurn, jobInTime, jobFollows, blockInTime, blockFollows, allDone}
 use Rattle.judge_rules.specs.Asked.{BatchAsked, JobAsked, JobTaken, BlockAsked}
 
@@ -39,18 +40,17 @@ module _ (m : MosaicSection) (before b : Batch) (x : Bool) (ex : x ≡ batchInRu
     in-run : (before .last < b .last) × (b .last ≤ m .strips)
     in-run = run-is (m .strips) (before .last) (b .last) (sym ex ∙ not-false x h)
 
-    pub batch-ready : BatchAsked m b → ReadyAsked m (b .last)
+    pub batch-ready : BatchAsked m b → ReadyPre m (b .last)
     batch-ready a = record { sound = a .sound; strips = omega (arith, in-run .1, a .sound .most-strips) }
 
-    pub batch-rises : before .last ≤ b .last
-    batch-rises = omega (arith, in-run .0)
+    pub batch-due : BatchAsked m b → FinishPre m before b
+    batch-due a =
+        record { sound = a .sound; rises = omega (arith, in-run .0); strips = omega (arith, in-run .1, a .sound .most-strips); fits = a .fits .start }
 
-    pub batch-bench : BatchAsked m b → BenchAsked m (before .last) (b .last - before .last)
-    batch-bench a = record { sound = a .sound; strips = omega (arith, in-run .0, in-run .1, a .sound .most-strips) }
-
-    pub batch-right : (r : Bool) (readyAt bench : ℕ) → ReadyTold (ready m (b .last)) readyAt → BenchTold (benchSum m (before .last) (b .last - before .last)) bench → r ≡ batchInTime readyAt (before .finish) (b .start) (b .finish) (b .start + m .mount + bench) → r ≡ batchFollows m before b
+    pub batch-right : (r : Bool) (readyAt due : ℕ) → SumTold (ready m (b .last)) readyAt → due ≡ finishDue m before b
+        → r ≡ batchInTime readyAt (before .finish) (b .start) (b .finish) due → r ≡ batchFollows m before b
     unfolding batchFollows
-    batch-right r readyAt bench t u e = rw (← ex, not-false x h, ← t .is, ← u .is) e
+    batch-right r readyAt due t u e = rw (← ex, not-false x h, ← t .is, ← u) e
 
 -- jobs
 
@@ -84,7 +84,7 @@ module _ (s : SortingSection) (d : Desks) (j : Job) (strips done : ℕ) (es : st
   job-wrong h = rw (turned, not-true x h)
 
   module _ (h : not x ≡ false) (a : JobAsked s d j) where
-    pub job-slot : SlotAsked s j
+    pub job-slot : SlotPre s j
     unfolding stripsOfDesk
     job-slot =
         let t = turn-is (s .desks) strips done (j .desk) (j .number) (sym ex ∙ not-false x h) in
@@ -153,7 +153,7 @@ module _ (f : FlightSection) (i : ℕ) (p : Passes) where
   block-past h = rw (le-ltb _ _ h)
 
   pub block-due : (r : Bool) → i < f .blocks → r ≡ blockInTime (p .first + getD (f .first) i 0 + getD (f .delay) i 0) (p .second) (p .second + getD (f .second) i 0) → r ≡ blockFollows f i p
-  unfolding blockFollows
+  unfolding blockFollows secondDue
   block-due r h e = rw (lt-ltb _ _ h) e
 
   module _ (a : BlockAsked f p) where

@@ -1,12 +1,12 @@
 // The rules as tests: whether a batch, a job or a block may follow what was judged before it, and what is checked at a head.
 use rules::Batch;
-use rules::Desks;
 use rules::Job;
 use rules::Passes;
-use rules::mosaic::bench_sum;
-use rules::mosaic::ready_time;
-use rules::sorting::desk_time;
-use rules::sorting::scan_time;
+use running::Desks;
+use running::mosaic::finish_due;
+use running::mosaic::ready_time;
+use running::sorting::desk_time;
+use running::sorting::scan_time;
 use sheet::FlightSection;
 use sheet::MosaicSection;
 use sheet::SortingSection;
@@ -18,7 +18,7 @@ ghost use Prim.Native.Nat.{_+_, _-_, _≤_, _<_};
 ghost use lib.ListN.{getD};
 ghost use Rattle.judge_rules.specs.Follows.{batchInRun, batchInTime, batchFollows, jobInTurn, jobInTime, jobFollows, blockInTime, blockFollows, allDone};
 ghost use Rattle.judge_rules.specs.Asked.{BatchAsked, JobAsked, JobTaken, BlockAsked};
-ghost use Rattle.rules.specs.Running.{afterJob};
+ghost use Rattle.running.specs.Running.{afterJob};
 
 fn batch_in_run(strips: u64, before: u64, last: u64) -> bool
     ensures { λ r. ⌜ r ≡ batchInRun strips before last ⌝ }
@@ -46,15 +46,13 @@ pub fn batch_follows(m: MosaicSection, before: Batch, b: Batch) -> bool
     requires { ⌜ BatchAsked m b ⌝ }
     ensures { λ r. ⌜ r ≡ batchFollows m before b ⌝ }
 {
-    let from = before.last;
     let last = b.last;
-    let start = b.start;
-    if !batch_in_run(m.strips as u64, from, last) {
+    if !batch_in_run(m.strips as u64, before.last, last) {
         return false;
     }
     let ready = ready_time(m, last as usize);
-    let due = start + m.mount + bench_sum(m, from as usize, (last - from) as usize);
-    batch_in_time(ready, before.finish, start, b.finish, due)
+    let due = finish_due(m, before, b);
+    batch_in_time(ready, before.finish, b.start, b.finish, due)
 }
 
 fn job_in_turn(desks: u64, strips: u64, done: u64, desk: u64, number: u64) -> bool

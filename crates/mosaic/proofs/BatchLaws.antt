@@ -1,17 +1,18 @@
 -- The batches are written one after another: those written, and those that the recursion takes after them, are those that it takes from the start.
 use mathlib.Core.Path.{_≡_, refl, _∙_, sym}
 use mathlib.Core.List.{List, [], _∷_, _++_, append-assoc, append-nil}
-use Prim.Native.Nat.{ℕ, zero, suc, _+_, _*_, _-_, _≤_, _<_, _^_, max}
+use Prim.Native.Nat.{ℕ, _+_, _*_, _-_, _≤_, _<_, _^_, max}
 use native.Mathlib.Nat.{mul-le-mul}
 use native.Mathlib.Numerals.{add-one}
 use native.Mathlib.Decide.{decLt}
 use native.Mathlib.Omega.{arith}
 use lib.ListN.{length, getD, set, length-set, replicate, length-replicate, getD-replicate, List·getD-eq-default}
 use lib.Seq.{getD-set-same, getD-set-other}
+use Rattle.base.specs.Listed.{listed, listed-same}
 use Rattle.batching.specs.Least.{mountStart, benchStart, finishOf}
 use Rattle.batching.specs.Chosen.{batchOf}
 use Rattle.batching.specs.Index.{leastAt, closedAt, chosenAt}
-use Rattle.mosaic.specs.Plan.{batchesIn, batchesOf, NoMore}
+use Rattle.mosaic.specs.Plan.{entry, batchesOf, NoMore}
 use Rattle.batching.specs.Tables.{instanceIn, FirstPre, First}
 use Rattle.mosaic.specs.Tables.{Sized, AddPre, Added, BatchesPre, BatchesTaken}
 use Rattle.batching.specs.Recursion.{least-end, chosen-end}
@@ -29,22 +30,20 @@ pub record PlanSoFar (rs sums : List ℕ) (s n : ℕ) (plan : MosaicPlan) (i fre
   pub batches : batchesOf plan ++ chosenAt (instanceIn rs sums s n) i free ≡ chosenAt (instanceIn rs sums s n) 0 0
 
 -- a store at b changes none of the first b batches, and adds one
-kept : (last start finish : List ℕ) (b u v w k : ℕ) → k ≤ b → batchesIn k (set last b u) (set start b v) (set finish b w) ≡ batchesIn k last start finish
-unfolding batchesIn
-kept last start finish b u v w zero h = refl
-kept last start finish b u v w (suc k) h =
-    rw (
-      kept last start finish b u v w k (omega arith),
-      getD-set-other last b k u 0 (omega arith),
-      getD-set-other start b k v 0 (omega arith),
-      getD-set-other finish b k w 0 (omega arith),
-    )
+kept : (last start finish : List ℕ) (b u v w k : ℕ) → k < b → entry (set last b u) (set start b v) (set finish b w) k ≡ entry last start finish k
+kept last start finish b u v w k h =
+    rw (getD-set-other last b k u 0 (omega arith), getD-set-other start b k v 0 (omega arith), getD-set-other finish b k w 0 (omega arith))
 
 added : (last start finish : List ℕ) (b u v w : ℕ) → b < length last → b < length start → b < length finish
-    → batchesIn (b + 1) (set last b u) (set start b v) (set finish b w) ≡ batchesIn b last start finish ++ (record { last = u; start = v; finish = w } ∷ [])
-unfolding batchesIn
+    → listed (b + 1) (entry (set last b u) (set start b v) (set finish b w)) ≡ listed b (entry last start finish) ++ (record { last = u; start = v; finish = w } ∷ [])
+unfolding listed
 added last start finish b u v w h₁ h₂ h₃ =
-    rw (add-one b) (rw (kept last start finish b u v w b (omega arith), getD-set-same last b u 0 h₁, getD-set-same start b v 0 h₂, getD-set-same finish b w 0 h₃))
+    rw (add-one b) (rw (
+      listed-same b (entry (set last b u) (set start b v) (set finish b w)) (entry last start finish) (kept last start finish b u v w),
+      getD-set-same last b u 0 h₁,
+      getD-set-same start b v 0 h₂,
+      getD-set-same finish b w 0 h₃,
+    ))
 
 pub plan-added : {plan : MosaicPlan} {count finish : ℕ} → AddPre plan count finish → (last start : ℕ)
     → Added plan count last start finish
@@ -81,7 +80,7 @@ zeros-at n k = elim (decLt k n) [
 
 module _ {rs sums late : List ℕ} {s n : ℕ} (P : BatchesPre rs sums late s n) where
   pub plan-start : PlanSoFar rs sums s n (record { figure = 0; batches = 0; last = replicate 40 0; start = replicate 40 0; finish = replicate 40 0 }) 0 0
-  unfolding batchesOf batchesIn
+  unfolding batchesOf listed
   plan-start = record {
     sized = record { last = length-replicate {A = ℕ} 40 0; start = length-replicate {A = ℕ} 40 0; finish = length-replicate {A = ℕ} 40 0 };
     no-more = record { last = λ k h. zeros-at 40 k; start = λ k h. zeros-at 40 k; finish = λ k h. zeros-at 40 k };

@@ -5,19 +5,19 @@ use Prim.Native.Nat.{ℕ, _+_, _-_, _≤_, _^_}
 use native.Mathlib.Decide.{decLt}
 use native.Mathlib.Omega.{arith}
 use lib.ListN.{length, getD, replicate, length-replicate, List·getD-eq-default}
+use Rattle.base.specs.Listed.{listed-length}
 use Rattle.sheet.specs.Sound.{MosaicSound}
 use Rattle.sheet.specs.declared.MosaicSection.{MosaicSection}
 use Rattle.rules.specs.Mosaic.{ready, benchSum}
 use Rattle.mosaic.specs.Least.{instanceOf}
 use Rattle.mosaic.specs.Chosen.{chosenBatches}
-use Rattle.mosaic.specs.Plan.{batchesOf, Planned}
+use Rattle.mosaic.specs.Plan.{entry, batchesOf, Planned}
 use Rattle.batching.specs.Tables.{lateLength, instanceIn, Input, LatePre, LateFilled}
 use Rattle.mosaic.specs.Tables.{BatchesPre, BatchesTaken, ReadyTimes, BenchSums}
 use Rattle.mosaic.specs.Laws.Rules.{bench-upto, bench-most, ready-most, weight-count}
 use Rattle.batching.specs.Alike.{Alike, least-same, chosen-same}
 use Rattle.mosaic.specs.Laws.Whole.{least-is, chosen-is}
 use Rattle.mosaic.specs.Theorems.{mosaic-count}
-use Rattle.mosaic.specs.Determined.{count-is}
 use Rattle.mosaic.specs.declared.MosaicPlan.{MosaicPlan}
 
 module _ {m : MosaicSection} (S : MosaicSound m) {rs sums : List ℕ} (R : ReadyTimes m rs) (B : BenchSums m sums) where
@@ -67,7 +67,7 @@ module _ {m : MosaicSection} (S : MosaicSound m) {rs sums : List ℕ} (R : Ready
   unfolding batchesOf
   planned {p} T =
       let e = T .batches ∙ sym (chosen-is m ∙ chosen-same alike 0 0) in
-      let c : p .batches ≡ length (chosenBatches m) = sym (count-is (p .last) (p .start) (p .finish) (p .batches)) ∙ ap length e in record {
+      let c : p .batches ≡ length (chosenBatches m) = sym (listed-length (p .batches) (entry (p .last) (p .start) (p .finish))) ∙ ap length e in record {
         figure = T .figure ∙ sym (least-is m ∙ least-same alike 0 0);
         batches = e;
         count = c;

@@ -10,10 +10,10 @@ use lib.ListN.{length, getD, set, length-set}
 use lib.Seq.{getD-set-same, getD-set-other}
 use Rattle.sheet.specs.Sound.{MosaicSound}
 use Rattle.sheet.specs.declared.MosaicSection.{MosaicSection}
-use Rattle.rules.specs.Sums.{sumOver, greatestOver}
+use Rattle.base.specs.Sums.{sumOver, greatestOver}
 use Rattle.rules.specs.Mosaic.{stationSum, ready, benchSum}
 use Rattle.mosaic.specs.Tables.{ReadyTimes, BenchSums}
-use Rattle.rules_laws.specs.Sums.{greatest-same}
+use Rattle.base.specs.SumLaws.{greatest-same}
 
 pub greatest-four : (a b c d ab abc abcd : ℕ) → ab ≡ max a b → abc ≡ max ab c → abcd ≡ max abc d → abcd ≡ max (max (max (max 0 a) b) c) d
 greatest-four a b c d ab abc abcd e f g = rw (g, f, e, zero-max a)

@@ -1,37 +1,18 @@
 -- The contract of `plan_mosaic` determines the plan: the batches stand in the first entries of its arrays, and zeros after them.
-use mathlib.Core.Path.{_≡_, refl, ap, _∙_, sym}
-use mathlib.Core.List.{List, [], _∷_}
-use Prim.Native.Nat.{ℕ, zero, suc, _≤_, _<_}
+use mathlib.Core.Path.{_≡_, ap, _∙_, sym}
+use mathlib.Core.List.{List}
+use Prim.Native.Nat.{ℕ, _≤_, _<_}
 use native.Mathlib.Decide.{decLt}
 use native.Mathlib.Omega.{arith}
-use lib.ListN.{length, getD, length-append, List·getD-append}
-use lib.Seq.{ext-getD, getD-append-seam}
+use lib.ListN.{length, getD}
+use lib.Seq.{ext-getD}
+use Rattle.base.specs.Listed.{listed-at}
 use Rattle.sheet.specs.declared.MosaicSection.{MosaicSection}
 use Rattle.rules.specs.Mosaic.{noBatch}
 use Rattle.rules.specs.declared.Batch.{Batch}
-use Rattle.mosaic.specs.Plan.{batchesIn, batchesOf, Planned}
+use Rattle.mosaic.specs.Plan.{entry, batchesOf, Planned}
 use Rattle.mosaic.specs.Tables.{Sized}
 use Rattle.mosaic.specs.declared.MosaicPlan.{MosaicPlan}
-
-module _ (last start finish : List ℕ) where
-  -- batch k of the lists
-  abbrev pub entry : ℕ → Batch
-  entry k = record { last = getD last k 0; start = getD start k 0; finish = getD finish k 0 }
-
-  pub count-is : (n : ℕ) → length (batchesIn n last start finish) ≡ n
-  unfolding batchesIn
-  count-is zero = refl
-  count-is (suc n) = omega (arith, count-is n, length-append (batchesIn n last start finish) (entry n ∷ []))
-
-  batch-at : (n k : ℕ) → k < n → getD (batchesIn n last start finish) k noBatch ≡ entry k
-  unfolding batchesIn
-  batch-at zero k h = absurd (omega arith)
-  batch-at (suc n) k h = elim (decLt k n) [
-    | yes l ↦ List·getD-append (batchesIn n last start finish) (entry n ∷ []) noBatch k (omega (arith, count-is n)) ∙ batch-at n k l
-    | no l ↦
-        let e : k ≡ n = omega arith in
-        rw e (ap (λ (i : ℕ). getD (batchesIn (suc n) last start finish) i noBatch) (sym (count-is n)) ∙ getD-append-seam (batchesIn n last start finish) (entry n) [] noBatch)
-  ]
 
 module _ {m : MosaicSection} {p r : MosaicPlan} (P : Planned m p) (R : Planned m r) (S : Sized p) (T : Sized r) where
   same-count : p .batches ≡ r .batches
@@ -40,8 +21,8 @@ module _ {m : MosaicSection} {p r : MosaicPlan} (P : Planned m p) (R : Planned m
   same-batch : (k : ℕ) → k < p .batches → entry (p .last) (p .start) (p .finish) k ≡ entry (r .last) (r .start) (r .finish) k
   unfolding batchesOf
   same-batch k h =
-      sym (batch-at (p .last) (p .start) (p .finish) (p .batches) k h) ∙ ap (λ (bs : List Batch). getD bs k noBatch) (P .batches ∙ sym (R .batches))
-      ∙ batch-at (r .last) (r .start) (r .finish) (r .batches) k (omega (arith, same-count))
+      sym (listed-at (p .batches) (entry (p .last) (p .start) (p .finish)) k noBatch h) ∙ ap (λ (bs : List Batch). getD bs k noBatch) (P .batches ∙ sym (R .batches))
+      ∙ listed-at (r .batches) (entry (r .last) (r .start) (r .finish)) k noBatch (omega (arith, same-count))
 
   -- two lists of one length that agree on the batches and are zero after them
   same-list : (l₁ l₂ : List ℕ) → length l₁ ≡ length l₂ → ((k : ℕ) → k < p .batches → getD l₁ k 0 ≡ getD l₂ k 0)

@@ -1,5 +1,6 @@
 -- Laws behind the theorems.
 pub mod Rules
+pub mod Finish
 pub mod LowerBound
 pub mod Attained
 pub mod Earliest

@@ -1,7 +1,7 @@
 -- The least figure of a mosaic: that of the recursion over its batchings (crate `batching`).
 use Prim.Native.Nat.{ℕ, _+_, _-_}
 use Rattle.sheet.specs.declared.MosaicSection.{MosaicSection}
-use Rattle.rules.specs.Sums.{sumOver}
+use Rattle.base.specs.Sums.{sumOver}
 use Rattle.rules.specs.Mosaic.{ready, benchSum}
 use Rattle.batching.specs.Least.{Instance, leastFrom}
 

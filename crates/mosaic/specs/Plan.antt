@@ -1,8 +1,9 @@
 -- The plan that the program returns, and what it promises.
-use Prim.Native.Nat.{ℕ, zero, suc, _≤_}
+use Prim.Native.Nat.{ℕ, _≤_}
 use mathlib.Core.Path.{_≡_}
-use mathlib.Core.List.{List, [], _∷_, _++_}
+use mathlib.Core.List.{List, [], _∷_}
 use lib.ListN.{length, getD}
+use Rattle.base.specs.Listed.{listed}
 use Rattle.sheet.specs.Limits.{mostStrips}
 use Rattle.sheet.specs.declared.MosaicSection.{MosaicSection}
 use Rattle.rules.specs.declared.Batch.{Batch}
@@ -15,13 +16,12 @@ unfoldable pub lasts : List Batch → List ℕ
 lasts [] = []
 lasts (b ∷ bs) = b .last ∷ lasts bs
 
--- the first n entries of the lists of last strips, starts and finishes
-unfoldable pub batchesIn : ℕ → List ℕ → List ℕ → List ℕ → List Batch
-batchesIn zero last start finish = []
-batchesIn (suc n) last start finish = batchesIn n last start finish ++ (record { last = getD last n 0; start = getD start n 0; finish = getD finish n 0 } ∷ [])
+-- batch k, from 0, of lists of last strips, starts and finishes
+abbrev pub entry : List ℕ → List ℕ → List ℕ → ℕ → Batch
+entry last start finish k = record { last = getD last k 0; start = getD start k 0; finish = getD finish k 0 }
 
 unfoldable pub batchesOf : MosaicPlan → List Batch
-batchesOf p = batchesIn (p .batches) (p .last) (p .start) (p .finish)
+batchesOf p = listed (p .batches) (entry (p .last) (p .start) (p .finish))
 
 -- zeros after the batches
 pub record NoMore (p : MosaicPlan) : Type 0 where

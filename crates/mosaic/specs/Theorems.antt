@@ -10,7 +10,7 @@ use Rattle.sheet.specs.Sound.{MosaicSound}
 use Rattle.sheet.specs.declared.MosaicSection.{MosaicSection}
 use Rattle.rules.specs.declared.Batch.{Batch}
 use Rattle.rules.specs.Mosaic.{noBatch, batchAt, MosaicLawful, mosaicFigure}
-use Rattle.rules.specs.Running.{MosaicRuns}
+use Rattle.running.specs.Running.{MosaicRuns}
 use Rattle.batching.specs.Least.{leastFrom}
 use Rattle.mosaic.specs.Least.{leastFigure}
 use Rattle.batching.specs.Chosen.{chosenFrom}

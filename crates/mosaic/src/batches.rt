@@ -1,8 +1,8 @@
 // The batches taken, read out of the tables from the first strip on.
 ghost use Rattle.mosaic.specs.Tables.{AddPre, Added, BatchesPre, BatchesTaken};
 use crate::MosaicPlan;
+use base::greater;
 use batching::first_batch;
-use rules::mosaic::greater;
 
 // The plan with one batch more, of `count` strips.
 fn add_batch(plan: MosaicPlan, count: u64, last: u64, start: u64, finish: u64) -> MosaicPlan

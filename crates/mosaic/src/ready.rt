@@ -4,9 +4,9 @@ ghost use mathlib.Core.List.{[], _∷_};
 ghost use Prim.Native.Nat.{_≤_};
 ghost use lib.ListN.{getD};
 ghost use Rattle.sheet.specs.Sound.{MosaicSound};
-ghost use Rattle.rules.specs.Sums.{greatestOver};
+ghost use Rattle.base.specs.Sums.{greatestOver};
 ghost use Rattle.mosaic.specs.Tables.{ReadyTimes, BenchSums};
-use rules::mosaic::greater;
+use base::greater;
 use sheet::MosaicSection;
 use sheet::limits::MOST_STRIPS;
 

@@ -1,12 +1,11 @@
 -- The laws that the program's proofs cite: what is written is the chosen plan, each way out of a call is its answer, and the table is cleared.
 use Prim.Native.Nat.{ℕ, _+_, _≤_, _<_}
-use mathlib.Core.Path.{_≡_, refl, sym, ap, _∙_}
+use mathlib.Core.Path.{_≡_, sym, ap, _∙_}
 use mathlib.Core.Bool.{true, false, not}
-use mathlib.Core.List.{List, _++_, append-nil}
+use mathlib.Core.List.{List, _++_}
 use native.Mathlib.Omega.{arith}
-use lib.ListN.{length, take, drop, set, replicate, length-append, length-set}
-use lib.Seq.{drop-length, length-take-le}
-use borrow.Author.Fill.{fill-none, fill-more}
+use lib.ListN.{length, take, drop, replicate, length-append}
+use lib.Seq.{length-take-le}
 use borrow.Author.Tests.{lt-ltb, le-ltb, eq-eqb, ne-eqb, not-true, not-false}
 use Rattle.field.specs.Put.{put-whole, holding, holding-none}
 use Rattle.sheet.specs.Limits.{tableLength, planLength}
@@ -40,40 +39,10 @@ use Rattle.sheet.specs.Decode.{zeros}
 use Rattle.planner.specs.Call.{chosenPlan, answer, sheetAnswer, sheetPlan, answerOf, plannedBytes, clearedTo, tableAfter, Called, WithinAsked, Within, PlanAsked, Planned}
 use Rattle.planner.specs.declared.Answer.{Answer}
 
--- Clearing.
-pub cleared-none : (t : List ℕ) → t ≡ clearedTo 0 t
-unfolding clearedTo zeros
-cleared-none t = fill-none t 0
-
-pub cleared-more : (n : ℕ) (t : List ℕ) → n < length t → set (clearedTo n t) n 0 ≡ clearedTo (n + 1) t
-unfolding clearedTo zeros
-cleared-more n t h = fill-more n 0 t h
-
-cleared-all : (t : List ℕ) → clearedTo (length t) t ≡ zeros (length t)
-unfolding zeros clearedTo
-cleared-all t = ap (λ (l : List ℕ). replicate (length t) 0 ++ l) (drop-length t) ∙ append-nil (replicate (length t) 0)
-
-pub record Clearing (before after : List ℕ) (i : ℕ) : Type 0 where
-  pub within : i ≤ length before
-  pub long : length after ≡ length before
-  pub cleared : after ≡ clearedTo i before
-
-pub clearing-none : (t : List ℕ) → Clearing t t 0
-clearing-none t = record { within = omega arith; long = refl; cleared = cleared-none t }
-
-pub clearing-more : (t w : List ℕ) (i : ℕ) → Clearing t w i → i < length w → Clearing t (set w i 0) (i + 1)
-clearing-more t w i c h =
-    record {
-      within = let l = c .long in omega arith;
-      long = length-set w i 0 ∙ c .long;
-      cleared = ap (λ (l : List ℕ). set l i 0) (c .cleared) ∙ cleared-more i t (let l = c .long in omega arith);
-    }
-
-pub clearing-all : (t w : List ℕ) (i : ℕ) → Clearing t w i → length w ≤ i → w ≡ zeros (length t)
-clearing-all t w i c h = c .cleared ∙ ap (λ (k : ℕ). clearedTo k t) all ∙ cleared-all t
-  where
-    all : i ≡ length t
-    all = let l = c .long in let k = c .within in omega arith
+-- a cleared table, in the word of the contract
+zeros-are : (n : ℕ) (t : List ℕ) → t ≡ replicate n 0 → t ≡ zeros n
+unfolding zeros
+zeros-are n t e = e
 
 -- The answers of a sheet that was read, way by way.
 module _ (s : Sheet) (plan : List ℕ) where
@@ -176,10 +145,10 @@ pub sections-asked : (sheet plan table : List ℕ) (s : Sheet) → WithinAsked p
 sections-asked sheet plan table s asked e =
     record { sound = λ z. rw e (read-sound sheet (ap (λ (x : Sheet). x .number) (sym e) ∙ z)); room = asked .room; size = asked .size }
 
-pub call-within : (sheet plan after table used cleared : List ℕ) (s : Sheet) (r : Answer) → WithinAsked plan table → s ≡ readSheet sheet → Planned s plan after r → length used ≡ length table → cleared ≡ zeros (length used)
+pub call-within : (sheet plan after table used cleared : List ℕ) (s : Sheet) (r : Answer) → WithinAsked plan table → s ≡ readSheet sheet → Planned s plan after r → length used ≡ length table → cleared ≡ replicate (length used) 0
     → Within sheet plan after cleared r
 call-within sheet plan after table used cleared s r asked e p l z =
-    record { answer = p .answer ∙ ap sheetAnswer e; buffer = p .buffer ∙ ap (λ (x : Sheet). holding (sheetPlan x) plan) e; table = z ∙ ap zeros (l ∙ asked .size) }
+    record { answer = p .answer ∙ ap sheetAnswer e; buffer = p .buffer ∙ ap (λ (x : Sheet). holding (sheetPlan x) plan) e; table = zeros-are (length used) cleared z ∙ ap zeros (l ∙ asked .size) }
 
 -- A whole call.
 module _ (sheet plan table : List ℕ) where

@@ -1,7 +1,5 @@
 // The planner whole: a sheet read, its sections planned, and the plan written into the lent buffer.
 ghost use mathlib.Core.Path.{_≡_};
-ghost use lib.ListN.{length};
-ghost use Rattle.sheet.specs.Decode.{zeros};
 ghost use Rattle.planner.specs.Call.{Called, PlanAsked, WithinAsked, Within, Planned};
 use sheet::Sheet;
 use sheet::limits::PLAN_LENGTH;
@@ -16,17 +14,6 @@ pub struct Answer {
     pub number: u64,
     pub place: usize,
     pub length: usize,
-}
-
-// All numbers of the table set to 0.
-fn clear(table: &mut [u64])
-    ensures { λ _. ⌜ now (table .exit) ≡ zeros (length (now (table .entry))) ⌝ }
-{
-    let mut i: usize = 0;
-    while i < table.len() {
-        table[i] = 0;
-        i += 1;
-    }
 }
 
 // A sheet that was read. The flight is planned first: where it is impossible, nothing has been written.
@@ -66,7 +53,7 @@ fn plan_within(sheet: &[u8], plan: &mut [u8], table: &mut [u64]) -> Answer
 {
     let s = sheet_reader::read(sheet);
     let answer = plan_sections(s, plan, table);
-    clear(table);
+    base::clear(table);
     answer
 }
 

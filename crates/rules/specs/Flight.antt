@@ -9,7 +9,7 @@ use lib.Dec.{ltb, eqb}
 use Rattle.order.specs.Order.{bit, seconds, firsts, Proper}
 use Rattle.sheet.specs.Limits.{ceiling}
 use Rattle.sheet.specs.declared.FlightSection.{FlightSection}
-use Rattle.rules.specs.Sums.{greatestOver}
+use Rattle.base.specs.Sums.{greatestOver}
 use Rattle.rules.specs.declared.Passes.{Passes}
 
 -- the starts of block i, from 0
@@ -29,13 +29,26 @@ passTime f p = cond (ltb p (f .blocks)) (getD (f .first) p 0) (getD (f .second) 
 unfoldable pub passEnd : FlightSection → List Passes → ℕ → ℕ
 passEnd f ps p = passStart f ps p + passTime f p
 
+-- "A second pass starts exactly l after its first ends": when the second pass of block i is due
+unfoldable pub secondDue : FlightSection → ℕ → Passes → ℕ
+secondDue f i p = p .first + getD (f .first) i 0 + getD (f .delay) i 0
+
+pub record DelayKept (f : FlightSection) (i : ℕ) (p : Passes) : Type 0 where
+  pub exact : p .second ≡ secondDue f i p
+
+-- "No two passes overlap; one may start the second another ends": from when on another pass may start after pass p
+unfoldable pub clearAt : FlightSection → List Passes → ℕ → ℕ
+clearAt f ps p = passEnd f ps p
+
+-- pass q comes after pass p, clear of it
+abbrev pub Clear : FlightSection → List Passes → ℕ → ℕ → Type 0
+Clear f ps p q = clearAt f ps p ≤ passStart f ps q
+
 -- a timetable of the flight
 pub record FlightLawful (f : FlightSection) (ps : List Passes) : Type 0 where
   pub every-block : length ps ≡ f .blocks
-  -- "A second pass starts exactly l after its first ends."
-  pub exact-delay : (i : ℕ) → i < f .blocks → passesAt ps i .second ≡ passesAt ps i .first + getD (f .first) i 0 + getD (f .delay) i 0
-  -- "No two passes overlap; one may start the second another ends."
-  pub apart : (p q : ℕ) → p < 2 * f .blocks → q < 2 * f .blocks → (p ≡ q → ⊥) → (passEnd f ps p ≤ passStart f ps q) ⊎ (passEnd f ps q ≤ passStart f ps p)
+  pub delay-kept : (i : ℕ) → i < f .blocks → DelayKept f i (passesAt ps i)
+  pub apart : (p q : ℕ) → p < 2 * f .blocks → q < 2 * f .blocks → (p ≡ q → ⊥) → Clear f ps p q ⊎ Clear f ps q p
   -- "all starts and finishes are whole numbers from 0 to 10,000,000"
   pub within : (p : ℕ) → p < 2 * f .blocks → passEnd f ps p ≤ ceiling
 

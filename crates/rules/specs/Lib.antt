@@ -1,11 +1,5 @@
 -- The rules: when is a timetable lawful, what is its figure, when is a plan allowed.
-pub mod Sums
 pub mod Mosaic
 pub mod Sorting
 pub mod Flight
 pub mod Plan
-pub mod Running
-pub mod PlanRead
-pub mod FunctionLaws
-pub mod Tests
-pub mod Samples

@@ -7,7 +7,7 @@ use lib.ListN.{length, getD}
 use lib.Dec.{leb}
 use Rattle.sheet.specs.Limits.{ceiling}
 use Rattle.sheet.specs.declared.MosaicSection.{MosaicSection}
-use Rattle.rules.specs.Sums.{sumOver, greatestOver}
+use Rattle.base.specs.Sums.{sumOver, greatestOver}
 use Rattle.rules.specs.declared.Batch.{Batch}
 
 -- "Each station works the strips in order from time 0 without pause": when station k (from 0) is done with the first j strips
@@ -34,22 +34,26 @@ unfoldable pub batchBefore : List Batch → ℕ → Batch
 batchBefore bs zero = noBatch
 batchBefore bs (suc i) = batchAt bs i
 
--- the strips of batch i: those after the last strip of the batch before, up to its own last strip
-unfoldable pub batchSize : List Batch → ℕ → ℕ
-batchSize bs i = batchAt bs i .last - batchBefore bs i .last
+-- "Finish = start + s + the batch's bench times": its strips are those after the last strip of the batch before, up to its own last strip
+unfoldable pub finishDue : MosaicSection → Batch → Batch → ℕ
+finishDue m before b = b .start + m .mount + benchSum m (before .last) (b .last - before .last)
+
+-- what the rules ask of a batch and the batch before it
+pub record BatchLawful (m : MosaicSection) (before b : Batch) : Type 0 where
+  -- "Batches are runs of neighbouring strips that cover all in order."
+  pub rises : before .last < b .last
+  -- "A mount starts no earlier than the last strip of its batch is ready and the batch before has finished."
+  pub waits-strip : ready m (b .last) ≤ b .start
+  pub waits-batch : before .finish ≤ b .start
+  pub finishes : b .finish ≡ finishDue m before b
+  -- "all starts and finishes are whole numbers from 0 to 10,000,000"; no start is above its finish
+  pub within : b .finish ≤ ceiling
 
 -- a timetable of the mosaic
 pub record MosaicLawful (m : MosaicSection) (bs : List Batch) : Type 0 where
-  -- "Batches are runs of neighbouring strips that cover all in order."
-  pub runs : (i : ℕ) → i < length bs → batchBefore bs i .last < batchAt bs i .last
+  pub each : (i : ℕ) → i < length bs → BatchLawful m (batchBefore bs i) (batchAt bs i)
+  -- ".. that cover all in order"
   pub covers : batchBefore bs (length bs) .last ≡ m .strips
-  -- "A mount starts no earlier than the last strip of its batch is ready and the batch before has finished."
-  pub waits-strip : (i : ℕ) → i < length bs → ready m (batchAt bs i .last) ≤ batchAt bs i .start
-  pub waits-batch : (i : ℕ) → i < length bs → batchBefore bs i .finish ≤ batchAt bs i .start
-  -- "Finish = start + s + the batch's bench times."
-  pub finishes : (i : ℕ) → i < length bs → batchAt bs i .finish ≡ batchAt bs i .start + m .mount + benchSum m (batchBefore bs i .last) (batchSize bs i)
-  -- "all starts and finishes are whole numbers from 0 to 10,000,000"; no start is above its finish
-  pub within : (i : ℕ) → i < length bs → batchAt bs i .finish ≤ ceiling
 
 -- "A strip is complete when its batch finishes": strip j is of the first batch whose last strip is not before it
 unfoldable pub completion : List Batch → ℕ → ℕ

@@ -1,8 +1,4 @@
-// The rules of the three sections: what a plan's members are, and what the rules take from a section. The definitions stand in specs/.
-
-pub mod flight;
-pub mod mosaic;
-pub mod sorting;
+// What a plan's members are. The rules of the three sections stand in specs/.
 
 // A batch of the mosaic: the number of its last strip, the start of its mount, its finish.
 pub struct Batch {
@@ -23,11 +19,4 @@ pub struct Job {
 pub struct Passes {
     pub first: u64,
     pub second: u64,
-}
-
-// How far a sorting has come: the strips each desk has had, from when it is free, and from when the scanner is.
-pub struct Desks {
-    pub done: [u64; 3],
-    pub free: [u64; 3],
-    pub scanner: u64,
 }

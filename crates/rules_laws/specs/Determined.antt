@@ -16,7 +16,7 @@ use Rattle.rules.specs.Mosaic.{mosaicFigure}
 use Rattle.rules.specs.Sorting.{sortingFigure}
 use Rattle.rules.specs.Flight.{flightFigure}
 use Rattle.rules.specs.Plan.{mosaicBytes, sortingBytes, flightBytes, ifPresent, Plan, planBytes, PlanLawful}
-use Rattle.rules.specs.PlanRead.{orderFrom, batchFrom, jobFrom, passesFrom, membersFrom}
+use Rattle.plan_read.specs.PlanRead.{orderFrom, batchFrom, jobFrom, passesFrom, membersFrom}
 use Rattle.rules_laws.specs.Sections.{length-mosaic, length-sorting, length-flight, mosaic-back, sorting-back, flight-back, flight-order-back}
 use Rattle.rules_laws.specs.Fits.{batches-most, batch-fits, jobs-all, job-fits, passes-fits, order-fits}
 

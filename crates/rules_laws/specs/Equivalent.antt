@@ -9,7 +9,7 @@ use Rattle.sheet.specs.declared.FlightSection.{FlightSection}
 use Rattle.rules.specs.Mosaic.{noBatch, MosaicLawful, mosaicFigure}
 use Rattle.rules.specs.Sorting.{SortingLawful, sortingFigure}
 use Rattle.rules.specs.Flight.{FlightLawful, Keeps, OrderAllowed}
-use Rattle.rules.specs.Running.{MosaicRuns, freeDesks, SortingRuns, FlightRuns}
+use Rattle.running.specs.Running.{MosaicRuns, freeDesks, SortingRuns, FlightRuns}
 use Rattle.rules.specs.declared.Batch.{Batch}
 use Rattle.rules.specs.declared.Job.{Job}
 use Rattle.rules.specs.declared.Passes.{Passes}

@@ -15,19 +15,20 @@ use Rattle.sheet.specs.Sound.{MosaicSound, SortingSound, FlightSound, stripsInA
 use Rattle.sheet.specs.declared.MosaicSection.{MosaicSection}
 use Rattle.sheet.specs.declared.SortingSection.{SortingSection}
 use Rattle.sheet.specs.declared.FlightSection.{FlightSection}
-use Rattle.rules.specs.Sums.{sumOver}
+use Rattle.base.specs.Sums.{sumOver}
 use Rattle.rules.specs.Mosaic.{benchSum, noBatch, batchAt, batchBefore, MosaicLawful, completion, mosaicFigure}
 use Rattle.rules.specs.Sorting.{stripsOf, slot, deskTime, scanEnd, deskFinish, jobAt, jobsOf, SortingLawful, sortingFigure}
 use Rattle.rules.specs.Flight.{passesAt, passEnd, FlightLawful, OrderAllowed, flightFigure}
-use Rattle.rules.specs.Running.{BatchFollows, MosaicRuns, none, more}
+use Rattle.running.specs.Running.{BatchFollows, MosaicRuns, none, more}
 use Rattle.rules.specs.declared.Batch.{Batch}
 use Rattle.rules.specs.declared.Job.{Job}
 use Rattle.rules.specs.declared.Passes.{Passes}
-use Rattle.rules_laws.specs.Sums.{sum-most, sum-least, greatest-most, greatest-part}
+use Rattle.base.specs.SumLaws.{sum-most, sum-least, greatest-most, greatest-part}
+use Rattle.rules_laws.specs.Finish.{finish-worked}
 use Rattle.rules_laws.specs.MosaicRunning.{count-within, follows-at, runningFigure}
 use Rattle.rules_laws.specs.Equivalent.{mosaic-runs, mosaic-figure}
 use Rattle.rules_laws.specs.SortingRunning.{jobs-same, jobs-other, number-known}
-use Rattle.rules_laws.specs.FlightRunning.{second-start, end-is, time-some}
+use Rattle.rules_laws.specs.FlightRunning.{first-ended, second-start, end-is, time-some}
 use Rattle.rules_laws.specs.RoundTrip.{BatchFits, JobFits, PassesFits}
 
 -- The mosaic.
@@ -44,7 +45,7 @@ module _ (m : MosaicSection) (bs : List Batch) (sound : MosaicSound m) (L : Mosa
   pub mosaic-figure-most : mosaicFigure m bs ≤ 40 * ceiling
   unfolding mosaicFigure batchAt
   mosaic-figure-most =
-      omega (arith, sum-most (m .strips) ceiling (λ j. completion bs (j + 1)) (λ j l. completion-most bs (j + 1) (L .within)), sound .most-strips)
+      omega (arith, sum-most (m .strips) ceiling (λ j. completion bs (j + 1)) (λ j l. completion-most bs (j + 1) (λ i k. L .each i k .within)), sound .most-strips)
 
   bench-some : (i count : ℕ) → i + count ≤ m .strips → count ≤ benchSum m i count
   unfolding benchSum
@@ -55,7 +56,7 @@ module _ (m : MosaicSection) (bs : List Batch) (sound : MosaicSound m) (L : Mosa
 
   finish-some : (before b : Batch) → BatchFollows m before b → 1 ≤ b .finish
   finish-some before b f =
-      omega (arith, f .rises, f .known, f .finishes, bench-some (before .last) (b .last - before .last) (omega (arith, f .rises, f .known)))
+      omega (arith, f .lawful .rises, f .known, f .lawful .finishes, finish-worked m before b, bench-some (before .last) (b .last - before .last) (omega (arith, f .lawful .rises, f .known)))
 
   product-some : (x y : ℕ) → 1 ≤ x → 1 ≤ y → 1 ≤ x * y
   product-some (suc x) (suc y) p q = omega (arith, mul-le-mul-left (suc x) q)
@@ -63,7 +64,7 @@ module _ (m : MosaicSection) (bs : List Batch) (sound : MosaicSound m) (L : Mosa
   running-some : (before : Batch) (cs : List Batch) → MosaicRuns m before cs → before .last < m .strips → 1 ≤ runningFigure before cs
   unfolding runningFigure
   running-some before [] (none e) h = absurd (omega arith)
-  running-some before (b ∷ cs) (more f r) h = omega (arith, product-some (b .last - before .last) (b .finish) (omega (arith, f .rises)) (finish-some before b f))
+  running-some before (b ∷ cs) (more f r) h = omega (arith, product-some (b .last - before .last) (b .finish) (omega (arith, f .lawful .rises)) (finish-some before b f))
 
   pub mosaic-figure-least : 0 < m .strips → 1 ≤ mosaicFigure m bs
   unfolding noBatch
@@ -77,20 +78,20 @@ module _ (m : MosaicSection) (bs : List Batch) (sound : MosaicSound m) (L : Mosa
   batch-last i l = omega (arith, batch-follows i l .known, sound .most-strips)
 
   pub batch-start : (i : ℕ) → i < length bs → batchAt bs i .start ≤ ceiling
-  batch-start i l = omega (arith, batch-follows i l .finishes, batch-follows i l .within)
+  batch-start i l = omega (arith, L .each i l .finishes, finish-worked m (batchBefore bs i) (batchAt bs i), L .each i l .within)
 
   pub batch-fits : (i : ℕ) → i < length bs → BatchFits (batchAt bs i)
-  batch-fits i l = record { last = omega (arith, batch-last i l); start = omega (arith, batch-start i l); finish = omega (arith, L .within i l) }
+  batch-fits i l = record { last = omega (arith, batch-last i l); start = omega (arith, batch-start i l); finish = omega (arith, L .each i l .within) }
 
 -- The sorting.
 module _ (s : SortingSection) (js : List Job) (sound : SortingSound s) (L : SortingLawful s js) where
   desk-known : (i : ℕ) → i < length js → jobAt js i .desk ≤ mostDesks
-  desk-known i l = omega (arith, L .at-desk i l .1, sound .most-desks)
+  desk-known i l = omega (arith, L .each i l .most-desk, sound .most-desks)
 
   no-jobs : (desk : ℕ) → s .desks < desk → (n : ℕ) → n ≤ length js → jobsOf js desk n ≡ 0
   unfolding jobsOf sumOver
   no-jobs desk h zero l = refl
-  no-jobs desk h (suc n) l = jobs-other js desk n (λ e. omega (arith, e, L .at-desk n (omega arith) .1)) ∙ no-jobs desk h n (omega arith)
+  no-jobs desk h (suc n) l = jobs-other js desk n (λ e. omega (arith, e, L .each n (omega arith) .most-desk)) ∙ no-jobs desk h n (omega arith)
 
   -- the jobs of a desk are its strips, and a desk that is not there has none
   desk-jobs : (desk : ℕ) → 1 ≤ desk → jobsOf js desk (length js) ≡ stripsOf s desk
@@ -115,7 +116,7 @@ module _ (s : SortingSection) (js : List Job) (sound : SortingSound s) (L : Sort
       go (yes e) q r ih = omega (arith, ih, one-of-three 1 n (omega arith) e 2 3 (λ z. omega arith) (λ z. omega arith))
       go (no p) (yes e) r ih = omega (arith, ih, one-of-three 2 n (omega arith) e 1 3 (λ z. omega arith) (λ z. omega arith))
       go (no p) (no q) (yes e) ih = omega (arith, ih, one-of-three 3 n (omega arith) e 1 2 (λ z. omega arith) (λ z. omega arith))
-      go (no p) (no q) (no r) ih = absurd (omega (arith, p, q, r, L .at-desk n (omega arith) .0, desk-known n (omega arith)))
+      go (no p) (no q) (no r) ih = absurd (omega (arith, p, q, r, L .each n (omega arith) .least-desk, desk-known n (omega arith)))
 
   pub jobs-all : length js ≡ stripsInAll s
   unfolding stripsInAll stripsOf
@@ -127,7 +128,7 @@ module _ (s : SortingSection) (js : List Job) (sound : SortingSound s) (L : Sort
 
   pub sorting-figure-most : sortingFigure s js ≤ 18 * ceiling
   unfolding sortingFigure
-  sorting-figure-most = omega (arith, sum-most (length js) ceiling (λ i. deskFinish s (jobAt js i)) (L .within), jobs-most)
+  sorting-figure-most = omega (arith, sum-most (length js) ceiling (λ i. deskFinish s (jobAt js i)) (λ i l. L .each i l .within), jobs-most)
 
   least-number : (i : ℕ) → i < length js → 1 ≤ jobAt js i .number
   least-number i l = omega (arith, L .in-turn i l)
@@ -150,11 +151,11 @@ module _ (s : SortingSection) (js : List Job) (sound : SortingSound s) (L : Sort
 
   pub job-start : (i : ℕ) → i < length js → jobAt js i .start ≤ ceiling
   unfolding deskFinish
-  job-start i l = omega (arith, L .within i l)
+  job-start i l = omega (arith, L .each i l .within)
 
   pub job-scan : (i : ℕ) → i < length js → jobAt js i .scan ≤ ceiling
   unfolding scanEnd
-  job-scan i l = omega (arith, L .after-scan i l, job-start i l)
+  job-scan i l = omega (arith, L .each i l .after-scan, job-start i l)
 
   pub job-fits : (i : ℕ) → i < length js → JobFits (jobAt js i)
   job-fits i l = record { desk = omega (arith, job-desk i l); number = omega (arith, job-number i l); scan = omega (arith, job-scan i l); start = omega (arith, job-start i l) }
@@ -174,7 +175,7 @@ module _ (f : FlightSection) (ps : List Passes) (sound : FlightSound f) (L : Fli
   passes-second i l = omega (arith, L .within (f .blocks + i) (omega (arith, L .every-block)), end-is f ps (f .blocks + i), second-start f ps i)
 
   pub passes-first : (i : ℕ) → i < length ps → passesAt ps i .first ≤ ceiling
-  passes-first i l = omega (arith, L .exact-delay i (omega (arith, L .every-block)), passes-second i l)
+  passes-first i l = omega (arith, first-ended f i (passesAt ps i) (L .delay-kept i (omega (arith, L .every-block))), passes-second i l)
 
   pub passes-fits : (i : ℕ) → i < length ps → PassesFits (passesAt ps i)
   passes-fits i l = record { first = omega (arith, passes-first i l); second = omega (arith, passes-second i l) }

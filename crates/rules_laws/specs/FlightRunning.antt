@@ -16,8 +16,8 @@ use Rattle.order.specs.Blocks.{proper-first, proper-second, proper-firsts}
 use Rattle.sheet.specs.Limits.{ceiling}
 use Rattle.sheet.specs.Sound.{FlightSound}
 use Rattle.sheet.specs.declared.FlightSection.{FlightSection}
-use Rattle.rules.specs.Flight.{passesAt, passStart, passTime, passEnd, passAt, FlightLawful, Keeps, OrderAllowed}
-use Rattle.rules.specs.Running.{BlockFollows, FlightRuns}
+use Rattle.rules.specs.Flight.{passesAt, passStart, passTime, passEnd, secondDue, DelayKept, clearAt, Clear, FlightLawful, passAt, Keeps, OrderAllowed}
+use Rattle.running.specs.Running.{BlockFollows, FlightRuns}
 use Rattle.rules.specs.declared.Passes.{Passes}
 
 -- each count of passes is that of some position: the counts grow by at most one at a time
@@ -96,6 +96,11 @@ module _ (f : FlightSection) where
       go (yes q) = omega (arith, time-first p q, sound .least-first p q)
       go (no q) = omega (arith, time-second p (omega arith), sound .least-second (p - f .blocks) (omega arith))
 
+-- a first pass ends no later than its second starts
+pub first-ended : (f : FlightSection) (i : ℕ) (p : Passes) → DelayKept f i p → p .first + getD (f .first) i 0 ≤ p .second
+unfolding secondDue
+first-ended f i p k = let e = k .exact in omega arith
+
 module _ (f : FlightSection) (ps : List Passes) where
   pub start-first : (i : ℕ) → i < f .blocks → passStart f ps i ≡ passesAt ps i .first
   unfolding passStart
@@ -115,11 +120,16 @@ module _ (f : FlightSection) (ps : List Passes) where
   unfolding passEnd
   end-is p = refl
 
+  -- another pass may start no sooner than a pass ends
+  pub clear-end : (p : ℕ) → passEnd f ps p ≤ clearAt f ps p
+  unfolding clearAt
+  clear-end p = omega arith
+
   -- From the rules to the run.
   pub next-apart : (w : ℕ) → FlightLawful f ps → Keeps f w ps → Proper (f .blocks) w
-      → (k : ℕ) → k + 1 < 2 * f .blocks → passEnd f ps (passAt f w k) ≤ passStart f ps (passAt f w (k + 1))
+      → (k : ℕ) → k + 1 < 2 * f .blocks → Clear f ps (passAt f w k) (passAt f w (k + 1))
   next-apart w law keeps proper k l =
-      ⊎-elim (λ h. h) (λ h. absurd (omega (arith, h, later, end-is (passAt f w (k + 1)))))
+      ⊎-elim (λ h. h) (λ h. absurd (omega (arith, h, later, clear-end (passAt f w (k + 1)), end-is (passAt f w (k + 1)))))
       (law .apart (passAt f w k) (passAt f w (k + 1)) (pass-known f w proper k (omega arith)) (pass-known f w proper (k + 1) l) differ)
     where
       later : passStart f ps (passAt f w k) < passStart f ps (passAt f w (k + 1))
@@ -132,53 +142,53 @@ module _ (f : FlightSection) (ps : List Passes) where
     block-follows : (i : ℕ) → i < f .blocks → BlockFollows f i (passesAt ps i)
     block-follows i l = record {
       known = l;
-      exact-delay = law .exact-delay i l;
+      delay-kept = law .delay-kept i l;
       within = omega (arith, law .within (f .blocks + i) (omega arith), end-is (f .blocks + i), second-start i, second-time f i);
     }
 
     pub lawful-runs : FlightRuns f w ps
     lawful-runs = record {
       members = λ i l. block-follows i (omega (arith, law .every-block));
-      head = record { every-block = law .every-block; proper = allowed .proper; as-given = allowed .as-given; in-order = next-apart w law keeps (allowed .proper) };
+      head = record { every-block = law .every-block; allowed = allowed; in-order = next-apart w law keeps (allowed .proper) };
     }
 
   -- Where each pass ends before the next one in a proper order starts, it ends before every later one, and any two passes are apart.
   module _ (w : ℕ) (proper : Proper (f .blocks) w)
-      (next : (k : ℕ) → k + 1 < 2 * f .blocks → passEnd f ps (passAt f w k) ≤ passStart f ps (passAt f w (k + 1))) where
-    chain : (j d : ℕ) → j + 1 + d < 2 * f .blocks → passEnd f ps (passAt f w j) ≤ passStart f ps (passAt f w (j + 1 + d))
+      (next : (k : ℕ) → k + 1 < 2 * f .blocks → Clear f ps (passAt f w k) (passAt f w (k + 1))) where
+    chain : (j d : ℕ) → j + 1 + d < 2 * f .blocks → Clear f ps (passAt f w j) (passAt f w (j + 1 + d))
     chain j zero l = rw (add-zero (j + 1)) (next j (omega arith))
     chain j (suc d) l =
-        subst (λ (k : ℕ). passEnd f ps (passAt f w j) ≤ passStart f ps (passAt f w k)) there
-        (omega (arith, chain j d (omega arith), end-is (passAt f w (j + 1 + d)), next (j + 1 + d) (omega arith)))
+        subst (λ (k : ℕ). Clear f ps (passAt f w j) (passAt f w k)) there
+        (omega (arith, chain j d (omega arith), clear-end (passAt f w (j + 1 + d)), end-is (passAt f w (j + 1 + d)), next (j + 1 + d) (omega arith)))
       where
         there : j + 1 + d + 1 ≡ j + 1 + suc d
         there = omega arith
 
-    pub before-later : (j k : ℕ) → j < k → k < 2 * f .blocks → passEnd f ps (passAt f w j) ≤ passStart f ps (passAt f w k)
-    before-later j k h l = subst (λ (i : ℕ). passEnd f ps (passAt f w j) ≤ passStart f ps (passAt f w i)) there (chain j (k - (j + 1)) (omega arith))
+    pub before-later : (j k : ℕ) → j < k → k < 2 * f .blocks → Clear f ps (passAt f w j) (passAt f w k)
+    before-later j k h l = subst (λ (i : ℕ). Clear f ps (passAt f w j) (passAt f w i)) there (chain j (k - (j + 1)) (omega arith))
       where
         there : j + 1 + (k - (j + 1)) ≡ k
         there = omega arith
 
     apart-at : (j k : ℕ) → j < 2 * f .blocks → k < 2 * f .blocks → (passAt f w j ≡ passAt f w k → ⊥)
-        → (passEnd f ps (passAt f w j) ≤ passStart f ps (passAt f w k)) ⊎ (passEnd f ps (passAt f w k) ≤ passStart f ps (passAt f w j))
+        → Clear f ps (passAt f w j) (passAt f w k) ⊎ Clear f ps (passAt f w k) (passAt f w j)
     apart-at j k lj lk ne = go (decLt j k) (ℕ-discrete j k)
       where
-        go : Dec (j < k) → Dec (j ≡ k) → (passEnd f ps (passAt f w j) ≤ passStart f ps (passAt f w k)) ⊎ (passEnd f ps (passAt f w k) ≤ passStart f ps (passAt f w j))
+        go : Dec (j < k) → Dec (j ≡ k) → Clear f ps (passAt f w j) (passAt f w k) ⊎ Clear f ps (passAt f w k) (passAt f w j)
         go (yes h) e = inl (before-later j k h lk)
         go (no h) (yes e) = absurd (ne (ap (passAt f w) e))
         go (no h) (no e) = inr (before-later k j (omega arith) lj)
 
-    pub all-apart : (p q : ℕ) → p < 2 * f .blocks → q < 2 * f .blocks → (p ≡ q → ⊥) → (passEnd f ps p ≤ passStart f ps q) ⊎ (passEnd f ps q ≤ passStart f ps p)
+    pub all-apart : (p q : ℕ) → p < 2 * f .blocks → q < 2 * f .blocks → (p ≡ q → ⊥) → Clear f ps p q ⊎ Clear f ps q p
     all-apart p q lp lq ne = go (position f w proper p lp) (position f w proper q lq)
       where
         go : (j : ℕ) × (j < 2 * f .blocks) × (passAt f w j ≡ p) → (k : ℕ) × (k < 2 * f .blocks) × (passAt f w k ≡ q)
-            → (passEnd f ps p ≤ passStart f ps q) ⊎ (passEnd f ps q ≤ passStart f ps p)
+            → Clear f ps p q ⊎ Clear f ps q p
         go a b = rw (← a .2, ← b .2) (apart-at (a .0) (b .0) (a .1) (b .1) (λ e. ne (sym (a .2) ∙ e ∙ b .2)))
 
     pub order-kept : FlightSound f → Keeps f w ps
     order-kept sound = record {
-      by-start = λ j k h l. omega (arith, before-later j k h l, end-is (passAt f w j), time-some f sound (passAt f w j) (pass-known f w proper j (omega arith)));
+      by-start = λ j k h l. omega (arith, before-later j k h l, clear-end (passAt f w j), end-is (passAt f w j), time-some f sound (passAt f w j) (pass-known f w proper j (omega arith)));
     }
 
   -- From the run to the rules.
@@ -189,7 +199,7 @@ module _ (f : FlightSection) (ps : List Passes) where
         go : Dec (p < f .blocks) → passEnd f ps p ≤ ceiling
         go (yes h) =
             let b : BlockFollows f p (passesAt ps p) = R .members p (omega (arith, R .head .every-block)) in
-            omega (arith, end-is p, start-first p h, time-first f p h, b .exact-delay, b .within)
+            omega (arith, end-is p, start-first p h, time-first f p h, first-ended f p (passesAt ps p) (b .delay-kept), b .within)
         go (no h) =
             let b : BlockFollows f (p - f .blocks) (passesAt ps (p - f .blocks)) = R .members (p - f .blocks) (omega (arith, R .head .every-block)) in
             omega (arith, end-is p, start-second p (omega arith), time-second f p (omega arith), b .within)
@@ -197,13 +207,13 @@ module _ (f : FlightSection) (ps : List Passes) where
     pub runs-lawful : FlightLawful f ps
     runs-lawful = record {
       every-block = R .head .every-block;
-      exact-delay = λ i l. R .members i (omega (arith, R .head .every-block)) .exact-delay;
-      apart = all-apart w (R .head .proper) (R .head .in-order);
+      delay-kept = λ i l. R .members i (omega (arith, R .head .every-block)) .delay-kept;
+      apart = all-apart w (R .head .allowed .proper) (R .head .in-order);
       within = within;
     }
 
     pub runs-keeps : FlightSound f → Keeps f w ps
-    runs-keeps = order-kept w (R .head .proper) (R .head .in-order)
+    runs-keeps = order-kept w (R .head .allowed .proper) (R .head .in-order)
 
     pub runs-allowed : OrderAllowed f w
-    runs-allowed = record { proper = R .head .proper; as-given = R .head .as-given }
+    runs-allowed = R .head .allowed

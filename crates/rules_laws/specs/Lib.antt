@@ -1,6 +1,6 @@
 -- What a user of the rules needs. Theorems: Equivalent, the rules as they run over the members; RoundTrip and Sections, what a plan's bytes say;
 -- Fits, that lawful timetables fit their bytes; Determined, that the bytes determine the plan. The others hold the laws that lead to them.
-pub mod Sums
+pub mod Finish
 pub mod MosaicRunning
 pub mod SortingRunning
 pub mod FlightRunning

@@ -9,7 +9,7 @@ use lib.Seq.{take-add, drop-drop}
 use Rattle.field.specs.Field.{fieldAt, fieldBytes}
 use Rattle.field.specs.declared.Field.the-variants.{Whole}
 use Rattle.rules.specs.Plan.{membersBytes}
-use Rattle.rules.specs.PlanRead.{membersFrom}
+use Rattle.plan_read.specs.PlanRead.{membersFrom}
 use Rattle.rules_laws.specs.ByteLaws.{AreBytes, length-field, field-written}
 
 -- what makes a kind of members: how one is read, its tag, its content and the content's length, and which members fit their bytes

@@ -6,49 +6,30 @@ use Prim.Native.Nat.{ℕ, zero, suc, _+_, _-_, _*_, _≤_, _<_}
 use native.Mathlib.Omega.{arith}
 use lib.ListN.{length, getD}
 use borrow.Author.Tests.{le-leb, lt-leb}
-use Rattle.sheet.specs.Limits.{ceiling}
 use Rattle.sheet.specs.declared.MosaicSection.{MosaicSection}
-use Rattle.rules.specs.Sums.{sumOver}
-use Rattle.rules.specs.Mosaic.{ready, benchSum, noBatch, batchAt, batchBefore, batchSize, MosaicLawful, completion, mosaicFigure}
-use Rattle.rules.specs.Running.{BatchFollows, MosaicRuns, none, more}
+use Rattle.base.specs.Sums.{sumOver}
+use Rattle.rules.specs.Mosaic.{noBatch, batchAt, batchBefore, BatchLawful, MosaicLawful, completion, mosaicFigure}
+use Rattle.running.specs.Running.{BatchFollows, MosaicRuns, none, more}
 use Rattle.rules.specs.declared.Batch.{Batch}
-use Rattle.rules_laws.specs.Sums.{sum-split, sum-same, sum-const}
+use Rattle.base.specs.SumLaws.{sum-split, sum-same, sum-const}
 
 -- the last strip of every batch is one of the section's
 pub last-within : (m : MosaicSection) (b : Batch) (bs : List Batch) → MosaicRuns m b bs → b .last ≤ m .strips
 last-within m b [] (none e) = omega arith
-last-within m b (c ∷ bs) (more f r) = omega (arith, f .rises, f .known)
+last-within m b (c ∷ bs) (more f r) = omega (arith, f .lawful .rises, f .known)
 
 -- no more batches than strips
 pub count-within : (m : MosaicSection) (b : Batch) (bs : List Batch) → MosaicRuns m b bs → b .last + length bs ≤ m .strips
 count-within m b [] (none e) = omega arith
-count-within m b (c ∷ bs) (more f r) = omega (arith, count-within m c bs r, f .rises)
-
--- batch i of a list after a batch, and the batch before it: what holds of both but for the last strip's bound
-record BatchAfter (m : MosaicSection) (before b : Batch) : Type 0 where
-  pub rises : before .last < b .last
-  pub waits-strip : ready m (b .last) ≤ b .start
-  pub waits-batch : before .finish ≤ b .start
-  pub finishes : b .finish ≡ b .start + m .mount + benchSum m (before .last) (b .last - before .last)
-  pub within : b .finish ≤ ceiling
+count-within m b (c ∷ bs) (more f r) = omega (arith, count-within m c bs r, f .lawful .rises)
 
 module _ (m : MosaicSection) where
-  follows : (before b : Batch) (bs : List Batch) → BatchAfter m before b → MosaicRuns m b bs → BatchFollows m before b
-  follows before b bs a r = record {
-    rises = a .rises;
-    known = last-within m b bs r;
-    waits-strip = a .waits-strip;
-    waits-batch = a .waits-batch;
-    finishes = a .finishes;
-    within = a .within;
-  }
-
-  collect : (bs : List Batch) (b : Batch) → ((i : ℕ) → i < length bs → BatchAfter m (getD (b ∷ bs) i noBatch) (getD bs i noBatch))
+  collect : (bs : List Batch) (b : Batch) → ((i : ℕ) → i < length bs → BatchLawful m (getD (b ∷ bs) i noBatch) (getD bs i noBatch))
       → getD (b ∷ bs) (length bs) noBatch .last ≡ m .strips → MosaicRuns m b bs
   collect [] b h e = none e
   collect (c ∷ bs) b h e =
       let r : MosaicRuns m c bs = collect bs c (λ i k. h (suc i) (omega arith)) e in
-      more (follows b c bs (h 0 (omega arith)) r) r
+      more (record { lawful = h 0 (omega arith); known = last-within m c bs r }) r
 
   each : (bs : List Batch) (b : Batch) → MosaicRuns m b bs → (i : ℕ) → i < length bs → BatchFollows m (getD (b ∷ bs) i noBatch) (getD bs i noBatch)
   each [] b (none e) i h = absurd (omega arith)
@@ -65,32 +46,15 @@ module _ (m : MosaicSection) where
   before-is bs (suc i) = refl
 
   pub lawful-runs : (bs : List Batch) → MosaicLawful m bs → MosaicRuns m noBatch bs
-  unfolding batchAt batchSize
-  lawful-runs bs L =
-      collect bs noBatch
-      (λ i h. rw (← before-is bs i) (record {
-        rises = L .runs i h;
-        waits-strip = L .waits-strip i h;
-        waits-batch = L .waits-batch i h;
-        finishes = L .finishes i h;
-        within = L .within i h;
-      }))
-      (rw (← before-is bs (length bs)) (L .covers))
+  unfolding batchAt
+  lawful-runs bs L = collect bs noBatch (λ i h. rw (← before-is bs i) (L .each i h)) (rw (← before-is bs (length bs)) (L .covers))
 
   pub follows-at : (bs : List Batch) → MosaicRuns m noBatch bs → (i : ℕ) → i < length bs → BatchFollows m (batchBefore bs i) (batchAt bs i)
   unfolding batchAt
   follows-at bs R i h = rw (before-is bs i) (each bs noBatch R i h)
 
   pub runs-lawful : (bs : List Batch) → MosaicRuns m noBatch bs → MosaicLawful m bs
-  unfolding batchSize
-  runs-lawful bs R = record {
-    runs = λ i h. follows-at bs R i h .rises;
-    covers = rw (before-is bs (length bs)) (end bs noBatch R);
-    waits-strip = λ i h. follows-at bs R i h .waits-strip;
-    waits-batch = λ i h. follows-at bs R i h .waits-batch;
-    finishes = λ i h. follows-at bs R i h .finishes;
-    within = λ i h. follows-at bs R i h .within;
-  }
+  runs-lawful bs R = record { each = λ i h. follows-at bs R i h .lawful; covers = rw (before-is bs (length bs)) (end bs noBatch R) }
 
 -- the figure, batch by batch: each batch's strips times its finish
 unfoldable pub runningFigure : Batch → List Batch → ℕ
@@ -139,7 +103,7 @@ rest-running : (m : MosaicSection) (before : Batch) (bs : List Batch) → Mosaic
 unfolding runningFigure
 rest-running m before [] (none e) = rest-end m (before .last) [] (omega arith)
 rest-running m before (b ∷ bs) (more f r) =
-    rest-cons m (before .last) b bs (omega (arith, f .rises)) (f .known) ∙ ap (λ (n : ℕ). (b .last - before .last) * b .finish + n) (rest-running m b bs r)
+    rest-cons m (before .last) b bs (omega (arith, f .lawful .rises)) (f .known) ∙ ap (λ (n : ℕ). (b .last - before .last) * b .finish + n) (rest-running m b bs r)
 
 pub figure-running : (m : MosaicSection) (bs : List Batch) → MosaicRuns m noBatch bs → mosaicFigure m bs ≡ runningFigure noBatch bs
 unfolding noBatch

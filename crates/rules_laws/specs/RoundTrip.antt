@@ -11,7 +11,7 @@ use Rattle.field.specs.Fields.{WholeAt, whole-at}
 use Rattle.field.specs.declared.Field.the-variants.{Whole}
 use Rattle.sheet.specs.Tags.{planBatchTag, planStripTag, planBlockTag}
 use Rattle.rules.specs.Plan.{batchBytes, jobBytes, passesBytes, membersBytes}
-use Rattle.rules.specs.PlanRead.{figureFrom, orderFrom, batchFrom, jobFrom, passesFrom, membersFrom}
+use Rattle.plan_read.specs.PlanRead.{figureFrom, orderFrom, batchFrom, jobFrom, passesFrom, membersFrom}
 use Rattle.rules.specs.Mosaic.{batchAt, noBatch}
 use Rattle.rules.specs.Sorting.{jobAt, noJob}
 use Rattle.rules.specs.Flight.{passesAt, noPasses}

@@ -14,7 +14,7 @@ use Rattle.rules.specs.Mosaic.{noBatch, batchAt}
 use Rattle.rules.specs.Sorting.{noJob, jobAt}
 use Rattle.rules.specs.Flight.{noPasses, passesAt}
 use Rattle.rules.specs.Plan.{membersBytes, mosaicBytes, sortingBytes, flightBytes}
-use Rattle.rules.specs.PlanRead.{figureFrom, orderFrom, batchFrom, jobFrom, passesFrom, membersFrom}
+use Rattle.plan_read.specs.PlanRead.{figureFrom, orderFrom, batchFrom, jobFrom, passesFrom, membersFrom}
 use Rattle.rules.specs.declared.Batch.{Batch}
 use Rattle.rules.specs.declared.Job.{Job}
 use Rattle.rules.specs.declared.Passes.{Passes}

@@ -14,12 +14,12 @@ use lib.Dec.{eqb}
 use borrow.Author.Tests.{eq-eqb, ne-eqb}
 use Rattle.sheet.specs.declared.SortingSection.{SortingSection}
 use Rattle.sheet.specs.Sound.{SortingSound}
-use Rattle.rules.specs.Sums.{sumOver}
+use Rattle.base.specs.Sums.{sumOver}
 use Rattle.rules.specs.Sorting.{stripsOf, scanEnd, deskFinish, noJob, jobAt, jobsOf, SortingLawful, sortingFigure}
-use Rattle.rules.specs.Running.{JobFollows, freeDesks, afterJob, AllDone, SortingRuns, none, more}
+use Rattle.running.specs.Running.{JobFollows, freeDesks, afterJob, AllDone, SortingRuns, none, more}
 use Rattle.rules.specs.declared.Job.{Job}
-use Rattle.rules.specs.declared.Desks.{Desks}
-use Rattle.rules_laws.specs.Sums.{sum-first}
+use Rattle.running.specs.declared.Desks.{Desks}
+use Rattle.base.specs.SumLaws.{sum-first}
 
 -- the jobs of a desk, one job more
 pub jobs-same : (js : List Job) (desk i : ℕ) → jobAt js i .desk ≡ desk → jobsOf js desk (suc i) ≡ jobsOf js desk i + 1
@@ -85,10 +85,10 @@ module _ (s : SortingSection) (js : List Job) where
 
   module _ (k : ℕ) (d : Desks) (r : Reached s js k d) (j : Job) (at : jobAt js k ≡ j) (f : JobFollows s d j) (few : j .desk < 4) where
     slot-low : j .desk - 1 < 3
-    slot-low = omega (arith, f .least-desk)
+    slot-low = omega (arith, f .lawful .least-desk)
 
     slot-back : j .desk - 1 + 1 ≡ j .desk
-    slot-back = omega (arith, f .least-desk)
+    slot-back = omega (arith, f .lawful .least-desk)
 
     desk-at : jobAt js k .desk ≡ j .desk
     desk-at = ap (λ (x : Job). x .desk) at
@@ -183,7 +183,7 @@ module _ (s : SortingSection) (js : List Job) where
 
   -- a job's number is that of one of its desk's strips
   pub number-known : SortingLawful s js → (k : ℕ) → k < length js → jobAt js k .number ≤ stripsOf s (jobAt js k .desk)
-  number-known L k l = omega (arith, L .in-turn k l, jobs-same js (jobAt js k .desk) k refl, rest, L .all-strips (jobAt js k .desk) (L .at-desk k l .0) (L .at-desk k l .1))
+  number-known L k l = omega (arith, L .in-turn k l, jobs-same js (jobAt js k .desk) k refl, rest, L .all-strips (jobAt js k .desk) (L .each k l .least-desk) (L .each k l .most-desk))
     where
       all : suc k + (length js - suc k) ≡ length js
       all = omega arith
@@ -195,21 +195,18 @@ module _ (s : SortingSection) (js : List Job) where
   module _ (sound : SortingSound s) (L : SortingLawful s js) where
     lawful-follows : (k : ℕ) (d : Desks) → Reached s js k d → k < length js → JobFollows s d (jobAt js k)
     lawful-follows k d r l = record {
-      least-desk = least;
-      most-desk = most;
+      lawful = L .each k l;
       in-turn = L .in-turn k l ∙ ap (λ (x : ℕ). x + 1) (sym done-is);
       known = number-known L k l;
       one-scan = r .scanner-least (jobAt js k .scan) (λ i p. L .one-scan i k p l);
-      after-scan = L .after-scan k l;
       one-job = r .free-least (jobAt js k .desk - 1) (jobAt js k .start) low (λ i p e. L .one-job i k p l (e ∙ back));
-      within = L .within k l;
     }
       where
         least : 1 ≤ jobAt js k .desk
-        least = L .at-desk k l .0
+        least = L .each k l .least-desk
 
         most : jobAt js k .desk ≤ s .desks
-        most = L .at-desk k l .1
+        most = L .each k l .most-desk
 
         low : jobAt js k .desk - 1 < 3
         low = omega (arith, least, most, sound .most-desks)
@@ -225,7 +222,7 @@ module _ (s : SortingSection) (js : List Job) where
 
     run-from : (rest : List Job) (k : ℕ) (d : Desks) → length js ≡ k + length rest → ((i : ℕ) → i < length rest → jobAt js (k + i) ≡ getD rest i noJob) → Reached s js k d → SortingRuns s d rest
     run-from [] k d e h r = none (lawful-done d (subst (λ (n : ℕ). Reached s js n d) (omega arith) r))
-    run-from (j ∷ rest) k d e h r = more f (run-from rest (suc k) (afterJob s d j) (omega arith) (λ i l. later i l) (reached-next k d r j at f (omega (arith, f .most-desk, sound .most-desks))))
+    run-from (j ∷ rest) k d e h r = more f (run-from rest (suc k) (afterJob s d j) (omega arith) (λ i l. later i l) (reached-next k d r j at f (omega (arith, f .lawful .most-desk, sound .most-desks))))
       where
         at : jobAt js k ≡ j
         at = ap (jobAt js) (omega arith) ∙ h 0 (omega arith)
@@ -273,17 +270,15 @@ module _ (s : SortingSection) (js : List Job) where
     told-from (j ∷ rest) k d e h r (more f R) =
         let at : jobAt js k ≡ j = ap (jobAt js) (omega arith) ∙ h 0 (omega arith) in
         told-more k d j at r f
-        (told-from rest (suc k) (afterJob s d j) (omega arith) (λ i l. ap (jobAt js) (omega arith) ∙ h (suc i) (omega arith)) (reached-next k d r j at f (omega (arith, f .most-desk, sound .most-desks))) R)
+        (told-from rest (suc k) (afterJob s d j) (omega arith) (λ i l. ap (jobAt js) (omega arith) ∙ h (suc i) (omega arith)) (reached-next k d r j at f (omega (arith, f .lawful .most-desk, sound .most-desks))) R)
 
     pub runs-lawful : SortingRuns s freeDesks js → SortingLawful s js
     runs-lawful R = record {
-      at-desk = λ i l. (at i l .follows .least-desk, at i l .follows .most-desk);
+      each = λ i l. at i l .follows .lawful;
       in-turn = λ i l. at i l .follows .in-turn ∙ ap (λ (x : ℕ). x + 1) (at i l .reached .done (jobAt js i .desk - 1) (low i l) ∙ ap (λ (x : ℕ). jobsOf js x i) (back i l));
       all-strips = λ desk p q. all desk p q;
       one-scan = λ i j p l. le-trans (at j l .reached .scanner-above i p) (at j l .follows .one-scan);
-      after-scan = λ i l. at i l .follows .after-scan;
       one-job = λ i j p l e. le-trans (at j l .reached .free-above i (jobAt js j .desk - 1) p (e ∙ sym (back j l))) (at j l .follows .one-job);
-      within = λ i l. at i l .follows .within;
     }
       where
         told : Told 0
@@ -293,10 +288,10 @@ module _ (s : SortingSection) (js : List Job) where
         at i l = told .each i (omega arith) l
 
         low : (i : ℕ) (l : i < length js) → jobAt js i .desk - 1 < 3
-        low i l = omega (arith, at i l .follows .least-desk, at i l .follows .most-desk, sound .most-desks)
+        low i l = omega (arith, at i l .follows .lawful .least-desk, at i l .follows .lawful .most-desk, sound .most-desks)
 
         back : (i : ℕ) (l : i < length js) → jobAt js i .desk - 1 + 1 ≡ jobAt js i .desk
-        back i l = omega (arith, at i l .follows .least-desk)
+        back i l = omega (arith, at i l .follows .lawful .least-desk)
 
         all : (desk : ℕ) → 1 ≤ desk → desk ≤ s .desks → jobsOf js desk (length js) ≡ stripsOf s desk
         all desk p q =

@@ -3,7 +3,7 @@ use Prim.Native.Nat.{ℕ}
 use mathlib.Core.Bool.{Bool, true, false, cond, not, _&&_, _||_}
 use mathlib.Core.List.{List, [], _∷_}
 use lib.Dec.{ltb, leb, eqb}
-use Rattle.field.specs.Branch.{check}
+use Rattle.base.specs.Branch.{check}
 use Rattle.order.specs.Order.{isProper}
 use Rattle.sheet.specs.Limits.{mostStrips, mostStripsOfDesk, mostBlocks, mostBlocksWithoutOrder}
 use Rattle.sheet.specs.Tags.{mosaicHeadTag, mosaicStripTag, sortingHeadTag, sortingStripTag, flightHeadTag, flightBlockTag, flightOrderTag}

@@ -9,19 +9,19 @@ use native.Mathlib.Omega.{arith}
 use lib.ListN.{length, getD}
 use lib.Dec.{leb, ltb, eqb}
 use borrow.Author.Tests.{eqb-true, eqb-false, eq-eqb, ne-eqb, leb-true, leb-false, le-leb, lt-leb, ltb-true, ltb-false, lt-ltb, le-ltb, not-false}
-use Rattle.field.specs.Branch.{check, both}
+use Rattle.base.specs.Branch.{check, both}
 use Rattle.field.specs.Bytes.{numberAt}
 use Rattle.field.specs.Field.{fieldAt}
 use Rattle.field.specs.Fields.{whole-at}
 use Rattle.field.specs.declared.Field.the-variants.{End, Cut, Whole}
 use Rattle.order.specs.Decided.{true-proper, false-proper}
-use Rattle.sheet.specs.Limits.{mostStrips, mostStripsOfDesk, mostBlocks, mostBlocksWithoutOrder}
+use Rattle.sheet.specs.Limits.{mostBlocksWithoutOrder}
 use Rattle.sheet.specs.Tags.{mosaicHeadTag, mosaicStripTag, sortingHeadTag, sortingStripTag, flightHeadTag, flightBlockTag, flightOrderTag}
 use Rattle.sheet.specs.Refusals.{fieldCut, tagNotPermitted, lengthWrong, outOfRange, tooMany, noMembers, orderNotProper, orderMissing}
 use Rattle.sheet.specs.Sections.{noSection, inFlight, stripsOfDesk}
 use Rattle.sheet.specs.FieldTable.{lengthDue, Value, valuesOf, OutOfRange}
 use Rattle.sheet.specs.Rows.{firstFailure}
-use Rattle.sheet.specs.RowLaws.{Gives, Answers, gives-check, answers-none, answers-behind, answers-row}
+use Rattle.sheet.specs.RowLaws.{Gives, Answers, gives-check, answers-none, answers-behind, answers-row, neither}
 use Rattle.sheet.specs.Causes.{FieldCut, EndsSection, NoMembers, ManyBlocks, OrderMissing, Permitted, TooMany, OrderNotProper, cutRow, fieldRows, endRows}
 use Rattle.sheet.specs.Checks.{endsSection, sectionFilled, fewBlocks, orderGiven, orderPermitted, permitted, valueNumber, valueNumbers, rangeNumber, hasRoom, orderProper}
 use Rattle.sheet.specs.Read.{contentChecks, fieldChecks, fieldNumber, endChecks, endNumber, placeOf}
@@ -34,10 +34,6 @@ decided b number cause f g = gives-check b number cause f (λ e c. true≢false 
 either : (a b : Bool) → (a || b) ≡ true → (a ≡ true) ⊎ (b ≡ true)
 either true b e = inl refl
 either false b e = inr e
-
-neither : (a b : Bool) → (a || b) ≡ false → (a ≡ false) × (b ≡ false)
-neither true b e = absurd (true≢false e)
-neither false b e = (refl, e)
 
 -- a chain of tests of a tag, by what it gives
 split : (tag k : ℕ) (x y t : Bool) → cond (eqb tag k) x y ≡ t → ((tag ≡ k) × (x ≡ t)) ⊎ (y ≡ t)

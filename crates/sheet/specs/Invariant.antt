@@ -6,11 +6,9 @@ use mathlib.Core.List.{List}
 use native.Mathlib.Omega.{arith}
 use lib.ListN.{length}
 use native.Mathlib.Decide.{decLt}
-use Rattle.sheet.specs.Limits.{mostBlocks, mostStrips, mostStripsOfDesk}
-use Rattle.field.specs.Bytes.{numberAt}
-use Rattle.order.specs.Order.{Proper}
+use Rattle.sheet.specs.Limits.{mostBlocks, mostStrips}
 use Rattle.sheet.specs.Tags.{mosaicHeadTag, mosaicStripTag, sortingHeadTag, sortingStripTag, flightHeadTag, flightBlockTag, flightOrderTag}
-use Rattle.sheet.specs.Sections.{noSection, inMosaic, inSorting, inFlight, afterOrder, stripsOfDesk}
+use Rattle.sheet.specs.Sections.{noSection, inMosaic, inSorting, inFlight, afterOrder}
 use Rattle.sheet.specs.Checks.{endsSection}
 use Rattle.sheet.specs.FieldTable.{lengthDue, mosaicStripValues, stationTimes, valuesOf, InRange}
 use Rattle.sheet.specs.Causes.{Permitted, TooMany}

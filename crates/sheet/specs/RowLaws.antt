@@ -8,7 +8,7 @@ use native.Mathlib.Omega.{arith}
 use native.Mathlib.Decide.{decLt}
 use lib.Dec.{T, ltb, eqb, lit<}
 use borrow.Author.Tests.{eq-eqb}
-use Rattle.field.specs.Branch.{check}
+use Rattle.base.specs.Branch.{check}
 use Rattle.sheet.specs.Rows.{Row, row, rowAt, Fails, Passes, firstFailure}
 
 -- what a check gives: the number where the cause lies, 0 where it does not
@@ -109,7 +109,7 @@ unfoldable pub isAmong : ℕ → List ℕ → Bool
 isAmong n [] = false
 isAmong n (m ∷ numbers) = eqb m n || isAmong n numbers
 
-neither : (a b : Bool) → (a || b) ≡ false → (a ≡ false) × (b ≡ false)
+pub neither : (a b : Bool) → (a || b) ≡ false → (a ≡ false) × (b ≡ false)
 neither true b e = absurd (true≢false e)
 neither false b e = (refl, e)
 

@@ -2,7 +2,7 @@
 use Prim.Native.Nat.{ℕ, zero, suc, _+_, _-_, _*_, _≤_, _<_}
 use mathlib.Core.Path.{_≡_, refl, sym, _∙_}
 use mathlib.Core.Bool.{true, false}
-use mathlib.Core.List.{List, []}
+use mathlib.Core.List.{List}
 use native.Mathlib.Decide.{ℕ-discrete}
 use native.Mathlib.Omega.{arith}
 use lib.ListN.{length, getD, set, length-set}
@@ -122,7 +122,9 @@ unfolding sortingHeadValues withSortingHead
 sorting-head-sound s c r = sorting-begun _ (first-within _ _ r .at-most)
 
 -- strip k of desk d is stored with a time at 6 d + k: every strip of every desk has a time of 1 or more
-module _ (counts times : List ℕ) (d k v : ℕ) (here : getD counts d 0 ≡ k) (within : d < length counts) (few : (d′ : ℕ) → getD counts d′ 0 ≤ mostStripsOfDesk) (room : k < mostStripsOfDesk) (slot : 6 * d + k < length times) (least : (d′ k′ : ℕ) → k′ < getD counts d′ 0 → 1 ≤ getD times (6 * d′ + k′) 0) (fits : 1 ≤ v) where
+module _ (counts times : List ℕ) (d k v : ℕ) (here : getD counts d 0 ≡ k) (within : d < length counts)
+    (few : (d′ : ℕ) → getD counts d′ 0 ≤ mostStripsOfDesk) (room : k < mostStripsOfDesk) (slot : 6 * d + k < length times)
+    (least : (d′ k′ : ℕ) → k′ < getD counts d′ 0 → 1 ≤ getD times (6 * d′ + k′) 0) (fits : 1 ≤ v) where
   least-same : (k′ : ℕ) → k′ < k + 1 → Dec (k′ ≡ k) → 1 ≤ getD (set times (6 * d + k) v) (6 * d + k′) 0
   least-same k′ h (yes e) = rw (set-here times (6 * d + k) (6 * d + k′) v slot (omega arith)) fits
   least-same k′ h (no e) = rw (set-there times (6 * d + k) (6 * d + k′) v (λ q. e (omega arith))) (least d k′ (omega arith))

@@ -3,12 +3,11 @@
 use Prim.Native.Nat.{ℕ, zero, suc, _+_, _-_, _≤_, _<_}
 use mathlib.Core.Path.{_≡_, refl, sym, ap, ap₂, subst, _∙_}
 use mathlib.Core.Bool.{Bool, true, false}
-use mathlib.Core.List.{List, []}
+use mathlib.Core.List.{List}
 use native.Mathlib.Decide.{ℕ-discrete, decLt}
 use native.Mathlib.Omega.{arith}
 use lib.ListN.{length}
 use borrow.Author.Tests.{eq-eqb, ne-eqb}
-use Rattle.field.specs.Bytes.{numberAt}
 use Rattle.field.specs.Field.{fieldAt}
 use Rattle.field.specs.Fields.{whole-at}
 use Rattle.field.specs.declared.Field.{Field}
@@ -17,12 +16,12 @@ use Rattle.sheet.specs.Limits.{mostBlocksWithoutOrder}
 use Rattle.sheet.specs.Refusals.{fieldCut, orderImpossible}
 use Rattle.sheet.specs.Sections.{inFlight, afterOrder}
 use Rattle.sheet.specs.Rows.{rowAt, Fails, Passes}
-use Rattle.sheet.specs.RowLaws.{Gives, Answers, answers-none, answers-row, answer-passes, passes-answer, answer-fails, fails-answer, numbersOf, isAmong, fails-other}
-use Rattle.sheet.specs.Causes.{FieldCut, ManyBlocks, fieldRows, endRows, rowsAt}
+use Rattle.sheet.specs.RowLaws.{answer-passes, passes-answer, answer-fails, fails-answer, numbersOf, isAmong, fails-other}
+use Rattle.sheet.specs.Causes.{fieldRows, endRows, rowsAt}
 use Rattle.sheet.specs.Table.{Reached, Cause, Complete}
 use Rattle.sheet.specs.Table.Reached.{at-start, past-field}
 use Rattle.sheet.specs.Decode.{nextReading, startReading}
-use Rattle.sheet.specs.Read.{fieldNumber, endNumber, placeOf, refused, accepted, atEnd, readFrom, readSheet}
+use Rattle.sheet.specs.Read.{fieldNumber, endNumber, refused, accepted, atEnd, readFrom, readSheet}
 use Rattle.sheet.specs.Sound.{SheetSound, stripsInAll}
 use Rattle.sheet.specs.Decided.{field-answers, end-answers, cut-answers}
 use Rattle.sheet.specs.Invariant.{Kept}

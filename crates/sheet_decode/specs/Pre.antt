@@ -56,7 +56,8 @@ pub strip-pre : (c tag strips stations : ℕ) → NextMosaicPre c tag strips sta
 strip-pre c tag strips stations r e = record { content = r .content; strip-fits = r .strip-fits e; stations-fit = r .stations-fit }
 
 -- for a desk, numbered from 1, and its strips so far, as the code reads them
-pub desk-pre : (s : List ℕ) (c tag : ℕ) (counts : List ℕ) (desk d k : ℕ) → NextSortingPre c tag (numberAt s c 1) (stripsOfDesk counts (numberAt s c 1)) → tag ≡ sortingStripTag → NumberRead s c 1 desk → d ≡ desk - 1 → k ≡ stripsOfDesk counts desk → StripAtPre c d k
+pub desk-pre : (s : List ℕ) (c tag : ℕ) (counts : List ℕ) (desk d k : ℕ) → NextSortingPre c tag (numberAt s c 1) (stripsOfDesk counts (numberAt s c 1))
+    → tag ≡ sortingStripTag → NumberRead s c 1 desk → d ≡ desk - 1 → k ≡ stripsOfDesk counts desk → StripAtPre c d k
 desk-pre s c tag counts desk d k r e n ed ek =
     record { content = r .content; desk-fits = omega (arith, r .desk-fits e, n .is); strip-fits = rw (ek, n .is) (r .strip-fits e) }
 

@@ -1,7 +1,7 @@
 -- The chosen jobs are a lawful timetable, and their figure is the least figure. Each job is read off the state that the list has reached.
 use mathlib.Core.Path.{_≡_, refl, sym, ap, subst, _∙_}
 use mathlib.Core.List.{List}
-use Prim.Native.Nat.{ℕ, zero, suc, _+_, _-_, _*_, _≤_, _<_}
+use Prim.Native.Nat.{ℕ, zero, suc, _+_, _-_, _*_, _≤_, _<_, max}
 use native.Mathlib.Nat.{le-refl}
 use native.Mathlib.Decide.{decLt, ℕ-discrete}
 use native.Mathlib.Omega.{arith}
@@ -9,15 +9,15 @@ use lib.ListN.{length, getD}
 use Rattle.sheet.specs.declared.SortingSection.{SortingSection}
 use Rattle.sheet.specs.Sound.{SortingSound}
 use Rattle.rules.specs.declared.Job.{Job}
-use Rattle.rules.specs.Sums.{sumOver}
+use Rattle.base.specs.Listed.{listed-length, listed-at}
+use Rattle.base.specs.Sums.{sumOver}
 use Rattle.rules.specs.Sorting.{jobAt, jobsOf, noJob, stripsOf, scanEnd, deskFinish, SortingLawful, sortingFigure}
 use Rattle.interleaving.specs.declared.State.{State}
 use Rattle.interleaving.specs.Instance.{Instance, weightOf}
-use Rattle.interleaving.specs.Search.{maxOf, scanned, finish, stepOf, startState}
+use Rattle.interleaving.specs.Search.{scanned, finish, stepOf, startState}
 use Rattle.interleaving.specs.SearchLaws.{max-left, max-right, max-least}
 use Rattle.interleaving.specs.Consistent.{Consistent, consistent-start}
 use Rattle.sorting.specs.Plan.{instanceOf, leastFigure, reached, jobOf, jobsOfList, chosenJobs}
-use Rattle.sorting.specs.Listed.{listed-length, listed-at}
 use Rattle.sorting.specs.Instance.{instance-sound, scan-of, desk-of, weight-of}
 use Rattle.sorting.specs.Route.{rises, reached-consistent, reached-left, reached-lengths, step-time, step-cost, free-same, free-other, taken-is}
 use Rattle.sorting.specs.Chosen.{chosenDesk, chosenState, Chosen, chosen}
@@ -33,7 +33,7 @@ module _ (J : List ℕ) (s : State) (d : ℕ) where
   unfolding jobOf
   job-after-desk = max-left (getD (s .free) d 0) (scanned J s d)
 
-  pub job-start : jobOf J s d .start ≡ maxOf (getD (s .free) d 0) (scanned J s d)
+  pub job-start : jobOf J s d .start ≡ max (getD (s .free) d 0) (scanned J s d)
   unfolding jobOf
   job-start = refl
 
@@ -196,13 +196,16 @@ module _ (s : SortingSection) (h : SortingSound s) where
 
   pub chosen-lawful : SortingLawful s (chosenJobs s)
   chosen-lawful = record {
-    at-desk = λ i l. (omega (arith, desk-is i (at i l)), omega (arith, desk-is i (at i l), of-section i (at i l)));
+    each = λ i l. record {
+      least-desk = omega (arith, desk-is i (at i l));
+      most-desk = omega (arith, desk-is i (at i l), of-section i (at i l));
+      after-scan = omega (arith, scan-end i (at i l), start-is i (at i l), job-after-scan J (S i) (F i));
+      within = omega (arith, chosen-early i (at i l));
+    };
     in-turn = λ i l. in-turn i (at i l);
     all-strips = λ desk p q. ap (jobsOf (chosenJobs s) desk) chosen-length ∙ all-strips desk p q;
     one-scan = λ i k l m. omega (arith, scan-end i (omega (arith, at k m)), time-next i, time-mono (suc i) k (omega arith), scan-is k (at k m));
-    after-scan = λ i l. omega (arith, scan-end i (at i l), start-is i (at i l), job-after-scan J (S i) (F i));
     one-job = λ i k l m e. one-job i k l (at k m) e;
-    within = λ i l. omega (arith, chosen-early i (at i l));
   }
     where
       at : (i : ℕ) → i < length (chosenJobs s) → i < N

@@ -2,7 +2,7 @@
 -- The search's states along a timetable's own list are never later than the timetable.
 use mathlib.Core.Path.{_≡_, sym, ap, subst, _∙_}
 use mathlib.Core.List.{List}
-use Prim.Native.Nat.{ℕ, zero, suc, _+_, _-_, _*_, _^_, _/_, _≤_, _<_}
+use Prim.Native.Nat.{ℕ, zero, suc, _+_, _-_, _*_, _^_, _/_, _≤_, _<_, max}
 use native.Mathlib.Nat.{le-refl, le-trans, div-mul-le-self, le-div-iff-mul-le, one-le-pow}
 use native.Mathlib.Decide.{decLt, ℕ-discrete}
 use native.Mathlib.Omega.{arith}
@@ -10,12 +10,12 @@ use lib.ListN.{length, getD}
 use Rattle.sheet.specs.declared.SortingSection.{SortingSection}
 use Rattle.sheet.specs.Sound.{SortingSound}
 use Rattle.rules.specs.declared.Job.{Job}
-use Rattle.rules.specs.Sums.{sumOver}
+use Rattle.base.specs.Sums.{sumOver}
 use Rattle.rules.specs.Sorting.{jobAt, jobsOf, scanEnd, deskFinish, SortingLawful, sortingFigure}
 use Rattle.rules_laws.specs.SortingRunning.{jobs-same, jobs-mono}
 use Rattle.interleaving.specs.declared.State.{State}
 use Rattle.interleaving.specs.Instance.{Instance, scanOf, deskOf}
-use Rattle.interleaving.specs.Search.{maxOf, scanned, finish, stepOf, startState, noIncumbent, firstBest, Completes}
+use Rattle.interleaving.specs.Search.{scanned, finish, stepOf, startState, noIncumbent, firstBest, Completes}
 use Rattle.interleaving.specs.SearchLaws.{max-least, search-bound}
 use Rattle.interleaving.specs.Consistent.{Consistent, consistent-start}
 use Rattle.interleaving.specs.Completion.{bound-completes, search-first, step-path}
@@ -47,7 +47,7 @@ module _ (s : SortingSection) (h : SortingSound s) (js : List Job) (law : Sortin
   j = instance-sound s h
 
   desk-of-job : (i : ℕ) → i < length js → (jobAt js i .desk ≡ G i + 1) × (G i < 3)
-  desk-of-job i l = (omega (arith, law .at-desk i l), omega (arith, law .at-desk i l, h .most-desks))
+  desk-of-job i l = (omega (arith, law .each i l .least-desk), omega (arith, law .each i l .least-desk, law .each i l .most-desk, h .most-desks))
 
   taken : (i : ℕ) → i ≤ length js → (d : ℕ) → d < 3 → getD (T i .taken) d 0 ≡ jobsOf js (d + 1) i
   taken = taken-is J (startState J) G js (length js) (consistent-start J j .fits .frees) (consistent-start J j .fits .takens) (start-taken J) desk-of-job
@@ -58,7 +58,7 @@ module _ (s : SortingSection) (h : SortingSound s) (js : List Job) (law : Sortin
   serves : Serves J (startState J) G (length js)
   serves i l = (
     desk-of-job i l .1,
-    omega (arith, taken i (omega arith) (G i) (desk-of-job i l .1), jobs-same js (G i + 1) i (desk-of-job i l .0), later i l, all-of (G i) (desk-of-job i l .1) (omega (arith, law .at-desk i l))),
+    omega (arith, taken i (omega arith) (G i) (desk-of-job i l .1), jobs-same js (G i + 1) i (desk-of-job i l .0), later i l, all-of (G i) (desk-of-job i l .1) (omega (arith, law .each i l .least-desk, law .each i l .most-desk))),
   )
     where
       later : (i : ℕ) → i < length js → jobsOf js (G i + 1) (suc i) ≤ jobsOf js (G i + 1) (length js)
@@ -107,9 +107,9 @@ module _ (s : SortingSection) (h : SortingSound s) (js : List Job) (law : Sortin
     pub free : (k : ℕ) → i ≤ k → k < length js → getD (x .free) (G k) 0 ≤ jobAt js k .start
     pub cost : x .cost ≤ sumOver i (λ k. deskFinish s (jobAt js k))
 
-  start-ahead : (i : ℕ) → i < length js → Ahead (T i) i → maxOf (getD (T i .free) (G i) 0) (scanned J (T i) (G i)) ≤ jobAt js i .start
+  start-ahead : (i : ℕ) → i < length js → Ahead (T i) i → max (getD (T i .free) (G i) 0) (scanned J (T i) (G i)) ≤ jobAt js i .start
   start-ahead i l a =
-      max-least (getD (T i .free) (G i) 0) (scanned J (T i) (G i)) (jobAt js i .start) (a .free i (le-refl _) l) (omega (arith, a .time i (le-refl _) l, scan-end i l, law .after-scan i l))
+      max-least (getD (T i .free) (G i) 0) (scanned J (T i) (G i)) (jobAt js i .start) (a .free i (le-refl _) l) (omega (arith, a .time i (le-refl _) l, scan-end i l, law .each i l .after-scan))
 
   finish-ahead : (i : ℕ) → i < length js → Ahead (T i) i → finish J (T i) (G i) ≤ deskFinish s (jobAt js i)
   finish-ahead i l a = omega (arith, start-ahead i l a, finish-of i l)
@@ -164,7 +164,7 @@ module _ (s : SortingSection) (h : SortingSound s) (js : List Job) (law : Sortin
     pub lawful-later : (jobAt (chosenJobs s) i .scan ≤ jobAt js i .scan) × (jobAt (chosenJobs s) i .start ≤ jobAt js i .start)
     lawful-later = (
       omega (arith, scan-is s h i (omega (arith, lawful-length)), ap (λ (x : State). x .time) state, ahead i (omega arith) .time i (le-refl _) l),
-      omega (arith, start-is s h i (omega (arith, lawful-length)), job-start J (chosenState J i) (chosenDesk J i), ap (λ (x : State). maxOf (getD (x .free) (G i) 0) (scanned J x (G i))) state, ap (λ (d : ℕ). maxOf (getD (chosenState J i .free) d 0) (scanned J (chosenState J i) d)) desk, start-ahead i l (ahead i (omega arith))),
+      omega (arith, start-is s h i (omega (arith, lawful-length)), job-start J (chosenState J i) (chosenDesk J i), ap (λ (x : State). max (getD (x .free) (G i) 0) (scanned J x (G i))) state, ap (λ (d : ℕ). max (getD (chosenState J i .free) d 0) (scanned J (chosenState J i) d)) desk, start-ahead i l (ahead i (omega arith))),
     )
 
   module _ (least : sortingFigure s js ≡ leastFigure s) where

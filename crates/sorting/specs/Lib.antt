@@ -3,7 +3,6 @@ pub mod Plan
 pub mod Theorems
 pub mod Contracts
 pub mod Writing
-pub mod Listed
 pub mod Instance
 pub mod Route
 pub mod Chosen

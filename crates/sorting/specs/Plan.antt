@@ -1,11 +1,12 @@
 -- The least figure and the chosen jobs of a sorting section, by the search over interleavings without any cut (crate interleaving).
-use mathlib.Core.List.{List, [], _∷_, _++_}
-use Prim.Native.Nat.{ℕ, zero, suc, _+_, _-_, _/_, _%_, _^_}
+use mathlib.Core.List.{List, _++_}
+use Prim.Native.Nat.{ℕ, zero, suc, _+_, _-_, _/_, _%_, _^_, max}
 use lib.ListN.{getD, replicate}
+use Rattle.base.specs.Listed.{listed}
 use Rattle.sheet.specs.declared.SortingSection.{SortingSection}
 use Rattle.rules.specs.declared.Job.{Job}
 use Rattle.interleaving.specs.declared.State.{State}
-use Rattle.interleaving.specs.Search.{maxOf, scanned, stepOf, startState, firstBest}
+use Rattle.interleaving.specs.Search.{scanned, stepOf, startState, firstBest}
 use Rattle.sorting.specs.declared.SortingPlan.{SortingPlan}
 
 -- the section as the search reads it: strips of each desk, scan times, desk times, and weight 1 for each strip
@@ -27,12 +28,7 @@ reached J s f (suc i) = stepOf J (reached J s f i) (f i)
 
 -- the job of the next strip of desk d, from 0: it is scanned once the scanner is free, and done once it is scanned and its desk is free
 unfoldable pub jobOf : List ℕ → State → ℕ → Job
-jobOf J s d = record { desk = d + 1; number = getD (s .taken) d 0 + 1; scan = s .time; start = maxOf (getD (s .free) d 0) (scanned J s d) }
-
--- g 0, g 1, .. g (n - 1)
-unfoldable pub listed : ℕ → (ℕ → Job) → List Job
-listed zero g = []
-listed (suc n) g = listed n g ++ (g n ∷ [])
+jobOf J s d = record { desk = d + 1; number = getD (s .taken) d 0 + 1; scan = s .time; start = max (getD (s .free) d 0) (scanned J s d) }
 
 -- the jobs of the scanner list that has the number p
 unfoldable pub jobsOfList : List ℕ → ℕ → List Job
@@ -42,6 +38,9 @@ jobsOfList J p =
 unfoldable pub chosenJobs : SortingSection → List Job
 chosenJobs s = jobsOfList (instanceOf s) (firstBest (instanceOf s) .path)
 
--- the jobs that a plan holds
+-- job i, from 0, of a plan, and all jobs that it holds
+abbrev pub planJob : SortingPlan → ℕ → Job
+planJob p i = record { desk = getD (p .desk) i 0; number = getD (p .number) i 0; scan = getD (p .scan) i 0; start = getD (p .start) i 0 }
+
 unfoldable pub jobsOfPlan : SortingPlan → List Job
-jobsOfPlan p = listed (p .jobs) (λ i. record { desk = getD (p .desk) i 0; number = getD (p .number) i 0; scan = getD (p .scan) i 0; start = getD (p .start) i 0 })
+jobsOfPlan p = listed (p .jobs) (planJob p)

@@ -8,7 +8,7 @@ use native.Mathlib.Omega.{arith}
 use lib.ListN.{length, getD, length-set}
 use lib.Seq.{getD-set-same, getD-set-other}
 use Rattle.rules.specs.declared.Job.{Job}
-use Rattle.rules.specs.Sums.{sumOver}
+use Rattle.base.specs.Sums.{sumOver}
 use Rattle.rules.specs.Sorting.{jobAt, jobsOf}
 use Rattle.rules_laws.specs.SortingRunning.{jobs-same, jobs-other}
 use Rattle.interleaving.specs.declared.State.{State}

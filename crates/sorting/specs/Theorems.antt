@@ -7,7 +7,7 @@ use lib.ListN.{length, getD}
 use Rattle.sheet.specs.declared.SortingSection.{SortingSection}
 use Rattle.sheet.specs.Sound.{SortingSound}
 use Rattle.rules.specs.declared.Job.{Job}
-use Rattle.rules.specs.Sums.{sumOver}
+use Rattle.base.specs.Sums.{sumOver}
 use Rattle.rules.specs.Sorting.{jobAt, deskFinish, SortingLawful, sortingFigure}
 use Rattle.interleaving.specs.Search.{startState}
 use Rattle.interleaving.specs.Consistent.{consistent-start}

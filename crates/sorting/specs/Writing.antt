@@ -1,23 +1,23 @@
 -- How the plan is written: one job after another, each from the state that the list has reached.
 use mathlib.Core.Path.{_≡_, refl, sym, ap, subst, _∙_}
 use mathlib.Core.List.{List, [], _∷_, _++_}
-use Prim.Native.Nat.{ℕ, zero, suc, _+_, _-_, _^_, _/_, _%_, _≤_, _<_}
+use Prim.Native.Nat.{ℕ, zero, suc, _+_, _-_, _^_, _/_, _%_, _≤_, _<_, max}
 use native.Mathlib.Nat.{div-div-eq-div-mul, pow-suc, div-one}
 use native.Mathlib.Numerals.{add-one}
 use native.Mathlib.Omega.{arith}
 use lib.ListN.{length, getD, set, length-set, replicate}
 use lib.Seq.{getD-set-same, getD-set-other}
+use Rattle.base.specs.Listed.{listed, listed-same}
 use Rattle.rules.specs.declared.Job.{Job}
 use Rattle.interleaving.specs.declared.State.{State}
 use Rattle.interleaving.specs.declared.Incumbent.{Incumbent}
 use Rattle.interleaving.specs.Instance.{Instance}
-use Rattle.interleaving.specs.Search.{maxOf, scanned, stepOf, startState, firstBest}
+use Rattle.interleaving.specs.Search.{scanned, stepOf, startState, firstBest}
 use Rattle.interleaving.specs.SearchLaws.{step-left}
 use Rattle.interleaving.specs.Caps.{CanServe, StepCapped, can-serve-capped}
 use Rattle.interleaving.specs.Consistent.{Consistent, consistent-start}
 use Rattle.sorting.specs.declared.SortingPlan.{SortingPlan}
-use Rattle.sorting.specs.Plan.{reached, jobOf, listed, listedDesk, jobsOfList, jobsOfPlan}
-use Rattle.sorting.specs.Listed.{listed-same}
+use Rattle.sorting.specs.Plan.{reached, jobOf, listedDesk, jobsOfList, planJob, jobsOfPlan}
 use Rattle.sorting.specs.Route.{reached-next, reached-consistent, reached-left}
 use Rattle.sorting.specs.Chosen.{chosenDesk, chosenState, Chosen, chosen}
 
@@ -42,7 +42,7 @@ withJob J s d p = record {
   desk = set (p .desk) (p .jobs) (d + 1);
   number = set (p .number) (p .jobs) (getD (s .taken) d 0 + 1);
   scan = set (p .scan) (p .jobs) (s .time);
-  start = set (p .start) (p .jobs) (maxOf (getD (s .free) d 0) (scanned J s d));
+  start = set (p .start) (p .jobs) (max (getD (s .free) d 0) (scanned J s d));
 }
 
 -- the plan of the chosen list with its first i jobs written, and with all of them
@@ -58,7 +58,7 @@ pub record Appending (J : List ℕ) (s : State) (d : ℕ) (p : SortingPlan) : Ty
   pub room : p .jobs < 18
   pub capped : StepCapped J s d
 
-pub with-job-is : {J : List ℕ} {s : State} {d : ℕ} {p : SortingPlan} {m : ℕ} → Appending J s d p → m ≡ maxOf (getD (s .free) d 0) (scanned J s d) → record {
+pub with-job-is : {J : List ℕ} {s : State} {d : ℕ} {p : SortingPlan} {m : ℕ} → Appending J s d p → m ≡ max (getD (s .free) d 0) (scanned J s d) → record {
   figure = p .figure;
   jobs = p .jobs + 1;
   desk = set (p .desk) (p .jobs) (d + 1);
@@ -80,10 +80,7 @@ pub record Written (J : List ℕ) (b : Incumbent) (r : SortingPlan) : Type 0 whe
   pub jobs : jobsOfPlan r ≡ jobsOfList J (b .path)
   pub count : r .jobs ≡ startState J .left
 
--- job i of a plan, and of the chosen list
-abbrev planJob : SortingPlan → ℕ → Job
-planJob p i = record { desk = getD (p .desk) i 0; number = getD (p .number) i 0; scan = getD (p .scan) i 0; start = getD (p .start) i 0 }
-
+-- job i of the chosen list
 abbrev chosenJob : List ℕ → ℕ → Job
 chosenJob J i = jobOf J (chosenState J i) (chosenDesk J i)
 
@@ -172,13 +169,13 @@ module _ (J : List ℕ) (s : State) (d : ℕ) (p : SortingPlan) (z : Sized p) (r
   unfolding withJob
   with-job-before i l =
       same-job _ _ (getD-set-other (p .desk) (p .jobs) i (d + 1) 0 (λ e. omega arith)) (getD-set-other (p .number) (p .jobs) i (getD (s .taken) d 0 + 1) 0 (λ e. omega arith))
-      (getD-set-other (p .scan) (p .jobs) i (s .time) 0 (λ e. omega arith)) (getD-set-other (p .start) (p .jobs) i (maxOf (getD (s .free) d 0) (scanned J s d)) 0 (λ e. omega arith))
+      (getD-set-other (p .scan) (p .jobs) i (s .time) 0 (λ e. omega arith)) (getD-set-other (p .start) (p .jobs) i (max (getD (s .free) d 0) (scanned J s d)) 0 (λ e. omega arith))
 
   with-job-last : planJob (withJob J s d p) (p .jobs) ≡ jobOf J s d
   unfolding withJob jobOf
   with-job-last =
       same-job _ _ (getD-set-same (p .desk) (p .jobs) (d + 1) 0 (omega (arith, z .desk))) (getD-set-same (p .number) (p .jobs) (getD (s .taken) d 0 + 1) 0 (omega (arith, z .number)))
-      (getD-set-same (p .scan) (p .jobs) (s .time) 0 (omega (arith, z .scan))) (getD-set-same (p .start) (p .jobs) (maxOf (getD (s .free) d 0) (scanned J s d)) 0 (omega (arith, z .start)))
+      (getD-set-same (p .scan) (p .jobs) (s .time) 0 (omega (arith, z .scan))) (getD-set-same (p .start) (p .jobs) (max (getD (s .free) d 0) (scanned J s d)) 0 (omega (arith, z .start)))
 
   with-job-listed : listed (suc (p .jobs)) (planJob (withJob J s d p)) ≡ listed (p .jobs) (planJob p) ++ (jobOf J s d ∷ [])
   unfolding listed

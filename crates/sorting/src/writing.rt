@@ -35,7 +35,7 @@ fn with_job(jobs: &[u64], s: State, d: usize, p: SortingPlan) -> SortingPlan
     desk[at] = (d as u64) + 1;
     number[at] = (i as u64) + 1;
     scan[at] = s.time;
-    start[at] = interleaving::later(free[d], s.time + jobs[3 + (d * 6 + i)]);
+    start[at] = base::greater(free[d], s.time + jobs[3 + (d * 6 + i)]);
     SortingPlan {
         figure: p.figure,
         jobs: at + 1,

@@ -1,14 +1,14 @@
 -- The first lower bound: the cost so far, and the rest of each desk as if the scanner served that desk alone. A step never lowers it.
 use mathlib.Core.Path.{_≡_, refl, ap, _∙_}
 use mathlib.Core.List.{List}
-use Prim.Native.Nat.{ℕ, zero, suc, _+_, _-_, _*_, _≤_, _<_}
+use Prim.Native.Nat.{ℕ, zero, suc, _+_, _-_, _*_, _≤_, _<_, max}
 use native.Mathlib.Nat.{le-refl, le-trans, mul-le-mul-left, mul-le-mul-right}
 use native.Mathlib.Omega.{arith}
 use lib.ListN.{length, getD}
 use lib.Seq.{getD-set-same, getD-set-other}
 use Rattle.interleaving.specs.declared.State.{State}
 use Rattle.interleaving.specs.Instance.{Instance, desk-capped, scanOf, deskOf, weightOf, instanceLength, timeCap, scannerCap, stripSpan, freeCap}
-use Rattle.interleaving.specs.Search.{maxOf, StripLeft, scanned, finish, stepOf, LowerBound}
+use Rattle.interleaving.specs.Search.{StripLeft, scanned, finish, stepOf, LowerBound}
 use Rattle.interleaving.specs.SearchLaws.{max-left, max-right, max-least, step-left, bound-down}
 use Rattle.interleaving.specs.Consistent.{Consistent, consistent-step}
 
@@ -25,7 +25,7 @@ boundCap = 4_398_046_511_104
 
 -- when strip i of desk d is done, scanned from t on, the desk being free from f on
 abbrev pub finishAlone : List ℕ → ℕ → ℕ → ℕ → ℕ → ℕ
-finishAlone J d i t f = maxOf f (t + scanOf J d i) + deskOf J d i
+finishAlone J d i t f = max f (t + scanOf J d i) + deskOf J d i
 
 -- the weighted sum of the finishing times of k strips of desk d from i on
 unfoldable pub aloneSum : List ℕ → ℕ → ℕ → ℕ → ℕ → ℕ → ℕ
@@ -38,8 +38,8 @@ deskRest J s d = aloneSum J d (getD J d 0 - getD (s .taken) d 0) (getD (s .taken
 unfoldable pub deskBound : List ℕ → State → ℕ
 deskBound J s = s .cost + deskRest J s 0 + deskRest J s 1 + deskRest J s 2
 
-max-mono : (a b c d : ℕ) → a ≤ c → b ≤ d → maxOf a b ≤ maxOf c d
-max-mono a b c d p q = max-least a b (maxOf c d) (le-trans p (max-left c d)) (le-trans q (max-right c d))
+max-mono : (a b c d : ℕ) → a ≤ c → b ≤ d → max a b ≤ max c d
+max-mono a b c d p q = max-least a b (max c d) (le-trans p (max-left c d)) (le-trans q (max-right c d))
 
 alone-mono : (J : List ℕ) (d k i t u f g : ℕ) → t ≤ u → f ≤ g → aloneSum J d k i t f ≤ aloneSum J d k i u g
 unfolding aloneSum
@@ -48,7 +48,7 @@ alone-mono J d (suc k) i t u f g p q =
     let h = max-mono f (t + scanOf J d i) g (u + scanOf J d i) q (omega arith) in
     omega (arith, alone-mono J d k (i + 1) (t + scanOf J d i) (u + scanOf J d i) (finishAlone J d i t f) (finishAlone J d i u g) (omega arith) (omega arith), mul-le-mul-left (weightOf J d i) (more h))
   where
-    more : maxOf f (t + scanOf J d i) ≤ maxOf g (u + scanOf J d i) → finishAlone J d i t f ≤ finishAlone J d i u g
+    more : max f (t + scanOf J d i) ≤ max g (u + scanOf J d i) → finishAlone J d i t f ≤ finishAlone J d i u g
     more w = omega arith
 
 pub alone-one : (J : List ℕ) (d n i t f : ℕ) → i < n → aloneSum J d (n - i) i t f ≡ weightOf J d i * finishAlone J d i t f + aloneSum J d (n - (i + 1)) (i + 1) (t + scanOf J d i) (finishAlone J d i t f)
@@ -134,25 +134,25 @@ module _ (J : List ℕ) (j : Instance J) (z d : ℕ) where
     pub strip-small : (scanOf J d i ≤ timeCap) × (deskOf J d i ≤ timeCap)
     strip-small = (j .small (d * 6 + i), desk-capped j d i)
 
-    pub later-small : maxOf f (t + scanOf J d i) ≤ freeCap + i * stripSpan + timeCap
-    later-small = max-least f (t + scanOf J d i) _ (omega (arith, h .free)) (omega (arith, h .time, strip-small))
+    pub greater-small : max f (t + scanOf J d i) ≤ freeCap + i * stripSpan + timeCap
+    greater-small = max-least f (t + scanOf J d i) _ (omega (arith, h .free)) (omega (arith, h .time, strip-small))
 
-    pub weighted-small : (v : ℕ) → v ≡ maxOf f (t + scanOf J d i) → weightOf J d i * (v + deskOf J d i) ≤ restSpan
-    weighted-small v q = le-trans (mul-le-mul-right (v + deskOf J d i) (j .light (d * 6 + i))) (omega (arith, q, h .six, later-small, strip-small))
+    pub weighted-small : (v : ℕ) → v ≡ max f (t + scanOf J d i) → weightOf J d i * (v + deskOf J d i) ≤ restSpan
+    weighted-small v q = le-trans (mul-le-mul-right (v + deskOf J d i) (j .light (d * 6 + i))) (omega (arith, q, h .six, greater-small, strip-small))
 
-    pub rest-more : (u v : ℕ) → u ≡ t + scanOf J d i → v ≡ maxOf f u → RestSoFar J z d (i + 1) u (v + deskOf J d i) (sum + weightOf J d i * (v + deskOf J d i))
+    pub rest-more : (u v : ℕ) → u ≡ t + scanOf J d i → v ≡ max f u → RestSoFar J z d (i + 1) u (v + deskOf J d i) (sum + weightOf J d i * (v + deskOf J d i))
     rest-more u v e w = record {
       within = omega arith;
       six = h .six;
       size = h .size;
       time = omega (arith, h .time, strip-small);
-      free = omega (arith, q, later-small, strip-small);
+      free = omega (arith, q, greater-small, strip-small);
       sums = omega (arith, h .sums, weighted-small v q);
       is = rw (q, e) (omega (arith, h .is, alone-one J d (getD J d 0) i t f l));
     }
       where
-        q : v ≡ maxOf f (t + scanOf J d i)
-        q = w ∙ ap (maxOf f) e
+        q : v ≡ max f (t + scanOf J d i)
+        q = w ∙ ap (max f) e
 
   pub rest-all : (i t f sum : ℕ) → RestSoFar J z d i t f sum → getD J d 0 ≤ i → sum ≡ z
   rest-all i t f sum h l = omega (arith, h .is, alone-none J d (getD J d 0) i t f l)

@@ -21,7 +21,7 @@ fn desk_rest(jobs: &[u64], s: State, d: usize) -> u64
     while i < n {
         let at = 3 + (d * 6 + i);
         t += jobs[at];
-        f = interleaving::later(f, t) + jobs[at + 18];
+        f = base::greater(f, t) + jobs[at + 18];
         sum += jobs[at + 36] * f;
         i += 1;
     }

@@ -2,7 +2,7 @@
 -- so what a label dominates is bounded by the incumbent. That is the memory's invariant: it is stated by its use.
 use mathlib.Core.Path.{_≡_, sym, ap, subst, _∙_}
 use mathlib.Core.List.{List}
-use Prim.Native.Nat.{ℕ, zero, suc, _+_, _-_, _*_, _≤_, _<_}
+use Prim.Native.Nat.{ℕ, zero, suc, _+_, _-_, _*_, _≤_, _<_, max}
 use native.Mathlib.Nat.{le-trans, mul-le-mul-left}
 use native.Mathlib.Decide.{ℕ-discrete}
 use native.Mathlib.Omega.{arith}
@@ -12,7 +12,7 @@ use Rattle.sheet.specs.Limits.{tableLength}
 use Rattle.interleaving.specs.declared.State.{State}
 use Rattle.interleaving.specs.declared.Incumbent.{Incumbent}
 use Rattle.interleaving.specs.Instance.{Instance, deskOf, weightOf}
-use Rattle.interleaving.specs.Search.{maxOf, scanned, finish, stepOf, searchFrom, LowerBound}
+use Rattle.interleaving.specs.Search.{scanned, finish, stepOf, searchFrom, LowerBound}
 use Rattle.interleaving.specs.SearchLaws.{max-left, max-right, max-least, bound-down, search-bound, search-falls}
 use Rattle.interleaving.specs.Consistent.{Consistent, sum3, scanSum}
 use Rattle.sorting_bounds.specs.Layout.{countKey, labelsLength, key-digits}
@@ -30,7 +30,7 @@ pub record Dominates (s z : State) : Type 0 where
 module _ (J : List ℕ) where
   finish-mono : (s z : State) (d : ℕ) → Dominates s z → finish J s d ≤ finish J z d
   finish-mono s z d m =
-      omega (arith, max-least (getD (s .free) d 0) (scanned J s d) (maxOf (getD (z .free) d 0) (scanned J z d)) (le-trans (m .free d) (max-left _ _)) (rw same (max-right _ _)), works)
+      omega (arith, max-least (getD (s .free) d 0) (scanned J s d) (max (getD (z .free) d 0) (scanned J z d)) (le-trans (m .free d) (max-left _ _)) (rw same (max-right _ _)), works)
     where
       same : scanned J s d ≡ scanned J z d
       same = rw (m .time, m .taken)

@@ -2,7 +2,7 @@
 use mathlib.Core.Path.{_≡_, refl, sym, ap, subst, _∙_}
 use mathlib.Core.Bool.{Bool, true, false, cond}
 use mathlib.Core.List.{List}
-use Prim.Native.Nat.{ℕ, zero, suc, _-_, _≤_, _<_}
+use Prim.Native.Nat.{ℕ, zero, suc, _-_, _≤_, _<_, max}
 use native.Mathlib.Decide.{decLt}
 use native.Mathlib.Omega.{arith}
 use lib.ListN.{length, getD}
@@ -11,7 +11,7 @@ use borrow.Author.Tests.{ltb-true, lt-ltb, le-ltb}
 use Rattle.sheet.specs.Limits.{tableLength}
 use Rattle.interleaving.specs.declared.State.{State}
 use Rattle.interleaving.specs.Instance.{Instance, costCap}
-use Rattle.interleaving.specs.Search.{maxOf, StripLeft, stepOf, Completes}
+use Rattle.interleaving.specs.Search.{StripLeft, stepOf, Completes}
 use Rattle.interleaving.specs.SearchLaws.{step-left}
 use Rattle.interleaving.specs.Caps.{CanServe}
 use Rattle.interleaving.specs.Consistent.{Consistent, consistent-step}
@@ -20,7 +20,7 @@ use Rattle.sorting_bounds.specs.ScannerBound.{EntriesFrom, scannerBound}
 
 -- the greater of the two lower bounds of s
 unfoldable pub boundOf : List ℕ → List ℕ → State → ℕ
-boundOf J M s = maxOf (scannerBound M s) (deskBound J s)
+boundOf J M s = max (scannerBound M s) (deskBound J s)
 
 -- the first desk that has a strip left; the third where neither of the first two has one
 unfoldable pub firstDesk : List ℕ → State → ℕ

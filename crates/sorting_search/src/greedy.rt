@@ -27,7 +27,7 @@ fn lower_bound(jobs: &[u64], s: State, m: &[u64]) -> u64
     let k = sorting_labels::count_key(jobs, s);
     let by_scanner = sorting_bounds::scanner_bound::scanner_bound(jobs, s, k, m);
     let by_desks = sorting_bounds::desk_bound::desk_bound(jobs, s);
-    interleaving::later(by_scanner, by_desks)
+    base::greater(by_scanner, by_desks)
 }
 
 // The one of two desks whose step has the smaller lower bound, the chosen one where they are equal.

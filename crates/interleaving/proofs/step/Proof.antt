@@ -1,6 +1,6 @@
 -- `interleaving::step` meets its contract. What the strip's sums come to is known from `can-serve-capped`, so that none wraps;
 -- the new state is the definition's.
-use Rattle.interleaving.specs.Caps.{can-serve-capped, later-capped, weighted-capped}
+use Rattle.interleaving.specs.Caps.{can-serve-capped, greater-capped, weighted-capped}
 use Rattle.interleaving.specs.SearchLaws.{step-is}
 use native.Mathlib.Omega.{arith}
 use borrow.Author.Needs.{needs}
@@ -31,14 +31,14 @@ shared-slice-read-scanned c = let h = can-serve-capped (c .before .before .befor
 add-scanned : tie.Need-add-scanned
 add-scanned c = let h = can-serve-capped (c .before .before .before .before .before .pre) in omega arith
 
-mul-later : tie.Need-mul-later
-mul-later c = search needs
+mul-greater : tie.Need-mul-greater
+mul-greater c = search needs
 
-array-read-later : tie.Need-array-read-later
-array-read-later c = search needs
+array-read-greater : tie.Need-array-read-greater
+array-read-greater c = search needs
 
-later-requires : tie.Need-later-requires
-later-requires c κs = search needs
+greater-requires : tie.Need-greater-requires
+greater-requires c κs = search needs
 
 add-done : tie.Need-add-done
 add-done c = let h = can-serve-capped (c .before .before .before .before .before .before .pre) in omega arith
@@ -50,7 +50,7 @@ shared-slice-read-done : tie.Need-shared-slice-read-done
 shared-slice-read-done c = let h = can-serve-capped (c .before .before .before .before .before .before .before .pre) in omega arith
 
 add-done-2 : tie.Need-add-done-2
-add-done-2 c = let h = can-serve-capped (c .before .before .before .before .before .before .before .pre) in let k = later-capped _ _ _ (c .before .later .ensures) (omega arith) (omega arith) in omega arith
+add-done-2 c = let h = can-serve-capped (c .before .before .before .before .before .before .before .pre) in let k = greater-capped _ _ _ (c .before .greater .ensures) (omega arith) (omega arith) in omega arith
 
 mul-free : tie.Need-mul-free
 mul-free c = search needs
@@ -80,10 +80,10 @@ shared-slice-read-t15 : tie.Need-shared-slice-read-t15
 shared-slice-read-t15 c = let h = can-serve-capped (c .before .before .before .before .before .before .before .before .before .pre) in omega arith
 
 mul-t18 : tie.Need-mul-t18
-mul-t18 c = let h = can-serve-capped (c .before .before .before .before .before .before .before .before .before .pre) in let k = weighted-capped h _ (later-capped _ _ _ (c .before .before .before .later .ensures) (omega arith) (omega arith)) in omega arith
+mul-t18 c = let h = can-serve-capped (c .before .before .before .before .before .before .before .before .before .pre) in let k = weighted-capped h _ (greater-capped _ _ _ (c .before .before .before .greater .ensures) (omega arith) (omega arith)) in omega arith
 
 add-t21 : tie.Need-add-t21
-add-t21 c = let h = can-serve-capped (c .before .before .before .before .before .before .before .before .before .before .pre) in let k = weighted-capped h _ (later-capped _ _ _ (c .before .before .before .before .later .ensures) (omega arith) (omega arith)) in omega arith
+add-t21 c = let h = can-serve-capped (c .before .before .before .before .before .before .before .before .before .before .pre) in let k = weighted-capped h _ (greater-capped _ _ _ (c .before .before .before .before .greater .ensures) (omega arith) (omega arith)) in omega arith
 
 mul-t27 : tie.Need-mul-t27
 mul-t27 c = let h = can-serve-capped (c .before .before .before .before .before .before .before .before .before .before .before .pre) in omega arith
@@ -95,7 +95,7 @@ add-t30 : tie.Need-add-t30
 add-t30 c = let h = can-serve-capped (c .before .before .before .before .before .before .before .before .before .before .before .pre) in omega arith
 
 returns : tie.Need-returns
-returns c = let h = can-serve-capped (c .before .before .before .before .before .before .before .before .before .before .before .pre) in step-is _ _ _ _ (c .before .before .before .before .before .later .ensures)
+returns c = let h = can-serve-capped (c .before .before .before .before .before .before .before .before .before .before .before .pre) in step-is _ _ _ _ (c .before .before .before .before .before .greater .ensures)
 
 pub step-spec : {M : Type 1} → statement M
 step-spec =
@@ -109,9 +109,9 @@ step-spec =
     mul-scanned
     shared-slice-read-scanned
     add-scanned
-    mul-later
-    array-read-later
-    later-requires
+    mul-greater
+    array-read-greater
+    greater-requires
     add-done
     mul-done
     shared-slice-read-done

@@ -1,5 +1,5 @@
 -- `pick_part` meets its contract: each way through its tests is one through the definition.
-use Rattle.field.specs.Branch.{branches}
+use Rattle.base.specs.Branch.{branches}
 use Rattle.judge.specs.Judged.{pickPart}
 use Rattle.judge.proofs.pick_part.Statement.{statement}
 use Rattle.judge.proofs.pick_part.Tie as tie

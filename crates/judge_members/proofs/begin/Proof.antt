@@ -1,7 +1,7 @@
 -- `begin` meets its contract: it is the definition, field by field.
 use mathlib.Core.Path.{refl}
 use Rattle.rules.specs.Mosaic.{noBatch}
-use Rattle.rules.specs.Running.{freeDesks}
+use Rattle.running.specs.Running.{freeDesks}
 use Rattle.judge_members.specs.Members.{begun}
 use Rattle.judge_members.proofs.begin.Statement.{statement}
 use Rattle.judge_members.proofs.begin.Tie as tie

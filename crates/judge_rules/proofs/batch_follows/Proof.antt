@@ -1,5 +1,5 @@
--- `batch_follows` meets its contract: a batch that rises has a ready time and bench times to compare with; one that does not is refused first.
-use Rattle.judge_rules.specs.Laws.{batch-wrong, batch-ready, batch-rises, batch-bench, batch-right}
+-- `batch_follows` meets its contract: a batch that rises has a ready time and a finish to compare with; one that does not is refused first.
+use Rattle.judge_rules.specs.Laws.{batch-wrong, batch-ready, batch-due, batch-right}
 use borrow.Author.Needs.{needs}
 use Rattle.judge_rules.proofs.batch_follows.Statement.{statement}
 use Rattle.judge_rules.proofs.batch_follows.Tie as tie
@@ -13,17 +13,8 @@ returns c = search batch-wrong
 ready-time-requires : tie.Need-ready-time-requires
 ready-time-requires c κs = search batch-ready
 
-add-due : tie.Need-add-due
-add-due c = search needs
-
-sub-bench-sum : tie.Need-sub-bench-sum
-sub-bench-sum c = search batch-rises
-
-bench-sum-requires : tie.Need-bench-sum-requires
-bench-sum-requires c κs = search batch-bench
-
-add-due-2 : tie.Need-add-due-2
-add-due-2 c = search needs
+finish-due-requires : tie.Need-finish-due-requires
+finish-due-requires c κs = search batch-due
 
 batch-in-time-requires : tie.Need-batch-in-time-requires
 batch-in-time-requires c κs = search needs
@@ -32,15 +23,4 @@ returns-2 : tie.Need-returns-2
 returns-2 c = search batch-right
 
 pub batch-follows-spec : {M : Type 1} → statement M
-batch-follows-spec =
-    tie.close
-    (tie.spec
-    batch-in-run-requires
-    returns
-    ready-time-requires
-    add-due
-    sub-bench-sum
-    bench-sum-requires
-    add-due-2
-    batch-in-time-requires
-    returns-2)
+batch-follows-spec = tie.close (tie.spec batch-in-run-requires returns ready-time-requires finish-due-requires batch-in-time-requires returns-2)

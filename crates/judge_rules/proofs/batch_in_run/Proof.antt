@@ -1,5 +1,5 @@
 -- `batch_in_run` meets its contract: each way through its tests is one through the definition.
-use Rattle.field.specs.Branch.{branches}
+use Rattle.base.specs.Branch.{branches}
 use Rattle.judge_rules.specs.Follows.{batchInRun}
 use Rattle.judge_rules.proofs.batch_in_run.Statement.{statement}
 use Rattle.judge_rules.proofs.batch_in_run.Tie as tie

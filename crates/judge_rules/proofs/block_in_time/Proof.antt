@@ -4,7 +4,7 @@ use Prim.Native.Nat.{ℕ}
 use lib.Dec.{leb}
 use borrow.Author.Tests.{eq-eqb}
 use Rattle.sheet.specs.Limits.{ceiling}
-use Rattle.field.specs.Branch.{branches}
+use Rattle.base.specs.Branch.{branches}
 use Rattle.judge_rules.specs.Follows.{blockInTime}
 use Rattle.judge_rules.proofs.block_in_time.Statement.{statement}
 use Rattle.judge_rules.proofs.block_in_time.Tie as tie

@@ -3,7 +3,7 @@ use mathlib.Core.Path.{_≡_}
 use mathlib.Core.Bool.{Bool, false}
 use Prim.Native.Nat.{ℕ, _≤_, _<_}
 use borrow.Author.Tests.{le-leb, lt-leb}
-use Rattle.field.specs.Branch.{branches}
+use Rattle.base.specs.Branch.{branches}
 use Rattle.judge_rules.specs.Follows.{jobInTime}
 use Rattle.judge_rules.proofs.job_in_time.Statement.{statement}
 use Rattle.judge_rules.proofs.job_in_time.Tie as tie

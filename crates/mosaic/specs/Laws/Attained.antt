@@ -11,13 +11,14 @@ use Rattle.sheet.specs.Sound.{MosaicSound}
 use Rattle.sheet.specs.declared.MosaicSection.{MosaicSection}
 use Rattle.rules.specs.declared.Batch.{Batch}
 use Rattle.rules.specs.Mosaic.{ready}
-use Rattle.rules.specs.Running.{BatchFollows, MosaicRuns, none, more}
+use Rattle.running.specs.Running.{BatchFollows, MosaicRuns, none, more}
 use Rattle.rules_laws.specs.MosaicRunning.{runningFigure}
 use Rattle.batching.specs.Least.{mountStart, benchStart, finishOf}
 use Rattle.mosaic.specs.Least.{instanceOf}
 use Rattle.batching.specs.Chosen.{batchOf}
 use Rattle.batching.specs.Index.{leastAt, openAt, closedAt, chosenAt, chosenOpenAt}
 use Rattle.batching.specs.Recursion.{least-end, least-one, least-open, open-last, open-more, chosen-end, chosen-open, chosen-last, chosen-close, chosen-extend}
+use Rattle.mosaic.specs.Laws.Finish.{earliest-lawful}
 use Rattle.mosaic.specs.Laws.Rules.{weight-count, bench-most, ready-most}
 
 -- each mount starts when the bench is free and the batch's last strip is ready
@@ -68,13 +69,9 @@ module _ {m : MosaicSection} (S : MosaicSound m) where
       finishes = (omega (arith, finish-most), A .finishes);
     } where
       follows : (p : Batch) → p .last ≡ i → p .finish ≡ free → BatchFollows m p (batchOf (instanceOf m) free i q)
-      follows p e f = unfold batchOf instanceOf finishOf benchStart mountStart in record {
-        rises = omega arith;
+      follows p e f = unfold batchOf in record {
+        lawful = earliest-lawful m i q free h (omega (arith, finish-most, S .most-strips)) p e f;
         known = k;
-        waits-strip = omega arith;
-        waits-batch = omega arith;
-        finishes = rw e refl;
-        within = omega (arith, finish-most, S .most-strips);
       }
 
     -- to close the open batch at strip q

@@ -7,12 +7,13 @@ use native.Mathlib.Decide.{decLt}
 use native.Mathlib.Omega.{arith}
 use Rattle.sheet.specs.declared.MosaicSection.{MosaicSection}
 use Rattle.rules.specs.declared.Batch.{Batch}
-use Rattle.rules.specs.Running.{BatchFollows, MosaicRuns, none, more}
+use Rattle.running.specs.Running.{BatchFollows, MosaicRuns, none, more}
 use Rattle.rules_laws.specs.MosaicRunning.{runningFigure}
-use Rattle.batching.specs.Least.{Instance, mountStart, benchStart, finishOf}
+use Rattle.batching.specs.Least.{Instance, benchStart, finishOf}
 use Rattle.mosaic.specs.Least.{instanceOf}
 use Rattle.batching.specs.Index.{leastAt, openAt, closedAt}
 use Rattle.batching.specs.Recursion.{least-mono, least-end, least-open, open-last, open-more}
+use Rattle.mosaic.specs.Laws.Finish.{finish-least}
 use Rattle.mosaic.specs.Laws.Rules.{weight-count}
 
 -- to close the open batch at strip q, or d strips further on, is a choice; F is a finish that is no earlier
@@ -43,10 +44,9 @@ module _ (x : Instance) where
 module _ (m : MosaicSection) where
   batch-cost : (p b : Batch) → BatchFollows m p b
       → leastAt (instanceOf m) (p .last) (p .finish) ≤ (b .last - p .last) * b .finish + leastAt (instanceOf m) (b .last) (b .finish)
-  unfolding instanceOf finishOf benchStart mountStart
+  unfolding instanceOf
   batch-cost p b B =
-      let c = close-at (instanceOf m) (p .last) (b .last) (p .finish) (b .finish) (B .rises) (B .known)
-      (omega (arith, B .waits-strip, B .waits-batch, B .finishes)) in
+      let c = close-at (instanceOf m) (p .last) (b .last) (p .finish) (b .finish) (B .lawful .rises) (B .known) (finish-least m p b (B .lawful)) in
       rw (weight-count m (p .last) (b .last - p .last)) at c
 
   pub lower-after : (bs : List Batch) (p : Batch) → MosaicRuns m p bs → leastAt (instanceOf m) (p .last) (p .finish) ≤ runningFigure p bs

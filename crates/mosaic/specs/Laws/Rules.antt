@@ -9,7 +9,7 @@ use Rattle.sheet.specs.Sound.{MosaicSound}
 use Rattle.sheet.specs.declared.MosaicSection.{MosaicSection}
 use Rattle.rules.specs.Mosaic.{stationSum, ready, benchSum}
 use Rattle.mosaic.specs.Least.{weightOf, weightSum}
-use Rattle.rules_laws.specs.Sums.{sum-split, sum-same, sum-const, sum-most, greatest-most}
+use Rattle.base.specs.SumLaws.{sum-split, sum-same, sum-const, sum-most, greatest-most}
 
 pub bench-split : (m : MosaicSection) (i a c : ℕ) → benchSum m i (a + c) ≡ benchSum m i a + benchSum m (i + a) c
 unfolding benchSum

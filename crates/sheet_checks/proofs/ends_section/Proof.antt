@@ -2,7 +2,7 @@
 use mathlib.Core.Path.{_≡_}
 use mathlib.Core.Bool.{true}
 use Prim.Native.Nat.{ℕ}
-use Rattle.field.specs.Branch.{branches}
+use Rattle.base.specs.Branch.{branches}
 use Rattle.sheet.specs.Tags.{flightHeadTag}
 use Rattle.sheet.specs.Checks.{endsSection}
 use Rattle.sheet_checks.proofs.ends_section.Statement.{statement}

@@ -2,7 +2,7 @@
 use mathlib.Core.Path.{_≡_}
 use Prim.Native.Nat.{ℕ}
 use lib.Dec.{leb}
-use Rattle.field.specs.Branch.{branches}
+use Rattle.base.specs.Branch.{branches}
 use Rattle.sheet.specs.Limits.{mostBlocksWithoutOrder}
 use Rattle.sheet.specs.Sections.{inFlight}
 use Rattle.sheet.specs.Checks.{fewBlocks}

@@ -2,7 +2,7 @@
 use mathlib.Core.Path.{_≡_}
 use Prim.Native.Nat.{ℕ}
 use lib.Dec.{ltb}
-use Rattle.field.specs.Branch.{branches}
+use Rattle.base.specs.Branch.{branches}
 use Rattle.sheet.specs.Limits.{mostStrips}
 use Rattle.sheet.specs.Tags.{mosaicStripTag}
 use Rattle.sheet.specs.Checks.{hasRoom}

@@ -1,5 +1,5 @@
 -- `length_due` meets its contract: each way through its tests is one through the definition.
-use Rattle.field.specs.Branch.{branches}
+use Rattle.base.specs.Branch.{branches}
 use Rattle.sheet.specs.FieldTable.{lengthDue}
 use borrow.Author.Needs.{needs}
 use Rattle.sheet_checks.proofs.length_due.Statement.{statement}

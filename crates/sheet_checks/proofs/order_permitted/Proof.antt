@@ -1,5 +1,5 @@
 -- `order_permitted` meets its contract: each way through its tests is one through the definition.
-use Rattle.field.specs.Branch.{branches}
+use Rattle.base.specs.Branch.{branches}
 use Rattle.sheet.specs.Checks.{orderPermitted}
 use Rattle.sheet_checks.proofs.order_permitted.Statement.{statement}
 use Rattle.sheet_checks.proofs.order_permitted.Tie as tie

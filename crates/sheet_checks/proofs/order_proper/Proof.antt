@@ -1,5 +1,5 @@
 -- `order_proper` meets its contract: each way through its tests is one through the definition.
-use Rattle.field.specs.Branch.{flags}
+use Rattle.base.specs.Branch.{flags}
 use Rattle.sheet.specs.Checks.{orderProper}
 use borrow.Author.Needs.{needs}
 use Rattle.sheet_checks.proofs.order_proper.Statement.{statement}

@@ -1,7 +1,7 @@
 -- `place_of` meets its contract: each way through its tests is one through the definition.
 use mathlib.Core.Path.{_≡_}
 use Prim.Native.Nat.{ℕ}
-use Rattle.field.specs.Branch.{branches}
+use Rattle.base.specs.Branch.{branches}
 use Rattle.sheet.specs.Refusals.{orderMissing}
 use Rattle.sheet.specs.Read.{placeOf}
 use Rattle.sheet_checks.proofs.place_of.Statement.{statement}

@@ -1,5 +1,5 @@
 -- `next_flight` meets its contract: one case a tag; there is room for another block.
-use Rattle.field.specs.Branch.{branches}
+use Rattle.base.specs.Branch.{branches}
 use Rattle.sheet.specs.Decode.{nextFlight}
 use Rattle.sheet_decode.specs.Pre.{block-pre}
 use borrow.Author.Needs.{needs}

@@ -2,7 +2,7 @@
 use mathlib.Core.Path.{_≡_}
 use mathlib.Core.Bool.{Bool, true}
 use Prim.Native.Nat.{ℕ}
-use Rattle.field.specs.Branch.{flags}
+use Rattle.base.specs.Branch.{flags}
 use Rattle.sheet.specs.Checks.{endsSection}
 use Rattle.sheet.specs.Decode.{nextHead}
 use borrow.Author.Needs.{needs}

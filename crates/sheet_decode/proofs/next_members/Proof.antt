@@ -1,5 +1,5 @@
 -- `next_members` meets its contract: each way through its tests is one through the definition.
-use Rattle.field.specs.Branch.{flags}
+use Rattle.base.specs.Branch.{flags}
 use Rattle.sheet.specs.Decode.{nextMembers}
 use borrow.Author.Needs.{needs}
 use Rattle.sheet_decode.proofs.next_members.Statement.{statement}

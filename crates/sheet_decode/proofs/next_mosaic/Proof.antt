@@ -1,5 +1,5 @@
 -- `next_mosaic` meets its contract: one case a tag; there is room for another strip.
-use Rattle.field.specs.Branch.{branches}
+use Rattle.base.specs.Branch.{branches}
 use Rattle.sheet.specs.Decode.{nextMosaic}
 use Rattle.sheet_decode.specs.Pre.{strip-pre}
 use borrow.Author.Needs.{needs}

@@ -1,5 +1,5 @@
 -- `next_section` meets its contract: each way through its tests is one through the definition.
-use Rattle.field.specs.Branch.{branches}
+use Rattle.base.specs.Branch.{branches}
 use Rattle.sheet.specs.Decode.{nextSection}
 use Rattle.sheet_decode.proofs.next_section.Statement.{statement}
 use Rattle.sheet_decode.proofs.next_section.Tie as tie

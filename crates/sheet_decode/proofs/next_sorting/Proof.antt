@@ -1,5 +1,5 @@
 -- `next_sorting` meets its contract: one case a tag; there is room for another strip at its desk.
-use Rattle.field.specs.Branch.{branches}
+use Rattle.base.specs.Branch.{branches}
 use Rattle.sheet.specs.Decode.{nextSorting}
 use Rattle.sheet_decode.specs.Pre.{desk-pre}
 use Rattle.sheet_decode.specs.DecodeLaws.{sorting-strip-is}

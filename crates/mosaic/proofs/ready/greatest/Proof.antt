@@ -3,7 +3,7 @@ use Rattle.mosaic.proofs.TimeLaws.{greatest-four}
 use mathlib.Core.Path.{_≡_}
 use mathlib.Core.Path.{refl}
 use native.Mathlib.Omega.{arith}
-use Rattle.rules.specs.Sums.{greatestOver}
+use Rattle.base.specs.Sums.{greatestOver}
 use borrow.Author.Needs.{needs}
 use Rattle.mosaic.proofs.ready.greatest.Statement.{statement}
 use Rattle.mosaic.proofs.ready.greatest.Tie as tie

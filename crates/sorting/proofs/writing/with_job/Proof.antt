@@ -35,32 +35,32 @@ mul-scan c = search needs
 array-write-scan : tie.Need-array-write-scan
 array-write-scan c = search needs
 
-mul-later : tie.Need-mul-later
-mul-later c = search needs
+mul-greater : tie.Need-mul-greater
+mul-greater c = search needs
 
-array-read-later : tie.Need-array-read-later
-array-read-later c = search needs
+array-read-greater : tie.Need-array-read-greater
+array-read-greater c = search needs
 
-mul-later-2 : tie.Need-mul-later-2
-mul-later-2 c = search needs
+mul-greater-2 : tie.Need-mul-greater-2
+mul-greater-2 c = search needs
 
-add-later : tie.Need-add-later
-add-later c = omega arith
+add-greater : tie.Need-add-greater
+add-greater c = omega arith
 
-add-later-2 : tie.Need-add-later-2
-add-later-2 c = omega arith
+add-greater-2 : tie.Need-add-greater-2
+add-greater-2 c = omega arith
 
-mul-later-3 : tie.Need-mul-later-3
-mul-later-3 c = omega arith
+mul-greater-3 : tie.Need-mul-greater-3
+mul-greater-3 c = omega arith
 
-shared-slice-read-later : tie.Need-shared-slice-read-later
-shared-slice-read-later c = omega arith
+shared-slice-read-greater : tie.Need-shared-slice-read-greater
+shared-slice-read-greater c = omega arith
 
-add-later-3 : tie.Need-add-later-3
-add-later-3 c = omega arith
+add-greater-3 : tie.Need-add-greater-3
+add-greater-3 c = omega arith
 
-later-requires : tie.Need-later-requires
-later-requires c κs = search needs
+greater-requires : tie.Need-greater-requires
+greater-requires c κs = search needs
 
 mul-start : tie.Need-mul-start
 mul-start c = search needs
@@ -88,15 +88,15 @@ with-job-spec =
     array-write-number
     mul-scan
     array-write-scan
-    mul-later
-    array-read-later
-    mul-later-2
-    add-later
-    add-later-2
-    mul-later-3
-    shared-slice-read-later
-    add-later-3
-    later-requires
+    mul-greater
+    array-read-greater
+    mul-greater-2
+    add-greater
+    add-greater-2
+    mul-greater-3
+    shared-slice-read-greater
+    add-greater-3
+    greater-requires
     mul-start
     array-write-start
     add-t16

@@ -13,8 +13,8 @@ scanner-bound-requires c κs = search needs
 desk-bound-requires : tie.Need-desk-bound-requires
 desk-bound-requires c κs = search needs
 
-later-requires : tie.Need-later-requires
-later-requires c κs = search needs
+greater-requires : tie.Need-greater-requires
+greater-requires c κs = search needs
 
 returns : tie.Need-returns
 unfolding boundOf
@@ -23,4 +23,4 @@ returns c = cc
 pub lower-bound-spec : {M : Type 1} → statement M
 lower-bound-spec =
     tie.close
-    (tie.spec count-key-requires scanner-bound-requires desk-bound-requires later-requires returns)
+    (tie.spec count-key-requires scanner-bound-requires desk-bound-requires greater-requires returns)

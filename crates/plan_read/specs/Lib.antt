@@ -1,0 +1,2 @@
+-- The members of a plan, read from its bytes.
+pub mod PlanRead

@@ -1,0 +1,3 @@
+-- The rules as tests, and samples that they decide.
+pub mod Tests
+pub mod Samples

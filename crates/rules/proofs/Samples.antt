@@ -1,0 +1,188 @@
+-- A test of the rules by samples: timetables with idle time that are lawful, with their figures, and timetables that a rule refuses, one for each rule.
+-- Each is tested by computing, and a test that holds says the sample in the words of the rules (tested). The sheets that 01 works through are crate worked_sheets.
+use Prim.{Unit, tt}
+use Prim.Native.Nat.{ℕ, _-_}
+use mathlib.Core.Path.{_≡_, refl, sym}
+use mathlib.Core.Bool.{Bool, true, false, not, _&&_, true≢false}
+use mathlib.Core.List.{List, [], _∷_, _++_}
+use lib.ListN.{length, replicate}
+use lib.Dec.{eqb}
+use borrow.Author.Tests.{eqb-true}
+use Rattle.base.specs.Branch.{both}
+use Rattle.order.specs.Order.{seconds, firsts, neverMoreSeconds, isProper, Decides}
+use Rattle.sheet.specs.declared.MosaicSection.{MosaicSection}
+use Rattle.sheet.specs.declared.SortingSection.{SortingSection}
+use Rattle.sheet.specs.declared.FlightSection.{FlightSection}
+use Rattle.base.specs.Sums.{sumOver, greatestOver}
+use Rattle.rules.specs.Mosaic.{stationSum, ready, benchSum, noBatch, batchAt, batchBefore, finishDue, MosaicLawful, completion, mosaicFigure}
+use Rattle.rules.specs.Sorting.{stripsOf, slot, scanTime, deskTime, scanEnd, deskFinish, noJob, jobAt, jobsOf, SortingLawful, sortingFigure}
+use Rattle.rules.specs.Flight.{noPasses, passesAt, passStart, passTime, passEnd, secondDue, clearAt, FlightLawful, passAt, Keeps, OrderAllowed, flightFigure}
+use Rattle.rules.proofs.Tests.{allBelow, batchTest, batchesTest, isMosaic, mosaic-decided, jobTest, turnTest, jobsTest, isSorting, sorting-decided, blockTest, clearTest, apartTest, isFlight, flight-decided, startTest, keepsOrder, keeps-decided, mayHaveOrder, order-decided}
+use Rattle.rules.specs.declared.Batch.{Batch}
+use Rattle.rules.specs.declared.Job.{Job}
+use Rattle.rules.specs.declared.Passes.{Passes}
+
+-- a section with a timetable, in flight with an order number
+pub data Timetable : Type 0 where
+  ofMosaic : MosaicSection → List Batch → Timetable
+  ofSorting : SortingSection → List Job → Timetable
+  ofFlight : FlightSection → ℕ → List Passes → Timetable
+
+unfoldable pub Lawful : Timetable → Type 0
+Lawful (ofMosaic m bs) = MosaicLawful m bs
+Lawful (ofSorting s js) = SortingLawful s js
+Lawful (ofFlight f order ps) = FlightLawful f ps × Keeps f order ps × OrderAllowed f order
+
+unfoldable pub figureOf : Timetable → ℕ
+figureOf (ofMosaic m bs) = mosaicFigure m bs
+figureOf (ofSorting s js) = sortingFigure s js
+figureOf (ofFlight f order ps) = flightFigure f ps
+
+unfoldable pub isLawful : Timetable → Bool
+isLawful (ofMosaic m bs) = isMosaic m bs
+isLawful (ofSorting s js) = isSorting s js
+isLawful (ofFlight f order ps) = isFlight f ps && (keepsOrder f order ps && mayHaveOrder f order)
+
+all-three : {P Q R : Type 0} {p q r : Bool} → Decides P p → Decides Q q → Decides R r → Decides (P × Q × R) (p && (q && r))
+all-three {p = true} {q = true} {r = true} a b c = record { holds = λ e. (a .holds refl, b .holds refl, c .holds refl); fails = λ e w. absurd (true≢false e) }
+all-three {p = true} {q = true} {r = false} a b c = record { holds = λ e. absurd (true≢false (sym e)); fails = λ e w. c .fails refl (w .2) }
+all-three {p = true} {q = false} {r} a b c = record { holds = λ e. absurd (true≢false (sym e)); fails = λ e w. b .fails refl (w .1) }
+all-three {p = false} {q} {r} a b c = record { holds = λ e. absurd (true≢false (sym e)); fails = λ e w. a .fails refl (w .0) }
+
+pub lawful-decided : (t : Timetable) → Decides (Lawful t) (isLawful t)
+unfolding Lawful isLawful
+lawful-decided (ofMosaic m bs) = mosaic-decided m bs
+lawful-decided (ofSorting s js) = sorting-decided s js
+lawful-decided (ofFlight f order ps) = all-three (flight-decided f ps) (keeps-decided f ps order) (order-decided f order)
+
+-- a sample: lawful with a figure, or refused
+pub data Outcome : Type 0 where
+  lawful : ℕ → Outcome
+  refused : Outcome
+
+pub record Sample : Type 0 where
+  pub timetable : Timetable
+  pub outcome : Outcome
+
+-- what a sample says
+unfoldable pub Says : Timetable → Outcome → Type 0
+Says t (lawful figure) = Lawful t × (figureOf t ≡ figure)
+Says t refused = Lawful t → ⊥
+
+-- its test
+unfoldable pub test : Timetable → Outcome → Bool
+test t (lawful figure) = isLawful t && eqb (figureOf t) figure
+test t refused = not (isLawful t)
+
+none : (a : Bool) → not a ≡ true → a ≡ false
+none true e = absurd (true≢false (sym e))
+none false e = refl
+
+-- a test that holds says its sample
+pub tested : (t : Timetable) (o : Outcome) → test t o ≡ true → Says t o
+unfolding Says test
+tested t (lawful figure) e =
+    let w = both (isLawful t) (eqb (figureOf t) figure) e in
+    (lawful-decided t .holds (w .0), eqb-true _ _ (w .1))
+tested t refused e = lawful-decided t .fails (none (isLawful t) e)
+
+-- two stations, mount time 1, strips (2,1;1) (1,3;3) (4,2;2) (1,3;1), ready at 2, 4, 7, 9
+abbrev fourStrips : MosaicSection
+fourStrips = record {
+  stations = 2;
+  mount = 1;
+  strips = 4;
+  station = 2 ∷ 1 ∷ 0 ∷ 0 ∷ 1 ∷ 3 ∷ 0 ∷ 0 ∷ 4 ∷ 2 ∷ 0 ∷ 0 ∷ 1 ∷ 3 ∷ 0 ∷ 0 ∷ [] ++ replicate 144 0;
+  bench = 1 ∷ 3 ∷ 2 ∷ 1 ∷ [] ++ replicate 36 0;
+}
+
+abbrev batch : ℕ → ℕ → ℕ → Batch
+batch last start finish = record { last = last; start = start; finish = finish }
+
+-- two desks with one strip each: its scan time and its desk time
+abbrev twoDesks : ℕ → ℕ → ℕ → ℕ → SortingSection
+twoDesks scan desk scan₂ desk₂ = record {
+  desks = 2;
+  counts = 1 ∷ 1 ∷ 0 ∷ [];
+  scan = scan ∷ 0 ∷ 0 ∷ 0 ∷ 0 ∷ 0 ∷ scan₂ ∷ [] ++ replicate 11 0;
+  desk = desk ∷ 0 ∷ 0 ∷ 0 ∷ 0 ∷ 0 ∷ desk₂ ∷ [] ++ replicate 11 0;
+}
+
+-- the only strip of a desk, with its scan start and its desk start
+abbrev strip : ℕ → ℕ → ℕ → Job
+strip desk scan start = record { desk = desk; number = 1; scan = scan; start = start }
+
+-- blocks: their first passes, delays and second passes
+abbrev blocksOf : Bool → ℕ → List ℕ → List ℕ → List ℕ → FlightSection
+blocksOf ordered order first delay second = record {
+  blocks = length first;
+  first = first ++ replicate (32 - length first) 0;
+  delay = delay ++ replicate (32 - length delay) 0;
+  second = second ++ replicate (32 - length second) 0;
+  ordered = ordered;
+  order = order;
+  place = 0;
+}
+
+abbrev starts : ℕ → ℕ → Passes
+starts first second = record { first = first; second = second }
+
+abbrev row : Timetable → Outcome → Sample
+row t o = record { timetable = t; outcome = o }
+
+unfoldable pub samples : List Sample
+samples =
+    -- batches 1, 2-3, 4, the first two mounted later than they could be
+    row (ofMosaic fourStrips (batch 1 3 5 ∷ batch 3 8 14 ∷ batch 4 14 16 ∷ [])) (lawful 49)
+    -- a mount that waits only for the first strip of batch 2-3, ready at 4
+    ∷ row (ofMosaic fourStrips (batch 1 2 4 ∷ batch 3 4 10 ∷ batch 4 10 12 ∷ [])) refused
+    -- a mount before the batch before has finished
+    ∷ row (ofMosaic fourStrips (batch 1 3 5 ∷ batch 2 4 8 ∷ batch 4 9 13 ∷ [])) refused
+    -- a strip that no batch has
+    ∷ row (ofMosaic fourStrips (batch 1 2 4 ∷ batch 2 4 8 ∷ batch 3 8 11 ∷ [])) refused
+    -- a finish later than the mount and the bench times make it
+    ∷ row (ofMosaic fourStrips (batch 1 2 4 ∷ batch 2 4 9 ∷ batch 4 9 13 ∷ [])) refused
+    -- a scanner that begins late, and a desk that waits
+    ∷ row (ofSorting (twoDesks 2 5 1 1) (strip 1 1 4 ∷ strip 2 3 9 ∷ [])) (lawful 19)
+    -- a desk job before its scan has ended, two scans at once, and a strip without its job
+    ∷ row (ofSorting (twoDesks 2 5 1 1) (strip 1 0 1 ∷ strip 2 2 3 ∷ [])) refused
+    ∷ row (ofSorting (twoDesks 2 5 1 1) (strip 1 0 2 ∷ strip 2 1 3 ∷ [])) refused
+    ∷ row (ofSorting (twoDesks 2 5 1 1) (strip 1 0 2 ∷ [])) refused
+    -- a second block that is flown later than it could be
+    ∷ row (ofFlight (blocksOf false 0 (1 ∷ 1 ∷ []) (2 ∷ 2 ∷ []) (1 ∷ 1 ∷ [])) 0xA (starts 0 3 ∷ starts 6 9 ∷ [])) (lawful 10)
+    -- less than the delay, and more
+    ∷ row (ofFlight (blocksOf false 0 (3 ∷ []) (4 ∷ []) (1 ∷ [])) 2 (starts 0 6 ∷ [])) refused
+    ∷ row (ofFlight (blocksOf false 0 (3 ∷ []) (4 ∷ []) (1 ∷ [])) 2 (starts 0 8 ∷ [])) refused
+    -- starts that keep order C do not keep order A, whose first passes come as in C
+    ∷ row (ofFlight (blocksOf false 0 (1 ∷ 1 ∷ []) (2 ∷ 2 ∷ []) (1 ∷ 1 ∷ [])) 0xA (starts 0 3 ∷ starts 1 4 ∷ [])) refused
+    -- nor may C be kept where A is given
+    ∷ row (ofFlight (blocksOf true 0xA (1 ∷ 1 ∷ []) (2 ∷ 2 ∷ []) (1 ∷ 1 ∷ [])) 0xC (starts 0 3 ∷ starts 1 4 ∷ [])) refused
+    -- two passes at once
+    ∷ row (ofFlight (blocksOf true 0xA (1 ∷ 1 ∷ []) (0 ∷ 5 ∷ []) (1 ∷ 1 ∷ [])) 0xA (starts 0 1 ∷ starts 1 7 ∷ [])) refused
+    -- a second pass that starts, in its order's turn, before the second pass before it has ended
+    ∷ row (ofFlight (blocksOf false 0 (1 ∷ 1 ∷ []) (5 ∷ 5 ∷ []) (3 ∷ 1 ∷ [])) 0xC (starts 0 6 ∷ starts 1 7 ∷ [])) refused
+    ∷ []
+
+unfoldable pub allTested : List Sample → Bool
+allTested [] = true
+allTested (c ∷ cs) = test (c .timetable) (c .outcome) && allTested cs
+
+-- all of them, computed
+samples-tested : allTested samples ≡ true
+unfolding samples allTested test isLawful figureOf sumOver greatestOver stationSum ready benchSum noBatch batchAt batchBefore finishDue completion mosaicFigure stripsOf slot scanTime deskTime scanEnd deskFinish noJob jobAt jobsOf sortingFigure noPasses passesAt passStart passTime passEnd secondDue clearAt passAt flightFigure allBelow batchTest batchesTest isMosaic jobTest turnTest jobsTest isSorting blockTest clearTest apartTest isFlight startTest keepsOrder mayHaveOrder seconds firsts neverMoreSeconds isProper
+samples-tested = refl
+
+-- Each sample of a list, said of all.
+unfoldable pub AllSay : List Sample → Type 0
+AllSay [] = Unit
+AllSay (c ∷ cs) = Says (c .timetable) (c .outcome) × AllSay cs
+
+all-tested : (cs : List Sample) → allTested cs ≡ true → AllSay cs
+unfolding allTested AllSay
+all-tested [] e = tt
+all-tested (c ∷ cs) e =
+    let w = both (test (c .timetable) (c .outcome)) (allTested cs) e in
+    (tested (c .timetable) (c .outcome) (w .0), all-tested cs (w .1))
+
+pub samples-hold : AllSay samples
+samples-hold = all-tested samples samples-tested

@@ -1,0 +1,18 @@
+-- What is used of the finish rule of a batch: it finishes no sooner than it starts and its strips are worked, and an earlier start finishes no later.
+use mathlib.Core.Path.{_≡_}
+use Prim.Native.Nat.{ℕ, _+_, _-_, _≤_}
+use native.Mathlib.Omega.{arith}
+use Rattle.sheet.specs.declared.MosaicSection.{MosaicSection}
+use Rattle.rules.specs.Mosaic.{benchSum, finishDue}
+use Rattle.rules.specs.declared.Batch.{Batch}
+
+pub finish-worked : (m : MosaicSection) (before b : Batch) → b .start + benchSum m (before .last) (b .last - before .last) ≤ finishDue m before b
+unfolding finishDue
+finish-worked m before b = omega arith
+
+-- two batches of the same strips
+pub finish-mono : (m : MosaicSection) (p r c b : Batch) → p .last ≡ r .last → c .last ≡ b .last → c .start ≤ b .start → finishDue m p c ≤ finishDue m r b
+unfolding finishDue
+finish-mono m p r c b e l s =
+    let w : benchSum m (p .last) (c .last - p .last) ≡ benchSum m (r .last) (b .last - r .last) = cc in
+    omega arith

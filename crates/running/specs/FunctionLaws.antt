@@ -1,0 +1,191 @@
+-- What the functions on sections require and tell, and the laws of their loops: a sum so far, the greatest value so far.
+use Prim.Native.Nat.{ℕ, suc, _+_, _-_, _*_, _^_, _≤_, _<_, max}
+use mathlib.Core.Path.{_≡_, refl, sym, ap, _∙_}
+use native.Mathlib.Numerals.{add-one}
+use native.Mathlib.Omega.{arith}
+use lib.ListN.{getD}
+use borrow.Author.Tests.{lt-ltb, le-ltb, eq-eqb, ne-eqb}
+use Rattle.order.specs.Order.{bit, seconds, firsts}
+use Rattle.order.specs.Seconds.{seconds-le}
+use Rattle.sheet.specs.Limits.{mostTime, mostStrips, mostDesks, mostStripsOfDesk}
+use Rattle.sheet.specs.Sound.{MosaicSound, SortingSound, FlightSound}
+use Rattle.sheet.specs.declared.MosaicSection.{MosaicSection}
+use Rattle.sheet.specs.declared.SortingSection.{SortingSection}
+use Rattle.sheet.specs.declared.FlightSection.{FlightSection}
+use Rattle.base.specs.Sums.{sumOver, greatestOver}
+use Rattle.rules.specs.Mosaic.{stationSum, ready, benchSum, finishDue}
+use Rattle.rules.specs.Sorting.{slot, scanTime, deskTime}
+use Rattle.rules.specs.Flight.{passTime, passAt}
+use Rattle.rules.specs.declared.Batch.{Batch}
+use Rattle.rules.specs.declared.Job.{Job}
+
+pub record StationPre (m : MosaicSection) (k j : ℕ) : Type 0 where
+  pub sound : MosaicSound m
+  pub station : k < m .stations
+  pub strips : j ≤ mostStrips
+
+pub record ReadyPre (m : MosaicSection) (j : ℕ) : Type 0 where
+  pub sound : MosaicSound m
+  pub strips : j ≤ mostStrips
+
+pub record BenchPre (m : MosaicSection) (i count : ℕ) : Type 0 where
+  pub sound : MosaicSound m
+  pub strips : i + count ≤ mostStrips
+
+-- a batch of known strips, after the batch before it, whose start has four bytes
+pub record FinishPre (m : MosaicSection) (before b : Batch) : Type 0 where
+  pub sound : MosaicSound m
+  pub rises : before .last ≤ b .last
+  pub strips : b .last ≤ mostStrips
+  pub fits : b .start < 2 ^ 32
+
+-- a sum of at most 40 times
+pub record SumTold (value r : ℕ) : Type 0 where
+  pub is : r ≡ value
+  pub fits : r ≤ mostStrips * mostTime
+
+pub record TimeTold (value r : ℕ) : Type 0 where
+  pub is : r ≡ value
+  pub fits : r ≤ mostTime
+
+pub record SlotPre (s : SortingSection) (j : Job) : Type 0 where
+  pub sound : SortingSound s
+  pub least-desk : 1 ≤ j .desk
+  pub most-desk : j .desk ≤ mostDesks
+  pub least-number : 1 ≤ j .number
+  pub most-number : j .number ≤ mostStripsOfDesk
+
+pub record PassPre (f : FlightSection) (p : ℕ) : Type 0 where
+  pub sound : FlightSound f
+  pub known : p < 2 * f .blocks
+
+pub record PositionPre (f : FlightSection) (order k : ℕ) : Type 0 where
+  pub sound : FlightSound f
+  pub known : k < 2 * f .blocks
+
+-- the first i of n terms, each at most so large, are added up
+pub record Summed (f : ℕ → ℕ) (most n i sum : ℕ) : Type 0 where
+  pub within : i ≤ n
+  pub is : sum ≡ sumOver i f
+  pub fits : sum ≤ i * most
+
+sum-suc : (n : ℕ) (f : ℕ → ℕ) → sumOver (suc n) f ≡ sumOver n f + f n
+unfolding sumOver
+sum-suc n f = refl
+
+pub sum-none : (f : ℕ → ℕ) (most n : ℕ) → Summed f most n 0 0
+unfolding sumOver
+sum-none f most n = record { within = omega arith; is = refl; fits = omega arith }
+
+pub sum-more : (f : ℕ → ℕ) (n i sum value : ℕ) → Summed f mostTime n i sum → i < n → value ≡ f i → value ≤ mostTime → Summed f mostTime n (i + 1) (sum + value)
+sum-more f n i sum value s h e l =
+    let b = s .fits in
+    record { within = omega arith; is = rw (s .is, e, add-one i) (sym (sum-suc i f)); fits = omega arith }
+
+pub sum-all : (f : ℕ → ℕ) (n i sum : ℕ) → Summed f mostTime n i sum → n ≤ i → sum ≡ sumOver n f
+sum-all f n i sum s h = s .is ∙ ap (λ k. sumOver k f) all
+  where
+    all : i ≡ n
+    all = let w = s .within in omega arith
+
+module _ (m : MosaicSection) (k j : ℕ) (a : StationPre m k j) where
+  pub station-more : (i sum : ℕ) → Summed (λ i. getD (m .station) (4 * i + k) 0) mostTime j i sum → i < j → Summed (λ i. getD (m .station) (4 * i + k) 0) mostTime j (i + 1) (sum + getD (m .station) (4 * i + k) 0)
+  station-more i sum s h = sum-more (λ i. getD (m .station) (4 * i + k) 0) j i sum _ s h refl (a .sound .most-station (4 * i + k))
+
+  pub station-fits : (i sum : ℕ) → Summed (λ i. getD (m .station) (4 * i + k) 0) mostTime j i sum → i < j → sum + getD (m .station) (4 * i + k) 0 < 2 ^ 64
+  station-fits i sum s h = let b = s .fits in let l = a .strips in omega (arith, a .sound .most-station (4 * i + k))
+
+  pub station-all : (i sum : ℕ) → Summed (λ i. getD (m .station) (4 * i + k) 0) mostTime j i sum → j ≤ i → SumTold (stationSum m k j) sum
+  unfolding stationSum
+  station-all i sum s h =
+      let b = s .fits in
+      let w = s .within in
+      let l = a .strips in
+      record { is = sum-all (λ i. getD (m .station) (4 * i + k) 0) j i sum s h; fits = omega arith }
+
+module _ (m : MosaicSection) (i count : ℕ) (a : BenchPre m i count) where
+  pub bench-more : (k sum : ℕ) → Summed (λ k. getD (m .bench) (i + k) 0) mostTime count k sum → k < count → Summed (λ k. getD (m .bench) (i + k) 0) mostTime count (k + 1) (sum + getD (m .bench) (i + k) 0)
+  bench-more k sum s h = sum-more (λ k. getD (m .bench) (i + k) 0) count k sum _ s h refl (a .sound .most-bench (i + k))
+
+  pub bench-fits : (k sum : ℕ) → Summed (λ k. getD (m .bench) (i + k) 0) mostTime count k sum → k < count → sum + getD (m .bench) (i + k) 0 < 2 ^ 64
+  bench-fits k sum s h = let b = s .fits in let l = a .strips in omega (arith, a .sound .most-bench (i + k))
+
+  pub bench-all : (k sum : ℕ) → Summed (λ k. getD (m .bench) (i + k) 0) mostTime count k sum → count ≤ k → SumTold (benchSum m i count) sum
+  unfolding benchSum
+  bench-all k sum s h =
+      let b = s .fits in
+      let w = s .within in
+      let l = a .strips in
+      record { is = sum-all (λ k. getD (m .bench) (i + k) 0) count k sum s h; fits = omega arith }
+
+module _ (m : MosaicSection) (before b : Batch) (a : FinishPre m before b) where
+  pub finish-bench : BenchPre m (before .last) (b .last - before .last)
+  finish-bench = let h = a .rises in let l = a .strips in record { sound = a .sound; strips = omega arith }
+
+  pub finish-mounted : b .start + m .mount < 2 ^ 64
+  finish-mounted = let f = a .fits in omega (arith, a .sound .most-mount)
+
+  pub finish-fits : (sum : ℕ) → SumTold (benchSum m (before .last) (b .last - before .last)) sum → b .start + m .mount + sum < 2 ^ 64
+  finish-fits sum t = let f = a .fits in let l = t .fits in omega (arith, a .sound .most-mount)
+
+  pub finish-is : (sum : ℕ) → SumTold (benchSum m (before .last) (b .last - before .last)) sum → b .start + m .mount + sum ≡ finishDue m before b
+  unfolding finishDue
+  finish-is sum t = ap (λ (n : ℕ). b .start + m .mount + n) (t .is)
+
+-- the greatest of the first k stations' sums
+pub record Greatest (m : MosaicSection) (j k value : ℕ) : Type 0 where
+  pub within : k ≤ m .stations
+  pub is : value ≡ greatestOver k (λ k. stationSum m k j)
+  pub fits : value ≤ mostStrips * mostTime
+
+greatest-suc : (n : ℕ) (f : ℕ → ℕ) → greatestOver (suc n) f ≡ max (greatestOver n f) (f n)
+unfolding greatestOver
+greatest-suc n f = refl
+
+module _ (m : MosaicSection) (j : ℕ) where
+  pub greatest-none : Greatest m j 0 0
+  unfolding greatestOver
+  greatest-none = record { within = omega arith; is = refl; fits = omega arith }
+
+  pub greatest-more : (k value next sum : ℕ) → Greatest m j k value → k < m .stations → SumTold (stationSum m k j) sum → next ≡ max value sum → Greatest m j (k + 1) next
+  greatest-more k value next sum g h t e =
+      let b = g .fits in
+      let l = t .fits in
+      record { within = omega arith; is = e ∙ rw (g .is, t .is, add-one k) (sym (greatest-suc k (λ k. stationSum m k j))); fits = omega arith }
+
+  pub greatest-all : (k value : ℕ) → Greatest m j k value → m .stations ≤ k → SumTold (ready m j) value
+  unfolding ready
+  greatest-all k value g h = record { is = g .is ∙ ap (λ n. greatestOver n (λ k. stationSum m k j)) all; fits = g .fits }
+    where
+      all : k ≡ m .stations
+      all = let w = g .within in omega arith
+
+-- single times
+pub scan-told : (s : SortingSection) (j : Job) → SlotPre s j → TimeTold (scanTime s j) (getD (s .scan) (6 * (j .desk - 1) + (j .number - 1)) 0)
+unfolding scanTime slot
+scan-told s j a = record { is = refl; fits = a .sound .most-scan _ }
+
+pub desk-told : (s : SortingSection) (j : Job) → SlotPre s j → TimeTold (deskTime s j) (getD (s .desk) (6 * (j .desk - 1) + (j .number - 1)) 0)
+unfolding deskTime slot
+desk-told s j a = record { is = refl; fits = a .sound .most-desk _ }
+
+module _ (f : FlightSection) (p : ℕ) (a : PassPre f p) where
+  pub first-told : p < f .blocks → TimeTold (passTime f p) (getD (f .first) p 0)
+  unfolding passTime
+  first-told h = record { is = rw (lt-ltb _ _ h); fits = a .sound .most-first p }
+
+  pub second-told : f .blocks ≤ p → TimeTold (passTime f p) (getD (f .second) (p - f .blocks) 0)
+  unfolding passTime
+  second-told h = record { is = rw (le-ltb _ _ h); fits = a .sound .most-second (p - f .blocks) }
+
+module _ (f : FlightSection) (order k b n : ℕ) (eb : b ≡ bit order k) where
+  pub second-at : b ≡ 1 → n ≡ seconds order k → f .blocks + n ≡ passAt f order k
+  unfolding passAt
+  second-at h e = rw (eq-eqb (bit order k) 1 (sym eb ∙ h), e)
+
+  pub first-at : (b ≡ 1 → ⊥) → n ≡ firsts order k → n ≡ passAt f order k
+  unfolding passAt
+  first-at h e = rw (ne-eqb (bit order k) 1 (λ q. h (eb ∙ q))) e
+
+pub position-fits : (f : FlightSection) (order k n : ℕ) → PositionPre f order k → n ≡ seconds order k → f .blocks + n < 2 ^ 64
+position-fits f order k n a e = let b = a .sound .most-blocks in let h = a .known in omega (arith, seconds-le order k)

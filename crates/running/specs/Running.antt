@@ -1,0 +1,69 @@
+-- The rules once more, as they run over the members in order: what the judge follows. Equivalent.antt of crate rules_laws shows that they say the same as the rules.
+use Prim.Native.Nat.{ℕ, _+_, _-_, _*_, _≤_, _<_}
+use mathlib.Core.Path.{_≡_}
+use mathlib.Core.List.{List, [], _∷_}
+use lib.ListN.{length, getD, set}
+use Rattle.sheet.specs.Limits.{ceiling}
+use Rattle.sheet.specs.declared.MosaicSection.{MosaicSection}
+use Rattle.sheet.specs.declared.SortingSection.{SortingSection}
+use Rattle.sheet.specs.declared.FlightSection.{FlightSection}
+use Rattle.rules.specs.Mosaic.{BatchLawful}
+use Rattle.rules.specs.Sorting.{stripsOf, scanEnd, deskFinish, JobLawful}
+use Rattle.rules.specs.Flight.{passesAt, DelayKept, Clear, passAt, OrderAllowed}
+use Rattle.rules.specs.declared.Batch.{Batch}
+use Rattle.rules.specs.declared.Job.{Job}
+use Rattle.rules.specs.declared.Passes.{Passes}
+use Rattle.running.specs.declared.Desks.{Desks}
+
+-- A batch may follow the batch before it (noBatch before the first).
+pub record BatchFollows (m : MosaicSection) (before b : Batch) : Type 0 where
+  pub lawful : BatchLawful m before b
+  pub known : b .last ≤ m .strips
+
+pub data MosaicRuns (m : MosaicSection) : Batch → List Batch → Type 0 where
+  none : {before : Batch} → before .last ≡ m .strips → MosaicRuns m before []
+  more : {before b : Batch} {bs : List Batch} → BatchFollows m before b → MosaicRuns m b bs → MosaicRuns m before (b ∷ bs)
+
+-- A job may follow where each desk has had so many strips and is free from so on, and the scanner is.
+pub record JobFollows (s : SortingSection) (d : Desks) (j : Job) : Type 0 where
+  pub lawful : JobLawful s j
+  pub in-turn : j .number ≡ getD (d .done) (j .desk - 1) 0 + 1
+  pub known : j .number ≤ stripsOf s (j .desk)
+  pub one-scan : d .scanner ≤ j .scan
+  pub one-job : getD (d .free) (j .desk - 1) 0 ≤ j .start
+
+-- the desks and the scanner before the first job, and after one more
+unfoldable pub freeDesks : Desks
+freeDesks = record { done = 0 ∷ 0 ∷ 0 ∷ []; free = 0 ∷ 0 ∷ 0 ∷ []; scanner = 0 }
+
+unfoldable pub afterJob : SortingSection → Desks → Job → Desks
+afterJob s d j =
+    record {
+      done = set (d .done) (j .desk - 1) (j .number);
+      free = set (d .free) (j .desk - 1) (deskFinish s j);
+      scanner = scanEnd s j;
+    }
+
+-- every strip has had its job
+pub record AllDone (s : SortingSection) (d : Desks) : Type 0 where
+  pub all : (desk : ℕ) → 1 ≤ desk → desk ≤ s .desks → getD (d .done) (desk - 1) 0 ≡ stripsOf s desk
+
+pub data SortingRuns (s : SortingSection) : Desks → List Job → Type 0 where
+  none : {d : Desks} → AllDone s d → SortingRuns s d []
+  more : {d : Desks} {j : Job} {js : List Job} → JobFollows s d j → SortingRuns s (afterJob s d j) js → SortingRuns s d (j ∷ js)
+
+-- The passes of block i keep the exact delay and the ceiling.
+pub record BlockFollows (f : FlightSection) (i : ℕ) (p : Passes) : Type 0 where
+  pub known : i < f .blocks
+  pub delay-kept : DelayKept f i p
+  pub within : p .second + getD (f .second) i 0 ≤ ceiling
+
+-- What is checked at the head of a flight: every block there, the order proper and as given, each pass after the one before it in the order.
+pub record FlightHead (f : FlightSection) (order : ℕ) (ps : List Passes) : Type 0 where
+  pub every-block : length ps ≡ f .blocks
+  pub allowed : OrderAllowed f order
+  pub in-order : (k : ℕ) → k + 1 < 2 * f .blocks → Clear f ps (passAt f order k) (passAt f order (k + 1))
+
+pub record FlightRuns (f : FlightSection) (order : ℕ) (ps : List Passes) : Type 0 where
+  pub members : (i : ℕ) → i < length ps → BlockFollows f i (passesAt ps i)
+  pub head : FlightHead f order ps

@@ -1,0 +1,63 @@
+// Ready times and bench times of a mosaic.
+use base::greater;
+use rules::Batch;
+use sheet::MosaicSection;
+ghost use mathlib.Core.Path.{_≡_};
+ghost use Prim.Native.Nat.{_<_, _+_};
+ghost use Rattle.rules.specs.Mosaic.{stationSum, ready, benchSum, finishDue};
+ghost use Rattle.running.specs.FunctionLaws.{StationPre, ReadyPre, BenchPre, FinishPre, SumTold};
+
+// When station k, from 0, is done with the first j strips.
+fn station_sum(m: MosaicSection, k: usize, j: usize) -> u64
+    requires { ⌜ StationPre m k j ⌝ }
+    ensures { λ r. ⌜ SumTold (stationSum m k j) r ⌝ }
+{
+    let times = m.station;
+    let mut sum: u64 = 0;
+    let mut i: usize = 0;
+    while i < j {
+        sum += times[4 * i + k];
+        i += 1;
+    }
+    sum
+}
+
+// When strip j, from 1, is ready.
+pub fn ready_time(m: MosaicSection, j: usize) -> u64
+    requires { ⌜ ReadyPre m j ⌝ }
+    ensures { λ r. ⌜ SumTold (ready m j) r ⌝ }
+{
+    let stations = m.stations;
+    let mut greatest: u64 = 0;
+    let mut k: usize = 0;
+    while k < stations {
+        greatest = greater(greatest, station_sum(m, k, j));
+        k += 1;
+    }
+    greatest
+}
+
+// The bench times of `count` strips after the first i.
+fn bench_sum(m: MosaicSection, i: usize, count: usize) -> u64
+    requires { ⌜ BenchPre m i count ⌝ }
+    ensures { λ r. ⌜ SumTold (benchSum m i count) r ⌝ }
+{
+    let times = m.bench;
+    let mut sum: u64 = 0;
+    let mut k: usize = 0;
+    while k < count {
+        sum += times[i + k];
+        k += 1;
+    }
+    sum
+}
+
+// When a batch is due to finish, by the batch before it.
+pub fn finish_due(m: MosaicSection, before: Batch, b: Batch) -> u64
+    requires { ⌜ FinishPre m before b ⌝ }
+    ensures { λ r. ⌜ r ≡ finishDue m before b ⌝ }
+{
+    let from = before.last;
+    let count = b.last - from;
+    b.start + m.mount + bench_sum(m, from as usize, count as usize)
+}
