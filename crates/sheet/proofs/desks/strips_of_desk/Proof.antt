@@ -1,8 +1,8 @@
 -- `strips_of_desk` meets its contract: the count of a desk that there is, and 0 of any other.
-use Rattle.sheet_checks.specs.DeskLaws.{desk-within, desk-past}
+use Rattle.sheet.specs.DeskLaws.{desk-within, desk-past}
 use borrow.Author.Needs.{needs}
-use Rattle.sheet_checks.proofs.strips_of_desk.Statement.{statement}
-use Rattle.sheet_checks.proofs.strips_of_desk.Tie as tie
+use Rattle.sheet.proofs.desks.strips_of_desk.Statement.{statement}
+use Rattle.sheet.proofs.desks.strips_of_desk.Tie as tie
 
 desk-index-requires : tie.Need-desk-index-requires
 desk-index-requires c κs = search needs

@@ -1,9 +1,9 @@
--- `sheet_checks::strips_in_all` meets its contract: three counts of at most 6 fit their sum.
+-- `strips_in_all` meets its contract: three counts of at most 6 fit their sum.
 use Rattle.sheet.specs.Sound.{stripsInAll}
-use Rattle.sheet_checks.specs.DeskLaws.{two-desks-fit, all-desks-fit}
+use Rattle.sheet.specs.DeskLaws.{two-desks-fit, all-desks-fit}
 use borrow.Author.Needs.{needs}
-use Rattle.sheet_checks.proofs.strips_in_all.Statement.{statement}
-use Rattle.sheet_checks.proofs.strips_in_all.Tie as tie
+use Rattle.sheet.proofs.desks.strips_in_all.Statement.{statement}
+use Rattle.sheet.proofs.desks.strips_in_all.Tie as tie
 
 array-read-result : tie.Need-array-read-result
 array-read-result c = search needs

@@ -1,10 +1,8 @@
--- `is_in_range` meets its contract: one case a tag: the values tested are those that stand in the content.
-use Rattle.sheet_ranges.specs.RangeLaws.{mosaic-head-read, mosaic-strip-read, sorting-head-read, sorting-strip-read, flight-block-read}
-use Rattle.base.specs.Branch.{branches}
-use Rattle.sheet.specs.Checks.{inRange}
+-- `range_number` meets its contract: one case a tag: the values tested are those that stand in the content.
+use Rattle.sheet_ranges.specs.RangeLaws.{mosaic-head-read, mosaic-strip-read, sorting-head-read, sorting-strip-read, flight-block-read, no-values-read}
 use borrow.Author.Needs.{needs}
-use Rattle.sheet_ranges.proofs.is_in_range.Statement.{statement}
-use Rattle.sheet_ranges.proofs.is_in_range.Tie as tie
+use Rattle.sheet_ranges.proofs.range_number.Statement.{statement}
+use Rattle.sheet_ranges.proofs.range_number.Tie as tie
 
 byte-requires : tie.Need-byte-requires
 byte-requires c κs = search needs
@@ -15,17 +13,17 @@ add-number c = search needs
 number-requires : tie.Need-number-requires
 number-requires c κs = search needs
 
-mosaic-head-in-range-requires : tie.Need-mosaic-head-in-range-requires
-mosaic-head-in-range-requires c κs = search needs
+mosaic-head-number-requires : tie.Need-mosaic-head-number-requires
+mosaic-head-number-requires c κs = search needs
 
-mosaic-strip-in-range-requires : tie.Need-mosaic-strip-in-range-requires
-mosaic-strip-in-range-requires c κs = search needs
+mosaic-strip-number-requires : tie.Need-mosaic-strip-number-requires
+mosaic-strip-number-requires c κs = search needs
 
 byte-requires-2 : tie.Need-byte-requires-2
 byte-requires-2 c κs = search needs
 
-is-between-requires : tie.Need-is-between-requires
-is-between-requires c κs = search needs
+sorting-head-number-requires : tie.Need-sorting-head-number-requires
+sorting-head-number-requires c κs = search needs
 
 byte-requires-3 : tie.Need-byte-requires-3
 byte-requires-3 c κs = search needs
@@ -42,8 +40,8 @@ add-number-3 c = search needs
 number-requires-3 : tie.Need-number-requires-3
 number-requires-3 c κs = search needs
 
-sorting-strip-in-range-requires : tie.Need-sorting-strip-in-range-requires
-sorting-strip-in-range-requires c κs = search needs
+sorting-strip-number-requires : tie.Need-sorting-strip-number-requires
+sorting-strip-number-requires c κs = search needs
 
 number-requires-4 : tie.Need-number-requires-4
 number-requires-4 c κs = search needs
@@ -60,8 +58,8 @@ add-number-5 c = search needs
 number-requires-6 : tie.Need-number-requires-6
 number-requires-6 c κs = search needs
 
-flight-block-in-range-requires : tie.Need-flight-block-in-range-requires
-flight-block-in-range-requires c κs = search needs
+flight-block-number-requires : tie.Need-flight-block-number-requires
+flight-block-number-requires c κs = search needs
 
 returns : tie.Need-returns
 returns c = search mosaic-head-read
@@ -79,32 +77,31 @@ returns-5 : tie.Need-returns-5
 returns-5 c = search flight-block-read
 
 returns-6 : tie.Need-returns-6
-unfolding inRange
-returns-6 c = search branches depth 14
+returns-6 c = search no-values-read
 
-pub is-in-range-spec : {M : Type 1} → statement M
-is-in-range-spec =
+pub range-number-spec : {M : Type 1} → statement M
+range-number-spec =
     tie.close
     (tie.spec
     byte-requires
     add-number
     number-requires
-    mosaic-head-in-range-requires
-    mosaic-strip-in-range-requires
+    mosaic-head-number-requires
+    mosaic-strip-number-requires
     byte-requires-2
-    is-between-requires
+    sorting-head-number-requires
     byte-requires-3
     add-number-2
     number-requires-2
     add-number-3
     number-requires-3
-    sorting-strip-in-range-requires
+    sorting-strip-number-requires
     number-requires-4
     add-number-4
     number-requires-5
     add-number-5
     number-requires-6
-    flight-block-in-range-requires
+    flight-block-number-requires
     returns
     returns-2
     returns-3
