@@ -96,7 +96,7 @@ all-say [] c = tt
 all-say (r ∷ rs) c = (says (r .sheet) (r .claim) (c .0), all-say rs (c .1))
 
 computed : All Computed table × FirstCase
-unfolding readyTimes isPlan figuresOf seconds firsts neverMoreSeconds isProper numberAt bytesOf fieldAt fieldBytes check endsSection sectionFilled fewBlocks orderGiven orderPermitted permitted lengthDue between mosaicHeadInRange stationTimesInRange mosaicStripInRange sortingStripInRange flightBlockInRange inRange hasRoom stripsOfDesk orderProper zeros noMosaic noSorting noFlight withMosaicHead withStationTimes withMosaicStrip withSortingHead withStripAt withSortingStrip withBlock withOrder nextMosaic nextSorting nextFlight nextSection nextMembers nextHead nextReading startReading contentNumber fieldNumber endNumber placeOf refused accepted atEnd readFrom readSheet stripsInAll sumOver greatestOver stationSum ready benchSum noBatch batchAt batchBefore finishDue completion ruleMosaicFigure stripsOf slot scanTime deskTime scanEnd deskFinish noJob jobAt jobsOf ruleSortingFigure noPasses passesAt passStart passTime passEnd secondDue clearAt passAt ruleFlightFigure allBelow batchTest batchesTest isMosaic jobTest turnTest jobsTest isSorting blockTest clearTest apartTest isFlight startTest keepsOrder mayHaveOrder membersBytes batchBytes mosaicBytes jobBytes sortingBytes passesBytes flightBytes ifPresent planBytes mountStart benchStart finishOf leastOpen leastFrom weightOf weightSum instanceOf batchOf chosenOpen chosenFrom chosenBatches sortingInstance listedDesk reached jobOf listed jobsOfList chosenJobs stepOf keep overDesks branch searchFrom startState firstBest relax relaxed rounds holds leastValues solvable constraintOf leastStarts possibleIn orderFigure passesWithStarts leastPasses improves tried searched ordersOf chosenOrder isPossible chosenPasses chosenPlan sheetAnswer sheetPlan answerOf plannedBytes figureOfMosaic figureOfSorting figureOfFlight
+unfolding readyTimes isPlan figuresOf seconds firsts neverMoreSeconds isProper numberAt bytesOf fieldAt fieldBytes check endsSection sectionFilled fewBlocks orderGiven orderPermitted permitted lengthDue between mosaicHeadInRange stationTimesInRange mosaicStripInRange sortingStripInRange flightBlockInRange inRange hasRoom stripsOfDesk orderProper zeros noMosaic noSorting noFlight withMosaicHead withStationTimes withMosaicStrip withSortingHead withStripAt withSortingStrip withBlock withOrder nextMosaic nextSorting nextFlight nextSection nextMembers nextHead nextReading startReading contentNumber fieldNumber endNumber placeOf refused accepted atEnd readFrom readSheet stripsInAll sumOver greatestOver stationSum ready benchSum noBatch batchAt batchBefore finishDue completion ruleMosaicFigure stripsOf slot scanTime deskTime scanEnd deskFinish noJob jobAt jobsOf ruleSortingFigure noPasses passesAt passStart passTime timeOf passEnd secondDue clearAt passAt ruleFlightFigure allBelow batchTest batchesTest isMosaic jobTest turnTest jobsTest isSorting blockTest clearTest apartTest isFlight startTest keepsOrder mayHaveOrder membersBytes batchBytes mosaicBytes jobBytes sortingBytes passesBytes flightBytes ifPresent planBytes mountStart benchStart finishOf leastOpen leastFrom weightOf weightSum instanceOf batchOf chosenOpen chosenFrom chosenBatches sortingInstance listedDesk reached jobOf listed jobsOfList chosenJobs stepOf keep overDesks branch searchFrom startState firstBest relax relaxed rounds holds leastValues solvable constraintOf leastStarts possibleIn orderFigure passesWithStarts leastPasses improves tried searched ordersOf chosenOrder isPossible chosenPasses chosenPlan sheetAnswer sheetPlan answerOf plannedBytes figureOfMosaic figureOfSorting figureOfFlight
 computed = ((refl, ((refl, refl, refl, refl, refl, refl), ((refl, refl, refl), ((refl, refl, refl), ((refl, refl, refl, refl, refl, refl), ((refl, refl, refl), ((refl, refl, refl, refl, refl, refl), ((refl, refl, refl, refl), ((refl, refl, refl, refl, refl, refl), ((refl, refl, refl, refl, refl, refl), ((refl, refl, refl), ((refl, refl, refl, refl, refl, refl), ((refl, refl, refl, refl, refl, refl), tt))))))))))))), (refl, refl))
 
 -- What 01 says of the sheets that it works through.
