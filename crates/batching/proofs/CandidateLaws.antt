@@ -54,7 +54,8 @@ module _ {rs sums late row : List ℕ} {s n free i : ℕ} (P : ChooseBatchPre rs
   pub from-candidate : {q : ℕ} → i < q → q ≤ n → CandidatePre rs sums late row s n free i q
   from-candidate h k = record { from = P; first = h; last = k }
 
-  pub least-start : {figure : ℕ} → figure ≡ closedAt (instanceIn rs sums s n) (benchStart s free (getD rs (n - 1) 0)) i n → LeastSoFar rs sums s n free i n figure
+  pub least-start : {figure : ℕ} → figure ≡ closedAt (instanceIn rs sums s n) (benchStart s free (getD rs (n - 1) 0)) i n
+      → LeastSoFar rs sums s n free i n figure
   least-start e = record { from = P .inside; to = omega arith; least-is = e ∙ sym (open-last (instanceIn rs sums s n) i n free refl) }
 
   module _ {q least : ℕ} (M : LeastSoFar rs sums s n free i q least) (h : i + 1 < q) where

@@ -21,7 +21,8 @@ pub record TakenSoFar (rs sums : List ℕ) (s n free i q taken least : ℕ) : Ty
       ≡ batchOf (instanceIn rs sums s n) free i taken ∷ chosenAt (instanceIn rs sums s n) taken (finishOf (instanceIn rs sums s n) free i taken)
 
 module _ {rs sums late row : List ℕ} {s n free i : ℕ} (P : ChooseBatchPre rs sums late row s n free i) where
-  pub taken-start : {figure : ℕ} → figure ≡ closedAt (instanceIn rs sums s n) (benchStart s free (getD rs (n - 1) 0)) i n → TakenSoFar rs sums s n free i n n figure
+  pub taken-start : {figure : ℕ} → figure ≡ closedAt (instanceIn rs sums s n) (benchStart s free (getD rs (n - 1) 0)) i n
+      → TakenSoFar rs sums s n free i n n figure
   taken-start e = record {
     so-far = least-start P e;
     first = P .inside;

@@ -40,7 +40,8 @@ module _ {rs sums late row₀ : List ℕ} {s n begin i lo : ℕ} (P : FillRowPre
     pub row-free : begin + (getD sums p 0 - getD sums i 0) < 2 ^ 64
     row-free = omega (arith, free-most)
 
-    later-free : (k : ℕ) → p < k → k ≤ n → begin + s + (getD sums k 0 - getD sums i 0) ≡ begin + (getD sums p 0 - getD sums i 0) + s + (getD sums k 0 - getD sums p 0)
+    later-free : (k : ℕ) → p < k → k ≤ n
+        → begin + s + (getD sums k 0 - getD sums i 0) ≡ begin + (getD sums p 0 - getD sums i 0) + s + (getD sums k 0 - getD sums p 0)
     later-free k l e = omega (arith, row-sub, P .input .rise p k (omega arith) e)
 
     pub row-from : ChooseBatchPre rs sums late row s n (begin + (getD sums p 0 - getD sums i 0)) p

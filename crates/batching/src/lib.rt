@@ -1,4 +1,5 @@
-// Batches of neighbouring strips at one bench: the tables of least figures. A block is a run of batches with no pause: its first batch waits for its last
+// Batches of neighbouring strips at one bench: the tables of least figures (in the literature: batching on one machine with a setup time for each batch,
+// release dates, and the sum of completion times). A block is a run of batches with no pause: its first batch waits for its last
 // strip, and none of the others waits. `row` holds the least figures after each strip for one block; `late` those that begin with a batch that waits.
 ghost use mathlib.Core.Path.{_≡_};
 ghost use Prim.Native.Nat.{_+_, _-_, _<_, _^_};

@@ -94,7 +94,8 @@ pub rounds-start : {S : System} {t : List ℕ} → t ≡ replicate (S .variables
 unfolding rounds
 rounds-start e = record { within = omega arith; values = e; unsolved = λ q l. absurd (omega arith) }
 
-pub rounds-more : {S : System} {t t′ : List ℕ} {held : Bool} {r : ℕ} → InRounds S t r → r < S .variables → RoundDone S t t′ held → held ≡ false → InRounds S t′ (r + 1)
+pub rounds-more : {S : System} {t t′ : List ℕ} {held : Bool} {r : ℕ} → InRounds S t r → r < S .variables → RoundDone S t t′ held → held ≡ false
+    → InRounds S t′ (r + 1)
 unfolding rounds
 rounds-more {S} {t} {t′} {held} {r} inv l d m = record {
   within = omega arith;

@@ -1,4 +1,5 @@
-// Difference constraints over slices: rounds that raise values from 0 to the least solution.
+// Difference constraints over slices: rounds that raise values from 0 to the least solution (in the literature: the rounds of Bellman and Ford for longest
+// paths).
 // Constraint k stands in `rows` at 4 k: from, to, up, down. It says: value[from] + up <= value[to] + down.
 ghost use mathlib.Core.Path.{_≡_};
 ghost use lib.ListN.{length};

@@ -20,6 +20,7 @@ chosenOrder f = elim (f .ordered) [ true ↦ f .order | false ↦ searched (orde
 unfoldable pub isPossible : FlightSection → Bool
 isPossible f = possibleIn f (chosenOrder f)
 
+-- The figure in that order (in the literature: the least makespan).
 unfoldable pub leastFigure : FlightSection → ℕ
 leastFigure f = orderFigure f (chosenOrder f)
 

@@ -1,4 +1,5 @@
-// The flight planner: the given order or the best of all proper orders, and the least start of every pass in it.
+// The flight planner: the given order or the best of all proper orders, and the least start of every pass in it. In the literature: coupled tasks with exact
+// delays on one machine, for the least makespan.
 ghost use mathlib.Core.Path.{_≡_};
 ghost use Rattle.sheet.specs.Sound.{FlightSound};
 ghost use Rattle.flight.specs.Choice.{chosenOrder, Planned, PlannedIn};

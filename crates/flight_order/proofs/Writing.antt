@@ -132,7 +132,8 @@ write-end {F} {rows₀} {rows} {k} {count} w l = rw e at (w .written)
     e = omega (arith, w .counted, w .within)
 
 -- The rows that were written are the constraints, so solving them gives the least starts.
-module _ {F : OrderedFlight} {rows₀ rows t : List ℕ} (pre : LeastStartsPre F rows₀ t) (same : length rows ≡ length rows₀) (w : Rows F rows (4 * F .blocks - 1)) where
+module _ {F : OrderedFlight} {rows₀ rows t : List ℕ} (pre : LeastStartsPre F rows₀ t) (same : length rows ≡ length rows₀)
+    (w : Rows F rows (4 * F .blocks - 1)) where
   count : length rows / 4 ≡ 4 * F .blocks - 1
   count = omega (arith, pre .room .rows-length)
 

@@ -1,7 +1,8 @@
 -- The constraints of a flight in one pass order. The passes are numbered (crate order, Passes): the first pass of block i is pass i, its second pass is
 -- pass n + i.
 -- A delay may be anything from `least` to `most`, and `turn` passes between the end of a pass and the start of the next. The rules of 01 have an exact delay,
--- least = most, and no turn.
+-- least = most, and no turn. In the literature: coupled tasks on one machine, here with minimum and maximum time lags, in 01 with exact delays; a turn is a
+-- minimum time lag between passes.
 use mathlib.Core.Bool.{Bool, cond}
 use mathlib.Core.List.{List}
 use Prim.Native.Nat.{ℕ, _+_, _-_, _*_}
@@ -60,7 +61,7 @@ leastStarts f order = leastValues (systemFor (exactFlight f order))
 unfoldable pub possibleIn : FlightSection → ℕ → Bool
 possibleIn f order = solvable (systemFor (exactFlight f order))
 
--- The end of the last pass, which in every proper order is the second pass of the last block; 0 where there is no block.
+-- The end of the last pass (in the literature: the makespan), which in every proper order is the second pass of the last block; 0 where there is no block.
 unfoldable pub orderFigure : FlightSection → ℕ → ℕ
 orderFigure f order =
     cond (eqb (f .blocks) 0) 0 (value (leastStarts f order) (2 * f .blocks - 1) + getD (f .second) (f .blocks - 1) 0)

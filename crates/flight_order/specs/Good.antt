@@ -1,5 +1,4 @@
 -- What the code asks of a flight, and that each of its constraints is then about two of its passes and has small numbers.
-use mathlib.Core.Path.{_≡_}
 use Prim.Native.Nat.{ℕ, _+_, _-_, _*_, _^_, _≤_, _<_}
 use native.Mathlib.Decide.{decLt}
 use native.Mathlib.Omega.{arith}

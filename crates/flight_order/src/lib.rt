@@ -1,4 +1,5 @@
-// A flight in one pass order: its constraints written out, and the least start of every pass.
+// A flight in one pass order: its constraints written out, and the least start of every pass. In the literature: coupled tasks with time lags, in a given
+// sequence.
 ghost use mathlib.Core.Path.{_≡_};
 ghost use Prim.Native.Nat.{_<_, _*_, _-_};
 ghost use Rattle.flight_order.specs.Constraints.{orderedFlight, constraintOf};

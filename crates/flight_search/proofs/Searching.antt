@@ -79,7 +79,8 @@ module _ (n left x : ℕ) (first second delay : List ℕ) (more : left ≡ 0 →
   only-first a b e d h l q =
       q ∙ sym (rw (← step) at (searched-first O (left - 1) x best (rw (← step, ← e) h) (rw (← step, ← e, ← d) l)))
 
-  pub first-then-second : (after : Incumbent) (a b y : ℕ) → a ≡ firsts x (2 * n - left) → b ≡ seconds x (2 * n - left) → a < n → b < a → y ≡ x + 2 ^ (2 * n - left)
+  pub first-then-second : (after : Incumbent) (a b y : ℕ) → a ≡ firsts x (2 * n - left) → b ≡ seconds x (2 * n - left) → a < n → b < a
+      → y ≡ x + 2 ^ (2 * n - left)
       → after ≡ searched (ordersOf (freeSection n first second delay)) (left - 1) x best
       → r ≡ searched (ordersOf (freeSection n first second delay)) (left - 1) y after
       → r ≡ searched (ordersOf (freeSection n first second delay)) left x best

@@ -1,4 +1,4 @@
-// The search over all proper orders of a flight for one of the least figure.
+// The search over all proper orders of a flight for one of the least figure (in the literature: the sequences of coupled tasks, for the least makespan).
 ghost use mathlib.Core.Path.{_≡_};
 ghost use Prim.Native.Nat.{_*_};
 ghost use Rattle.flight_search.specs.Search.{noIncumbent, tried, searched};

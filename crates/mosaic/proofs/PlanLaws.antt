@@ -60,7 +60,8 @@ module _ {m : MosaicSection} (S : MosaicSound m) {rs sums : List ℕ} (R : Ready
   pub late-pre : FillLatePre rs sums (replicate lateLength 0) (m .mount) (m .strips)
   late-pre = record { input = input-is; late-long = omega (arith, length-replicate {A = ℕ} lateLength 0) }
 
-  pub batches-pre : {late : List ℕ} → LateFilled rs sums (replicate lateLength 0) late (m .mount) (m .strips) → ChooseBatchesPre rs sums late (m .mount) (m .strips)
+  pub batches-pre : {late : List ℕ} → LateFilled rs sums (replicate lateLength 0) late (m .mount) (m .strips)
+      → ChooseBatchesPre rs sums late (m .mount) (m .strips)
   batches-pre L = record { input = input-is; all = L .all; late-long = omega (arith, L .len, length-replicate {A = ℕ} lateLength 0) }
 
   pub planned : {p : MosaicPlan} → BatchesTaken rs sums (m .mount) (m .strips) p → Planned m p

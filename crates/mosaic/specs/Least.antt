@@ -5,7 +5,7 @@ use Rattle.base.specs.Sums.{sumOver}
 use Rattle.rules.specs.Mosaic.{ready, benchSum}
 use Rattle.batching.specs.Least.{Instance, leastFrom}
 
--- a strip's weight in the figure: "the sum of completions over strips"
+-- a strip's weight in the figure: "the sum of completions over strips" (in the literature: the sum of completion times)
 unfoldable pub weightOf : MosaicSection → ℕ → ℕ
 weightOf m j = 1
 

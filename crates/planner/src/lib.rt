@@ -1,5 +1,4 @@
 // The planner whole: a sheet read, its sections planned, and the plan written into the lent buffer.
-ghost use mathlib.Core.Path.{_≡_};
 ghost use Rattle.planner.specs.Call.{Called, PlanSectionsPre, PlanWithinPre, Within, Planned};
 use sheet::Sheet;
 use sheet::limits::PLAN_LENGTH;

@@ -168,7 +168,10 @@ desk-told s j a = record { is = refl; fits = a .sound .most-desk _ }
 -- the time of a pass
 pub time-told : (f : FlightSection) (p r : ℕ) → PassPre f p → r ≡ timeOf (f .blocks) (f .first) (f .second) p → TimeTold (passTime f p) r
 unfolding passTime
-time-told f p r a e = record { is = e; fits = elim (decLt p (f .blocks)) [
-  | yes h ↦ omega (arith, first-time (f .blocks) (f .first) (f .second) p h, a .sound .most-first p)
-  | no h ↦ omega (arith, second-time (f .blocks) (f .first) (f .second) p (omega arith), a .sound .most-second (p - f .blocks))
-] }
+time-told f p r a e = record {
+  is = e;
+  fits = elim (decLt p (f .blocks)) [
+    | yes h ↦ omega (arith, first-time (f .blocks) (f .first) (f .second) p h, a .sound .most-first p)
+    | no h ↦ omega (arith, second-time (f .blocks) (f .first) (f .second) p (omega arith), a .sound .most-second (p - f .blocks))
+  ];
+}

@@ -43,7 +43,8 @@ chosen-is : (s : SortingSection) → chosenJobs s ≡ jobsOfList (instanceOf s) 
 unfolding chosenJobs
 chosen-is s = refl
 
-pub planned : {s : SortingSection} {J M N : List ℕ} {b : Incumbent} {r : SortingPlan} → PlanSortingPre s M → J ≡ instanceOf s → search.Found J M N b → Written J b r → Planned s M N r
+pub planned : {s : SortingSection} {J M N : List ℕ} {b : Incumbent} {r : SortingPlan} → PlanSortingPre s M → J ≡ instanceOf s → search.Found J M N b
+    → Written J b r → Planned s M N r
 unfolding leastFigure
 planned {s} {J} {M} {N} {b} {r} h e f w = record {
   plan = w .exact ∙ ap writtenPlan e;

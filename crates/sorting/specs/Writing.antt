@@ -241,7 +241,8 @@ module _ {J : List ℕ} {b : Incumbent} {p : SortingPlan} {s : State} {digit : �
   pub loop-falls : {t : State} → Begun J b p s → 0 < s .left → digit ≡ b .path / 4 ^ (s .left - 1) % 4 → t ≡ stepOf J s (digit - 1) → t .left < s .left
   loop-falls {t} h l e f = omega (arith, ap (λ (x : State). x .left) f, step-left J s (digit - 1))
 
-  pub loop-more : {q : SortingPlan} {t : State} → Begun J b p s → 0 < s .left → digit ≡ b .path / 4 ^ (s .left - 1) % 4 → q ≡ withJob J s (digit - 1) p → t ≡ stepOf J s (digit - 1) → Begun J b q t
+  pub loop-more : {q : SortingPlan} {t : State} → Begun J b p s → 0 < s .left → digit ≡ b .path / 4 ^ (s .left - 1) % 4 → q ≡ withJob J s (digit - 1) p
+      → t ≡ stepOf J s (digit - 1) → Begun J b q t
   loop-more h l e f g = begun-more h (next h l e) f g
 
 pub begun-end : {J : List ℕ} {b : Incumbent} {p : SortingPlan} {s : State} → Begun J b p s → s .left ≤ 0 → Written J b p

@@ -1,9 +1,9 @@
 // The lower bound with every desk always free: a table over count vectors, behind the labels.
 ghost use mathlib.Core.Path.{_≡_};
-ghost use Prim.Native.Nat.{_+_, _≤_, _<_};
+ghost use Prim.Native.Nat.{_+_, _≤_, _<_, min};
 ghost use lib.ListN.{length};
 ghost use Rattle.interleaving.specs.Instance.{Instance};
-ghost use Rattle.sorting_bounds.specs.ScannerBound.{lesserOf, throughOf, entryOf, filledFrom, scannerBound};
+ghost use Rattle.sorting_bounds.specs.ScannerBound.{throughOf, entryOf, filledFrom, scannerBound};
 ghost use Rattle.sorting_bounds.specs.ScannerTable.{ScanSum, ThroughPre, ScannerEntryPre, ScannerBoundPre};
 ghost use Rattle.sorting_bounds.specs.DeskBound.{boundCap};
 ghost use Rattle.sheet.specs.Limits.{tableLength};
@@ -14,8 +14,9 @@ use interleaving::State;
 // An entry is at most this.
 const ENTRY_CAP: u64 = 1_099_511_627_776;
 
+// The lesser of two numbers.
 fn lesser(a: u64, b: u64) -> u64
-    ensures { λ r. ⌜ r ≡ lesserOf a b ⌝ }
+    ensures { λ r. ⌜ r ≡ min a b ⌝ }
 {
     if a < b { a } else { b }
 }

@@ -67,7 +67,8 @@ module _ {J M N O : List ℕ} where
         entries = f .entries;
       }
 
-  table-used : {P : List ℕ} {B : ℕ} → BestInterleavingPre J M → N ≡ noLabelsTo labelsLength M → O ≡ filledFrom J N 343 → P ≡ searchedTable J M → TableHolds J P B → SameFrom labelsLength O P → Used J M P B
+  table-used : {P : List ℕ} {B : ℕ} → BestInterleavingPre J M → N ≡ noLabelsTo labelsLength M → O ≡ filledFrom J N 343 → P ≡ searchedTable J M
+      → TableHolds J P B → SameFrom labelsLength O P → Used J M P B
   unfolding startTable SameFrom
   table-used {P} {B} h c e x t q = record {
     exact = x;
@@ -87,14 +88,16 @@ module _ {J M N O : List ℕ} {s : State} where
   search-pre-start h c f e = record { jobs = h .jobs; state = subst (Consistent J) (sym e) (consistent-start J (h .jobs)); table = table-start h c f }
 
   -- the search from there, by its definition
-  searched-is : {P : List ℕ} {g : ℕ} {r : Incumbent} → BestInterleavingPre J M → N ≡ noLabelsTo labelsLength M → O ≡ filledFrom J N 343 → s ≡ startState J → g ≡ greedyFigure J O s → Searched J s (aboveGreedy g) O P r → P ≡ searchedTable J M
+  searched-is : {P : List ℕ} {g : ℕ} {r : Incumbent} → BestInterleavingPre J M → N ≡ noLabelsTo labelsLength M → O ≡ filledFrom J N 343 → s ≡ startState J
+      → g ≡ greedyFigure J O s → Searched J s (aboveGreedy g) O P r → P ≡ searchedTable J M
   unfolding searchedTable startTable
   searched-is {P} {g} {r} h c f e w q =
       ap (λ (o : Outcome). o .table) (q .exact) ∙ ap (λ (x : State). cutSearch J (x .left) x (outcome (aboveGreedy g) O) .table) e
       ∙ ap (λ (x : ℕ). cutSearch J (startState J .left) (startState J) (outcome (aboveGreedy x) O) .table) (w ∙ ap (greedyFigure J O) e)
       ∙ ap (λ (x : List ℕ). cutSearch J (startState J .left) (startState J) (outcome (aboveGreedy (greedyFigure J x (startState J))) x) .table) (f ∙ ap (λ (x : List ℕ). filledFrom J x 343) c)
 
-  pub found : {P : List ℕ} {g : ℕ} {r : Incumbent} → BestInterleavingPre J M → N ≡ noLabelsTo labelsLength M → O ≡ filledFrom J N 343 → s ≡ startState J → (g ≡ greedyFigure J O s) × (g ≤ costCap) → Searched J s (aboveGreedy g) O P r → Found J M P r
+  pub found : {P : List ℕ} {g : ℕ} {r : Incumbent} → BestInterleavingPre J M → N ≡ noLabelsTo labelsLength M → O ≡ filledFrom J N 343 → s ≡ startState J
+      → (g ≡ greedyFigure J O s) × (g ≤ costCap) → Searched J s (aboveGreedy g) O P r → Found J M P r
   unfolding firstBest
   found {P} {g} {r} h c f e w q = record { found = first (greedy-figure (lower-bound-pre-start h c f e) w); table = table-used h c f (searched-is h c f e (w .0) q) (q .table) (q .behind) }
     where

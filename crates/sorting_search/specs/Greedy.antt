@@ -65,24 +65,28 @@ module _ (J : List ℕ) (s : State) where
   unfolding firstDesk
   first-is-0 e t = rw (← e, t)
 
-  pub first-is-1 : {q r : Bool} → q ≡ ltb (getD (s .taken) 0 0) (getD J 0 0) → q ≡ false → r ≡ ltb (getD (s .taken) 1 0) (getD J 1 0) → r ≡ true → 1 ≡ firstDesk J s
+  pub first-is-1 : {q r : Bool} → q ≡ ltb (getD (s .taken) 0 0) (getD J 0 0) → q ≡ false → r ≡ ltb (getD (s .taken) 1 0) (getD J 1 0) → r ≡ true
+      → 1 ≡ firstDesk J s
   unfolding firstDesk
   first-is-1 e t f u = rw (← e, t, ← f, u)
 
-  pub first-is-2 : {q r : Bool} → q ≡ ltb (getD (s .taken) 0 0) (getD J 0 0) → q ≡ false → r ≡ ltb (getD (s .taken) 1 0) (getD J 1 0) → r ≡ false → 2 ≡ firstDesk J s
+  pub first-is-2 : {q r : Bool} → q ≡ ltb (getD (s .taken) 0 0) (getD J 0 0) → q ≡ false → r ≡ ltb (getD (s .taken) 1 0) (getD J 1 0) → r ≡ false
+      → 2 ≡ firstDesk J s
   unfolding firstDesk
   first-is-2 e t f u = rw (← e, t, ← f, u)
 
 -- better_desk
 module _ (J M : List ℕ) (s : State) (chosen d : ℕ) where
-  pub better-other : {q : Bool} {n o : State} {x y : ℕ} → q ≡ ltb (getD (s .taken) d 0) (getD J d 0) → q ≡ true → n ≡ stepOf J s chosen → x ≡ boundOf J M n → o ≡ stepOf J s d → y ≡ boundOf J M o → y < x → d ≡ betterDesk J M s chosen d
+  pub better-other : {q : Bool} {n o : State} {x y : ℕ} → q ≡ ltb (getD (s .taken) d 0) (getD J d 0) → q ≡ true → n ≡ stepOf J s chosen → x ≡ boundOf J M n
+      → o ≡ stepOf J s d → y ≡ boundOf J M o → y < x → d ≡ betterDesk J M s chosen d
   unfolding betterDesk
   better-other {x = x} {y = y} e t n f o g l = rw (← e, t, lt-ltb (boundOf J M (stepOf J s d)) (boundOf J M (stepOf J s chosen)) smaller)
     where
       smaller : boundOf J M (stepOf J s d) < boundOf J M (stepOf J s chosen)
       smaller = omega (arith, f ∙ ap (boundOf J M) n, g ∙ ap (boundOf J M) o)
 
-  pub better-chosen : {q : Bool} {n o : State} {x y : ℕ} → q ≡ ltb (getD (s .taken) d 0) (getD J d 0) → q ≡ true → n ≡ stepOf J s chosen → x ≡ boundOf J M n → o ≡ stepOf J s d → y ≡ boundOf J M o → x ≤ y → chosen ≡ betterDesk J M s chosen d
+  pub better-chosen : {q : Bool} {n o : State} {x y : ℕ} → q ≡ ltb (getD (s .taken) d 0) (getD J d 0) → q ≡ true → n ≡ stepOf J s chosen → x ≡ boundOf J M n
+      → o ≡ stepOf J s d → y ≡ boundOf J M o → x ≤ y → chosen ≡ betterDesk J M s chosen d
   unfolding betterDesk
   better-chosen {x = x} {y = y} e t n f o g l = rw (← e, t, le-ltb (boundOf J M (stepOf J s d)) (boundOf J M (stepOf J s chosen)) larger)
     where
@@ -105,7 +109,8 @@ module _ {J : List ℕ} {s : State} {M : List ℕ} where
   unfolding firstDesk
   first-serves g = go (decLt (getD (s .taken) 0 0) (getD J 0 0)) (decLt (getD (s .taken) 1 0) (getD J 1 0))
     where
-      go : Dec (StripLeft J s 0) → Dec (StripLeft J s 1) → StepPre J s (cond (ltb (getD (s .taken) 0 0) (getD J 0 0)) 0 (cond (ltb (getD (s .taken) 1 0) (getD J 1 0)) 1 2))
+      go : Dec (StripLeft J s 0) → Dec (StripLeft J s 1)
+          → StepPre J s (cond (ltb (getD (s .taken) 0 0) (getD J 0 0)) 0 (cond (ltb (getD (s .taken) 1 0) (getD J 1 0)) 1 2))
       go (yes m) q = rw (lt-ltb _ _ m) (serve-at g (omega arith) m)
       go (no n) (yes m) = rw (le-ltb (getD (s .taken) 0 0) (getD J 0 0) (omega arith), lt-ltb (getD (s .taken) 1 0) (getD J 1 0) m) (serve-at g (omega arith) m)
       go (no n) (no o) =
@@ -120,7 +125,8 @@ module _ {J : List ℕ} {s : State} {M : List ℕ} where
       one true c = c
       one false c = h .serves
 
-      go : Dec (StripLeft J s d) → StepPre J s (cond (ltb (getD (s .taken) d 0) (getD J d 0)) (cond (ltb (boundOf J M (stepOf J s d)) (boundOf J M (stepOf J s chosen))) d chosen) chosen)
+      go : Dec (StripLeft J s d)
+          → StepPre J s (cond (ltb (getD (s .taken) d 0) (getD J d 0)) (cond (ltb (boundOf J M (stepOf J s d)) (boundOf J M (stepOf J s chosen))) d chosen) chosen)
       go (yes m) = rw (lt-ltb (getD (s .taken) d 0) (getD J d 0) m) (one (ltb (boundOf J M (stepOf J s d)) (boundOf J M (stepOf J s chosen))) (serve-at (h .going) (h .desk) m))
       go (no n) = rw (le-ltb (getD (s .taken) d 0) (getD J d 0) (omega arith)) (h .serves)
 
