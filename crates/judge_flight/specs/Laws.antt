@@ -10,15 +10,16 @@ use lib.Dec.{leb, eqb}
 use borrow.Author.Tests.{lt-ltb, le-ltb, le-leb, lt-leb, eq-eqb, ne-eqb, not-true, not-false}
 use Rattle.order.specs.Order.{isProper}
 use Rattle.order.specs.Decided.{proper-true}
+use Rattle.order.specs.Passes.{passAt}
+use Rattle.order.specs.PassLaws.{pass-known}
 use Rattle.sheet.specs.declared.FlightSection.{FlightSection}
 use Rattle.base.specs.Sums.{greatestOver}
-use Rattle.rules.specs.Flight.{noPasses, passesAt, passStart, passTime, passEnd, clearAt, passAt, flightFigure}
+use Rattle.rules.specs.Flight.{noPasses, passesAt, passStart, passTime, passEnd, clearAt, flightFigure}
 use Rattle.plan_format.specs.Format.{sizeOf, widthOf, passesForm}
 use Rattle.plan_read.specs.PlanRead.{passesFrom, blocksFrom, PassesRead}
 use Rattle.plan_read.specs.Laws.{member-at}
-use Rattle.running.specs.FunctionLaws.{PositionPre, TimeTold}
+use Rattle.running.specs.FunctionLaws.{TimeTold}
 use Rattle.rules.specs.declared.Passes.{Passes}
-use Rattle.rules_laws.specs.FlightRunning.{pass-known}
 use Rattle.judge_rules.specs.Follows.{passesInOrder, flightHead}
 use Rattle.judge_flight.specs.Starts.{startOf, endOf, StartAsked, StartTold, FigureTold, HeadAsked, PassesAsked, OrderAsked}
 
@@ -60,7 +61,7 @@ pub record OrderedSoFar (f : FlightSection) (order : ℕ) (ps : List Passes) (k 
   pub so-far : passesInOrder f order ps k ≡ true
 
 order-suc : (f : FlightSection) (order : ℕ) (ps : List Passes) (k : ℕ)
-    → passesInOrder f order ps (suc k) ≡ (passesInOrder f order ps k && leb (clearAt f ps (passAt f order k)) (passStart f ps (passAt f order (k + 1))))
+    → passesInOrder f order ps (suc k) ≡ (passesInOrder f order ps k && leb (clearAt f ps (passAt (f .blocks) order k)) (passStart f ps (passAt (f .blocks) order (k + 1))))
 unfolding passesInOrder
 order-suc f order ps k = refl
 
@@ -77,19 +78,19 @@ unfolding passesInOrder
 ordered-none f order ps = record { within = omega arith; so-far = refl }
 
 module _ (f : FlightSection) (order : ℕ) (plan : List ℕ) (at k : ℕ) (a : OrderAsked f order at) (t : OrderedSoFar f order (blocksFrom plan at (f .blocks)) k)
-    (less : k + 1 < 2 * f .blocks) (p q start end : ℕ) (ep : p ≡ passAt f order k) (eq : q ≡ passAt f order (k + 1))
+    (less : k + 1 < 2 * f .blocks) (p q start end : ℕ) (ep : p ≡ passAt (f .blocks) order k) (eq : q ≡ passAt (f .blocks) order (k + 1))
     (ts : StartTold (startOf plan at (f .blocks) q) start) (te : FigureTold (endOf f plan at p) end) where
   known-p : p < 2 * f .blocks
-  known-p = rw ep (pass-known f order (a .proper) k (omega arith))
+  known-p = rw ep (pass-known (a .proper) k (omega arith))
 
   known-q : q < 2 * f .blocks
-  known-q = rw eq (pass-known f order (a .proper) (k + 1) less)
+  known-q = rw eq (pass-known (a .proper) (k + 1) less)
 
-  end-there : end ≡ clearAt f (blocksFrom plan at (f .blocks)) (passAt f order k)
+  end-there : end ≡ clearAt f (blocksFrom plan at (f .blocks)) (passAt (f .blocks) order k)
   unfolding clearAt
   end-there = te .is ∙ end-is f plan at p known-p ∙ ap (passEnd f (blocksFrom plan at (f .blocks))) ep
 
-  start-there : start ≡ passStart f (blocksFrom plan at (f .blocks)) (passAt f order (k + 1))
+  start-there : start ≡ passStart f (blocksFrom plan at (f .blocks)) (passAt (f .blocks) order (k + 1))
   start-there = ts .is ∙ start-is f plan at q known-q ∙ ap (passStart f (blocksFrom plan at (f .blocks))) eq
 
   pub ordered-more : end ≤ start → OrderedSoFar f order (blocksFrom plan at (f .blocks)) (k + 1)
@@ -116,17 +117,17 @@ ordered-all f order ps k t h = sym (ap (passesInOrder f order ps) all ∙ t .so-
     all = let w = t .within in omega arith
 
 module _ (f : FlightSection) (order at k p : ℕ) (a : OrderAsked f order at) (less : k + 1 < 2 * f .blocks) where
-  pub this-position : PositionPre f order k
-  this-position = record { sound = a .sound; known = omega arith }
+  pub this-position : k < 64
+  this-position = omega (arith, a .sound .most-blocks)
 
-  pub next-position : PositionPre f order (k + 1)
-  next-position = record { sound = a .sound; known = less }
+  pub next-position : k + 1 < 64
+  next-position = omega (arith, a .sound .most-blocks)
 
-  pub next-start : p ≡ passAt f order (k + 1) → StartAsked at (f .blocks) p
-  next-start e = record { room = a .room; few = a .sound .most-blocks; known = rw e (pass-known f order (a .proper) (k + 1) less) }
+  pub next-start : p ≡ passAt (f .blocks) order (k + 1) → StartAsked at (f .blocks) p
+  next-start e = record { room = a .room; few = a .sound .most-blocks; known = rw e (pass-known (a .proper) (k + 1) less) }
 
-  pub this-end : p ≡ passAt f order k → PassesAsked f at p
-  this-end e = record { sound = a .sound; room = a .room; known = rw e (pass-known f order (a .proper) k (omega arith)) }
+  pub this-end : p ≡ passAt (f .blocks) order k → PassesAsked f at p
+  this-end e = record { sound = a .sound; room = a .room; known = rw e (pass-known (a .proper) k (omega arith)) }
 
 -- the greatest end of the first p passes
 pub record LatestSoFar (f : FlightSection) (ps : List Passes) (p value : ℕ) : Type 0 where

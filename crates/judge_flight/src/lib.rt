@@ -1,9 +1,9 @@
 // The passes of a plan's flight: whether they come in the order that its head states, one after another, and when the last one ends.
 // The first member of the flight stands at offset `at` of the plan.
 use base::greater;
+use order::pass_at;
 use plan_format::PASSES_SIZE;
 use plan_read::passes_from;
-use running::flight::pass_at;
 use running::flight::pass_time;
 use sheet::FlightSection;
 ghost use mathlib.Core.Path.{_≡_};
@@ -42,8 +42,8 @@ pub fn passes_in_order(f: FlightSection, order: u64, plan: &[u8], at: usize) -> 
     let n = f.blocks;
     let mut k: usize = 0;
     while k + 1 < 2 * n {
-        let p = pass_at(f, order, k);
-        let q = pass_at(f, order, k + 1);
+        let p = pass_at(f.blocks, order, k);
+        let q = pass_at(f.blocks, order, k + 1);
         if pass_start(plan, at, n, q) < pass_end(f, plan, at, p) {
             return false;
         }

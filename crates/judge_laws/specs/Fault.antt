@@ -8,7 +8,7 @@ use mathlib.Core.List.{List}
 use lib.Dec.{eqb}
 use Rattle.sheet.specs.Refusals.{layoutWrong, ruleBroken, figureUntrue}
 use Rattle.sheet.specs.Read.{readSheet}
-use Rattle.sheet.specs.Refused.{RefusedFor}
+use Rattle.sheet.specs.Table.{RefusedFor}
 use Rattle.sheet.specs.declared.Sheet.{Sheet}
 use Rattle.rules.specs.Mosaic.{mosaicFigure}
 use Rattle.rules.specs.Sorting.{sortingFigure}
@@ -71,7 +71,7 @@ pub data SectionFault (s : Sheet) (plan : List ℕ) (section : ℕ) : ℕ → �
 
 -- the first fault of a sheet and a plan
 pub data Fault (sheet plan : List ℕ) : ℕ → ℕ → Type 0 where
-  -- 3 to 10: a cause of the sheet, at the first field that has one (sheet, Table.antt)
+  -- 3 to 10: a cause of the sheet, at the first field that has one (sheet, Causes.antt and Table.antt)
   in-sheet : {number place : ℕ} → RefusedFor sheet number place → Fault sheet plan number place
   in-layout : {number place : ℕ} → readSheet sheet .number ≡ 0 → LayoutFault (readSheet sheet) plan place → number ≡ layoutWrong → Fault sheet plan number place
   in-section : {number place : ℕ} (section : ℕ) → readSheet sheet .number ≡ 0 → LaidOut (readSheet sheet) plan → 1 ≤ section → section ≤ 3

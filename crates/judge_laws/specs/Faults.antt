@@ -12,7 +12,8 @@ use Rattle.base.specs.Branch.{check}
 use Rattle.order.specs.Order.{Decides}
 use Rattle.sheet.specs.Refusals.{layoutWrong, ruleBroken, figureUntrue}
 use Rattle.sheet.specs.Read.{readSheet, refused}
-use Rattle.sheet.specs.Refused.{RefusedFor, refused-for, refused-is, sound-exactly}
+use Rattle.sheet.specs.Table.{RefusedFor}
+use Rattle.sheet.specs.Refused.{refused-for, refused-is, sound-exactly}
 use Rattle.sheet.specs.declared.Sheet.{Sheet}
 use Rattle.plan_read.specs.PlanRead.{figureFrom}
 use Rattle.judge_layout.specs.Layout.{verdict, layoutVerdict}

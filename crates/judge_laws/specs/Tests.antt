@@ -11,11 +11,12 @@ use lib.Dec.{leb, eqb}
 use borrow.Author.Tests.{lt-ltb, le-leb, eq-eqb, ltb-true, leb-true, eqb-true}
 use Rattle.base.specs.Branch.{both}
 use Rattle.order.specs.Decided.{proper-true, true-proper}
+use Rattle.order.specs.Passes.{passAt}
 use Rattle.sheet.specs.declared.MosaicSection.{MosaicSection}
 use Rattle.sheet.specs.declared.SortingSection.{SortingSection}
 use Rattle.sheet.specs.declared.FlightSection.{FlightSection}
 use Rattle.rules.specs.Sorting.{stripsOf}
-use Rattle.rules.specs.Flight.{passStart, clearAt, Clear, passAt}
+use Rattle.rules.specs.Flight.{passStart, clearAt, Clear}
 use Rattle.running.specs.Running.{BatchFollows, JobFollows, AllDone, BlockFollows, FlightHead}
 use Rattle.rules.specs.declared.Batch.{Batch}
 use Rattle.rules.specs.declared.Job.{Job}
@@ -134,18 +135,19 @@ module _ (s : SortingSection) (d : Desks) where
 
 -- the passes, one by one
 module _ (f : FlightSection) (order : ℕ) (ps : List Passes) where
-  order-each : (n : ℕ) → passesInOrder f order ps n ≡ true → (k : ℕ) → k < n → Clear f ps (passAt f order k) (passAt f order (k + 1))
+  order-each : (n : ℕ) → passesInOrder f order ps n ≡ true → (k : ℕ) → k < n → Clear f ps (passAt (f .blocks) order k) (passAt (f .blocks) order (k + 1))
   unfolding passesInOrder
   order-each zero e k h = absurd (omega arith)
   order-each (suc n) e k h = go (ℕ-discrete k n) (both _ _ e) (order-each n)
     where
-      go : Dec (k ≡ n) → (passesInOrder f order ps n ≡ true) × (leb (clearAt f ps (passAt f order n)) (passStart f ps (passAt f order (n + 1))) ≡ true)
-          → (passesInOrder f order ps n ≡ true → (i : ℕ) → i < n → Clear f ps (passAt f order i) (passAt f order (i + 1)))
-          → Clear f ps (passAt f order k) (passAt f order (k + 1))
-      go (yes q) p ih = subst (λ (i : ℕ). Clear f ps (passAt f order i) (passAt f order (i + 1))) (sym q) (leb-true _ _ (p .1))
+      go : Dec (k ≡ n)
+          → (passesInOrder f order ps n ≡ true) × (leb (clearAt f ps (passAt (f .blocks) order n)) (passStart f ps (passAt (f .blocks) order (n + 1))) ≡ true)
+          → (passesInOrder f order ps n ≡ true → (i : ℕ) → i < n → Clear f ps (passAt (f .blocks) order i) (passAt (f .blocks) order (i + 1)))
+          → Clear f ps (passAt (f .blocks) order k) (passAt (f .blocks) order (k + 1))
+      go (yes q) p ih = subst (λ (i : ℕ). Clear f ps (passAt (f .blocks) order i) (passAt (f .blocks) order (i + 1))) (sym q) (leb-true _ _ (p .1))
       go (no q) p ih = ih (p .0) k (omega arith)
 
-  each-order : (n : ℕ) → ((k : ℕ) → k < n → Clear f ps (passAt f order k) (passAt f order (k + 1))) → passesInOrder f order ps n ≡ true
+  each-order : (n : ℕ) → ((k : ℕ) → k < n → Clear f ps (passAt (f .blocks) order k) (passAt (f .blocks) order (k + 1))) → passesInOrder f order ps n ≡ true
   unfolding passesInOrder
   each-order zero h = refl
   each-order (suc n) h = all-of _ _ (each-order n (λ k l. h k (omega arith))) (le-leb _ _ (h n (omega arith)))

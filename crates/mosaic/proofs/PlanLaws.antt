@@ -12,8 +12,8 @@ use Rattle.rules.specs.Mosaic.{ready, benchSum}
 use Rattle.mosaic.specs.Least.{instanceOf}
 use Rattle.mosaic.specs.Chosen.{chosenBatches}
 use Rattle.mosaic.specs.Plan.{entry, batchesOf, Planned}
-use Rattle.batching.specs.Tables.{lateLength, instanceIn, Input, LatePre, LateFilled}
-use Rattle.mosaic.specs.Tables.{BatchesPre, BatchesTaken, ReadyTimes, BenchSums}
+use Rattle.batching.specs.Tables.{lateLength, instanceIn, Input, FillLatePre, LateFilled}
+use Rattle.mosaic.specs.Tables.{ChooseBatchesPre, BatchesTaken, ReadyTimes, BenchSums}
 use Rattle.mosaic.specs.Laws.Rules.{bench-upto, bench-most, ready-most, weight-count}
 use Rattle.batching.specs.Alike.{Alike, least-same, chosen-same}
 use Rattle.mosaic.specs.Laws.Whole.{least-is, chosen-is}
@@ -57,10 +57,10 @@ module _ {m : MosaicSection} (S : MosaicSound m) {rs sums : List ℕ} (R : Ready
   }
 
   -- `late` holds zeros before it is filled
-  pub late-pre : LatePre rs sums (replicate lateLength 0) (m .mount) (m .strips)
+  pub late-pre : FillLatePre rs sums (replicate lateLength 0) (m .mount) (m .strips)
   late-pre = record { input = input-is; late-long = omega (arith, length-replicate {A = ℕ} lateLength 0) }
 
-  pub batches-pre : {late : List ℕ} → LateFilled rs sums (replicate lateLength 0) late (m .mount) (m .strips) → BatchesPre rs sums late (m .mount) (m .strips)
+  pub batches-pre : {late : List ℕ} → LateFilled rs sums (replicate lateLength 0) late (m .mount) (m .strips) → ChooseBatchesPre rs sums late (m .mount) (m .strips)
   batches-pre L = record { input = input-is; all = L .all; late-long = omega (arith, L .len, length-replicate {A = ℕ} lateLength 0) }
 
   pub planned : {p : MosaicPlan} → BatchesTaken rs sums (m .mount) (m .strips) p → Planned m p

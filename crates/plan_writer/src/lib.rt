@@ -21,7 +21,7 @@ use plan_format::MOSAIC_HEAD_SIZE;
 use plan_format::PASSES_SIZE;
 use plan_format::SORTING_HEAD_SIZE;
 use sheet::Sheet;
-use sheet_checks::strips_in_all;
+use sheet::desks::strips_in_all;
 use sorting::SortingPlan;
 
 fn put_mosaic_batches(d: &mut [u8], at: usize, p: MosaicPlan)

@@ -55,7 +55,7 @@ sum-end {J} {d} {n} {sum} {i} s l = record { is = s .is ∙ ap (scanSum J d) (sa
     same s l = omega (arith, s .within)
 
 -- through: strip i of desk d, scanned from a time on, with the rest behind it
-pub record Strip (J : List ℕ) (t d i rest : ℕ) : Type 0 where
+pub record ThroughPre (J : List ℕ) (t d i rest : ℕ) : Type 0 where
   pub jobs : Instance J
   pub desk : d < 3
   pub most : i ≤ 6
@@ -74,7 +74,7 @@ pub record StripSums (J : List ℕ) (time d i next : ℕ) : Type 0 where
   pub desk : deskOf J d i ≤ timeCap
   pub weighted : weightOf J d i * (time + scanOf J d i + deskOf J d i) ≤ 1024 * (scannerCap + 2 * timeCap)
 
-pub strip-sums : {J : List ℕ} {time d i next : ℕ} → Strip J time d i next → StripSums J time d i next
+pub strip-sums : {J : List ℕ} {time d i next : ℕ} → ThroughPre J time d i next → StripSums J time d i next
 strip-sums {J} {time} {d} {i} h = record {
   size = h .jobs .size;
   place = omega (arith, h .desk, h .most);
@@ -97,11 +97,11 @@ lesser-least a b = go (decLt a b)
     go (yes l) = rw (lt-ltb a b l) (omega arith, omega arith)
     go (no l) = rw (le-ltb a b (omega arith)) (omega arith, omega arith)
 
-pub through-none : {J : List ℕ} {t d i rest : ℕ} → Strip J t d i rest → getD J d 0 ≤ i → entryCap ≡ throughOf J t d i rest
+pub through-none : {J : List ℕ} {t d i rest : ℕ} → ThroughPre J t d i rest → getD J d 0 ≤ i → entryCap ≡ throughOf J t d i rest
 unfolding throughOf
 through-none {J} {t} {d} {i} h l = rw (le-leb (getD J d 0) i l)
 
-pub through-some : {J : List ℕ} {t d i rest r : ℕ} → Strip J t d i rest → i < getD J d 0 → r ≡ lesserOf (weightOf J d i * (t + scanOf J d i + deskOf J d i) + rest) entryCap → r ≡ throughOf J t d i rest
+pub through-some : {J : List ℕ} {t d i rest r : ℕ} → ThroughPre J t d i rest → i < getD J d 0 → r ≡ lesserOf (weightOf J d i * (t + scanOf J d i + deskOf J d i) + rest) entryCap → r ≡ throughOf J t d i rest
 unfolding throughOf share
 through-some {J} {t} {d} {i} h l e = rw (lt-leb (getD J d 0) i l) e
 
@@ -114,7 +114,7 @@ through-of J t d i rest = go (decLt i (getD J d 0))
     go (no l) = rw (le-leb (getD J d 0) i (omega arith)) (record { capped = le-refl _; least = λ m. absurd (l m) })
 
 -- scanner_entry
-pub record Entering (J M : List ℕ) (k : ℕ) : Type 0 where
+pub record ScannerEntryPre (J M : List ℕ) (k : ℕ) : Type 0 where
   pub jobs : Instance J
   pub key : k < 343
   pub size : length M ≡ tableLength
@@ -123,7 +123,7 @@ pub record Entering (J M : List ℕ) (k : ℕ) : Type 0 where
   pub second-few : getD J 1 0 ≤ 6
   pub third-few : getD J 2 0 ≤ 6
 
-pub enter-first : {J M : List ℕ} {k a b c : ℕ} → Entering J M k → ScanSum J 0 (firstCount k) a → ScanSum J 1 (secondCount k) b → ScanSum J 2 (thirdCount k) c → Strip J (a + b + c) 0 (firstCount k) (entryAt M (k + 49))
+pub enter-first : {J M : List ℕ} {k a b c : ℕ} → ScannerEntryPre J M k → ScanSum J 0 (firstCount k) a → ScanSum J 1 (secondCount k) b → ScanSum J 2 (thirdCount k) c → ThroughPre J (a + b + c) 0 (firstCount k) (entryAt M (k + 49))
 unfolding EntriesFrom
 enter-first {J} {M} {k} e p q s = record {
   jobs = e .jobs;
@@ -133,7 +133,7 @@ enter-first {J} {M} {k} e p q s = record {
   next = λ l. e .behind (k + 49) (omega arith) (omega (arith, e .key, e .first-few, e .second-few, e .third-few)) .capped;
 }
 
-pub enter-second : {J M : List ℕ} {k a b c : ℕ} → Entering J M k → ScanSum J 0 (firstCount k) a → ScanSum J 1 (secondCount k) b → ScanSum J 2 (thirdCount k) c → Strip J (a + b + c) 1 (secondCount k) (entryAt M (k + 7))
+pub enter-second : {J M : List ℕ} {k a b c : ℕ} → ScannerEntryPre J M k → ScanSum J 0 (firstCount k) a → ScanSum J 1 (secondCount k) b → ScanSum J 2 (thirdCount k) c → ThroughPre J (a + b + c) 1 (secondCount k) (entryAt M (k + 7))
 unfolding EntriesFrom
 enter-second {J} {M} {k} e p q s = record {
   jobs = e .jobs;
@@ -143,7 +143,7 @@ enter-second {J} {M} {k} e p q s = record {
   next = λ l. e .behind (k + 7) (omega arith) (omega (arith, e .key, e .first-few, e .second-few, e .third-few)) .capped;
 }
 
-pub enter-third : {J M : List ℕ} {k a b c : ℕ} → Entering J M k → ScanSum J 0 (firstCount k) a → ScanSum J 1 (secondCount k) b → ScanSum J 2 (thirdCount k) c → Strip J (a + b + c) 2 (thirdCount k) (entryAt M (k + 1))
+pub enter-third : {J M : List ℕ} {k a b c : ℕ} → ScannerEntryPre J M k → ScanSum J 0 (firstCount k) a → ScanSum J 1 (secondCount k) b → ScanSum J 2 (thirdCount k) c → ThroughPre J (a + b + c) 2 (thirdCount k) (entryAt M (k + 1))
 unfolding EntriesFrom
 enter-third {J} {M} {k} e p q s = record {
   jobs = e .jobs;
@@ -157,11 +157,11 @@ time-at : {J : List ℕ} (k : ℕ) {a b c : ℕ} → ScanSum J 0 (firstCount k) 
 unfolding timeAt
 time-at k p q s = rw (p .is, q .is, s .is)
 
-pub entry-none : {J M : List ℕ} {k : ℕ} → Entering J M k → getD J 0 0 + getD J 1 0 + getD J 2 0 ≤ firstCount k + secondCount k + thirdCount k → 0 ≡ entryOf J M k
+pub entry-none : {J M : List ℕ} {k : ℕ} → ScannerEntryPre J M k → getD J 0 0 + getD J 1 0 + getD J 2 0 ≤ firstCount k + secondCount k + thirdCount k → 0 ≡ entryOf J M k
 unfolding entryOf
 entry-none {J} {M} {k} e l = rw (le-leb (getD J 0 0 + getD J 1 0 + getD J 2 0) (firstCount k + secondCount k + thirdCount k) l)
 
-pub entry-some : {J M : List ℕ} {k t a b c x y z u r : ℕ} → Entering J M k → r ≡ lesserOf u z → u ≡ lesserOf x y → x ≡ throughOf J t 0 (firstCount k) (entryAt M (k + 49)) → y ≡ throughOf J t 1 (secondCount k) (entryAt M (k + 7)) → z ≡ throughOf J t 2 (thirdCount k) (entryAt M (k + 1))
+pub entry-some : {J M : List ℕ} {k t a b c x y z u r : ℕ} → ScannerEntryPre J M k → r ≡ lesserOf u z → u ≡ lesserOf x y → x ≡ throughOf J t 0 (firstCount k) (entryAt M (k + 49)) → y ≡ throughOf J t 1 (secondCount k) (entryAt M (k + 7)) → z ≡ throughOf J t 2 (thirdCount k) (entryAt M (k + 1))
     → ScanSum J 0 (firstCount k) a → ScanSum J 1 (secondCount k) b → ScanSum J 2 (thirdCount k) c → t ≡ a + b + c
     → firstCount k + secondCount k + thirdCount k < getD J 0 0 + getD J 1 0 + getD J 2 0 → r ≡ entryOf J M k
 unfolding entryOf
@@ -259,7 +259,7 @@ pub filling-start : {J M : List ℕ} → Instance J × (length M ≡ tableLength
 unfolding filledFrom
 filling-start h = record { start = h .1; size = h .1; within = le-refl _; is = refl }
 
-pub filling-enter : {J M₀ M : List ℕ} {k : ℕ} → Instance J × (length M₀ ≡ tableLength) → Filling J M₀ M k → 0 < k → Entering J M (k - 1)
+pub filling-enter : {J M₀ M : List ℕ} {k : ℕ} → Instance J × (length M₀ ≡ tableLength) → Filling J M₀ M k → 0 < k → ScannerEntryPre J M (k - 1)
 filling-enter {J} {M₀} {M} {k} j f l = record {
   jobs = j .0;
   key = omega (arith, f .within);
@@ -295,16 +295,16 @@ filling-end {J} {M₀} {M} {k} f l = f .is ∙ ap (filledFrom J M₀) (all l)
     all l = omega arith
 
 -- scanner_bound
-pub record Bounding (J : List ℕ) (s : State) (k : ℕ) (M : List ℕ) : Type 0 where
+pub record ScannerBoundPre (J : List ℕ) (s : State) (k : ℕ) (M : List ℕ) : Type 0 where
   pub state : Consistent J s
   pub key : k ≡ countKey s
   pub small : k < 343
   pub size : length M ≡ tableLength
   pub entries : EntriesFrom J M 0
 
-pub bounding-small : {J : List ℕ} {s : State} {k : ℕ} {M : List ℕ} → Bounding J s k M → s .cost + entryAt M k ≤ boundCap
+pub scanner-bound-small : {J : List ℕ} {s : State} {k : ℕ} {M : List ℕ} → ScannerBoundPre J s k M → s .cost + entryAt M k ≤ boundCap
 unfolding EntriesFrom
-bounding-small {J} {s} {k} {M} h = omega (arith, h .state .fits .cost, h .entries k (omega arith) (h .small) .capped)
+scanner-bound-small {J} {s} {k} {M} h = omega (arith, h .state .fits .cost, h .entries k (omega arith) (h .small) .capped)
 
-pub bounding-is : {J : List ℕ} {s : State} {k : ℕ} {M : List ℕ} → Bounding J s k M → (s .cost + entryAt M k ≡ scannerBound M s) × (s .cost + entryAt M k ≤ boundCap)
-bounding-is {J} {s} {k} {M} h = (ap (λ (x : ℕ). s .cost + entryAt M x) (h .key), bounding-small h)
+pub scanner-bound-is : {J : List ℕ} {s : State} {k : ℕ} {M : List ℕ} → ScannerBoundPre J s k M → (s .cost + entryAt M k ≡ scannerBound M s) × (s .cost + entryAt M k ≤ boundCap)
+scanner-bound-is {J} {s} {k} {M} h = (ap (λ (x : ℕ). s .cost + entryAt M x) (h .key), scanner-bound-small h)

@@ -23,13 +23,13 @@ mul-loop : tie.Need-mul-loop Inv-loop μ-loop
 mul-loop c = search needs
 
 pass-at-requires : tie.Need-pass-at-requires Inv-loop μ-loop
-pass-at-requires c κs = search this-position
+pass-at-requires c κs = (search needs, search this-position)
 
 add-pass-at : tie.Need-add-pass-at Inv-loop μ-loop
 add-pass-at c = search needs
 
 pass-at-requires-2 : tie.Need-pass-at-requires-2 Inv-loop μ-loop
-pass-at-requires-2 c κs = search next-position
+pass-at-requires-2 c κs = (search needs, search next-position)
 
 pass-start-requires : tie.Need-pass-start-requires Inv-loop μ-loop
 pass-start-requires c κs = search next-start
