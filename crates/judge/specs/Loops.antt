@@ -34,7 +34,8 @@ pub record StatedAsked (s : Sheet) (plan : List ℕ) (section head : ℕ) : Type
   pub here : head ≡ partAt s plan section .head
 
 -- the part that is picked is the plan's
-pub picked : (s : Sheet) (plan : List ℕ) (section : ℕ) (mosaic sorting flight part : Part) → VerdictAsked s plan mosaic sorting flight → part ≡ pickPart section mosaic sorting flight → part ≡ partAt s plan section
+pub picked : (s : Sheet) (plan : List ℕ) (section : ℕ) (mosaic sorting flight part : Part) → VerdictAsked s plan mosaic sorting flight
+    → part ≡ pickPart section mosaic sorting flight → part ≡ partAt s plan section
 unfolding partAt
 picked s plan section mosaic sorting flight part a e = e ∙ rw (a .mosaic-is, a .sorting-is, a .flight-is)
 
@@ -80,11 +81,13 @@ pub record Outer (s : Sheet) (plan : List ℕ) (section : ℕ) : Type 0 where
 pub outer-start : (s : Sheet) (plan : List ℕ) → Outer s plan 1
 outer-start s plan = record { low = omega arith; high = omega arith; same = refl }
 
-pub sections-next : (left : ℕ) (s : Sheet) (plan : List ℕ) (section : ℕ) → sectionVerdict s plan section .number ≡ 0 → sectionsFrom (suc left) s plan section ≡ sectionsFrom left s plan (section + 1)
+pub sections-next : (left : ℕ) (s : Sheet) (plan : List ℕ) (section : ℕ) → sectionVerdict s plan section .number ≡ 0
+    → sectionsFrom (suc left) s plan section ≡ sectionsFrom left s plan (section + 1)
 unfolding sectionsFrom
 sections-next left s plan section e = rw (eq-eqb _ _ e, sectionsFrom)
 
-pub sections-stop : (left : ℕ) (s : Sheet) (plan : List ℕ) (section : ℕ) → (sectionVerdict s plan section .number ≡ 0 → ⊥) → sectionsFrom (suc left) s plan section ≡ sectionVerdict s plan section
+pub sections-stop : (left : ℕ) (s : Sheet) (plan : List ℕ) (section : ℕ) → (sectionVerdict s plan section .number ≡ 0 → ⊥)
+    → sectionsFrom (suc left) s plan section ≡ sectionVerdict s plan section
 unfolding sectionsFrom
 sections-stop left s plan section e = rw (ne-eqb _ _ e, sectionsFrom)
 
@@ -132,23 +135,31 @@ pub record Inner (s : Sheet) (plan : List ℕ) (section : ℕ) (part : Part) (k 
   pub kept : Kept p
   pub same : sectionFrom (part .members - k) s plan section part k p ≡ sectionVerdict s plan section
 
-pub section-here : (s : Sheet) (plan : List ℕ) (section : ℕ) (part : Part) → part ≡ partAt s plan section → present s section ≡ true → sectionFrom (part .members) s plan section part 0 begun ≡ sectionVerdict s plan section
+pub section-here : (s : Sheet) (plan : List ℕ) (section : ℕ) (part : Part) → part ≡ partAt s plan section → present s section ≡ true
+    → sectionFrom (part .members) s plan section part 0 begun ≡ sectionVerdict s plan section
 unfolding sectionVerdict
 section-here s plan section part e h = rw (h, e)
 
-pub member-next : (left : ℕ) (s : Sheet) (plan : List ℕ) (section : ℕ) (part : Part) (k : ℕ) (p : Progress) → memberFollows s plan section k (memberPlace section (part .head) k) p ≡ true → sectionFrom (suc left) s plan section part k p ≡ sectionFrom left s plan section part (k + 1) (afterMember s plan section (memberPlace section (part .head) k) p)
+pub member-next : (left : ℕ) (s : Sheet) (plan : List ℕ) (section : ℕ) (part : Part) (k : ℕ) (p : Progress)
+    → memberFollows s plan section k (memberPlace section (part .head) k) p ≡ true
+    → sectionFrom (suc left) s plan section part k p ≡ sectionFrom left s plan section part (k + 1) (afterMember s plan section (memberPlace section (part .head) k) p)
 unfolding sectionFrom
 member-next left s plan section part k p e = rw (e, sectionFrom)
 
-pub member-wrong : (left : ℕ) (s : Sheet) (plan : List ℕ) (section : ℕ) (part : Part) (k : ℕ) (p : Progress) → memberFollows s plan section k (memberPlace section (part .head) k) p ≡ false → sectionFrom (suc left) s plan section part k p ≡ verdict ruleBroken (memberPlace section (part .head) k)
+pub member-wrong : (left : ℕ) (s : Sheet) (plan : List ℕ) (section : ℕ) (part : Part) (k : ℕ) (p : Progress)
+    → memberFollows s plan section k (memberPlace section (part .head) k) p ≡ false
+    → sectionFrom (suc left) s plan section part k p ≡ verdict ruleBroken (memberPlace section (part .head) k)
 unfolding sectionFrom
 member-wrong left s plan section part k p e = rw (e, sectionFrom)
 
-pub members-judged : (s : Sheet) (plan : List ℕ) (section : ℕ) (part : Part) (k : ℕ) (p : Progress) → sectionFrom 0 s plan section part k p ≡ verdict (headNumber s plan section part p) (part .head)
+pub members-judged : (s : Sheet) (plan : List ℕ) (section : ℕ) (part : Part) (k : ℕ) (p : Progress)
+    → sectionFrom 0 s plan section part k p ≡ verdict (headNumber s plan section part p) (part .head)
 unfolding sectionFrom
 members-judged s plan section part k p = refl
 
-pub inner-start : (s : Sheet) (plan : List ℕ) (section : ℕ) (part mosaic sorting flight : Part) (p : Progress) (x : Bool) → Outer s plan section → section ≤ 3 → x ≡ present s section → not x ≡ false → PartsAsked s plan mosaic sorting flight → length plan * 1 < 2 ^ 63 → part ≡ pickPart section mosaic sorting flight → p ≡ begun → Inner s plan section part 0 p
+pub inner-start : (s : Sheet) (plan : List ℕ) (section : ℕ) (part mosaic sorting flight : Part) (p : Progress) (x : Bool) → Outer s plan section → section ≤ 3
+    → x ≡ present s section → not x ≡ false → PartsAsked s plan mosaic sorting flight → length plan * 1 < 2 ^ 63 → part ≡ pickPart section mosaic sorting flight
+    → p ≡ begun → Inner s plan section part 0 p
 inner-start s plan section part mosaic sorting flight p x o h ex hx a small ep eb =
     let e = picked s plan section mosaic sorting flight part (a .parts) ep in
     record {
@@ -253,7 +264,8 @@ module _ (s : Sheet) (plan : List ℕ) (section head : ℕ) (a : StatedAsked s p
   unfolding statedFigure
   stated-here figure h e = e ∙ rw (← ex, not-false x h, a .here)
 
-module _ (s : Sheet) (plan : List ℕ) (mosaic sorting flight : Part) (em : mosaic ≡ mosaicPart s plan) (es : sorting ≡ sortingPart s plan) (ef : flight ≡ flightPart s plan) where
+module _ (s : Sheet) (plan : List ℕ) (mosaic sorting flight : Part) (em : mosaic ≡ mosaicPart s plan) (es : sorting ≡ sortingPart s plan)
+    (ef : flight ≡ flightPart s plan) where
   pub stated-mosaic : SheetSound s → StatedAsked s plan 1 (mosaic .head)
   unfolding partAt pickPart
   stated-mosaic sound = record { sound = sound; here = ap (λ p. p .head) em }
@@ -276,7 +288,9 @@ module _ (s : Sheet) (plan : List ℕ) (layout : Verdict) (el : layout ≡ layou
     unfolding judgedPlan concluded
     section-wrong r h e = e ∙ rw (← el, eq-eqb _ _ hl, ← ev, ne-eqb _ _ h)
 
-    pub all-right : (mosaic sorting flight : ℕ) → v .number ≡ 0 → mosaic ≡ statedFigure s plan 1 → sorting ≡ statedFigure s plan 2 → flight ≡ statedFigure s plan 3 → _≡_ {A = Judged} (record { number = 0; place = 0; mosaic = mosaic; sorting = sorting; flight = flight }) (judgedPlan s plan)
+    pub all-right : (mosaic sorting flight : ℕ) → v .number ≡ 0 → mosaic ≡ statedFigure s plan 1 → sorting ≡ statedFigure s plan 2
+        → flight ≡ statedFigure s plan 3
+        → _≡_ {A = Judged} (record { number = 0; place = 0; mosaic = mosaic; sorting = sorting; flight = flight }) (judgedPlan s plan)
     unfolding judgedPlan concluded found
     all-right mosaic sorting flight h e₁ e₂ e₃ = rw (← el, eq-eqb _ _ hl, ← ev, eq-eqb _ _ h, e₁, e₂, e₃)
 
@@ -292,7 +306,8 @@ module _ (sheet plan : List ℕ) (s : Sheet) (es : s ≡ readSheet sheet) where
   pub sheet-sound : s .number ≡ 0 → SheetSound s
   sheet-sound h = rw es (read-sound sheet (sym (ap (λ x. x .number) es) ∙ h))
 
-pub sorting-at : (s : Sheet) (plan : List ℕ) (mosaic : Part) → SheetSound s → mosaic ≡ mosaicPart s plan → (SortingSound (s .sorting)) × (mosaic .end ≡ mosaicPart s plan .end)
+pub sorting-at : (s : Sheet) (plan : List ℕ) (mosaic : Part) → SheetSound s → mosaic ≡ mosaicPart s plan
+    → (SortingSound (s .sorting)) × (mosaic .end ≡ mosaicPart s plan .end)
 sorting-at s plan mosaic sound e = (sound .sorting, ap (λ p. p .end) e)
 
 pub flight-at : (s : Sheet) (plan : List ℕ) (sorting : Part) → sorting ≡ sortingPart s plan → sorting .end ≡ sortingPart s plan .end

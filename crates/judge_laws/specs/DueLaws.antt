@@ -57,7 +57,8 @@ module _ (s : Sheet) (plan : List ℕ) where
           (ih (record { fields = suc (p .fields); due = DueUpTo.more (memberTag k) (memberLength k) (p .due) (is-field-true (fieldAt plan at) (memberTag k) (memberLength k) e) (Due.member l refl refl) }))
       go false e ih = subst (λ (i : ℕ). Passed i k) (omega (arith, mul-comm 0 (3 + memberLength k))) p
 
-run-stops : (turns : ℕ) (plan : List ℕ) (at tag len : ℕ) → length plan ≤ turns + at → isField (fieldAt plan (at + run turns plan at tag len * (3 + len))) tag len ≡ false
+run-stops : (turns : ℕ) (plan : List ℕ) (at tag len : ℕ) → length plan ≤ turns + at
+    → isField (fieldAt plan (at + run turns plan at tag len * (3 + len))) tag len ≡ false
 unfolding run
 run-stops zero plan at tag len h = end-none plan (at + 0 * (3 + len)) tag len (omega (arith, mul-comm 0 (3 + len)))
 run-stops (suc turns) plan at tag len h = go (isField (fieldAt plan at) tag len) refl (run-stops turns plan (at + (3 + len)) tag len)
@@ -86,8 +87,10 @@ partNumbered s plan at j = partOf (present s j) plan at (headTag j) (headLength 
 
 data PartCase (s : Sheet) (plan : List ℕ) (at j : ℕ) : Part → Type 0 where
   absent : present s j ≡ false → PartCase s plan at j (record { right = true; head = at; members = 0; end = at })
-  no-head : present s j ≡ true → isField (fieldAt plan at) (headTag j) (headLength j) ≡ false → PartCase s plan at j (record { right = false; head = at; members = 0; end = at })
-  found : present s j ≡ true → isField (fieldAt plan at) (headTag j) (headLength j) ≡ true → PartCase s plan at j (partFrom plan at (headLength j) (memberTag j) (memberLength j))
+  no-head : present s j ≡ true → isField (fieldAt plan at) (headTag j) (headLength j) ≡ false
+      → PartCase s plan at j (record { right = false; head = at; members = 0; end = at })
+  found : present s j ≡ true → isField (fieldAt plan at) (headTag j) (headLength j) ≡ true
+      → PartCase s plan at j (partFrom plan at (headLength j) (memberTag j) (memberLength j))
 
 part-case : (s : Sheet) (plan : List ℕ) (at j : ℕ) → PartCase s plan at j (partNumbered s plan at j)
 unfolding partOf
@@ -164,7 +167,8 @@ module _ (s : Sheet) (plan : List ℕ) where
     part-passed l p (PartCase.no-head a h) r = absurd (true≢false (sym r))
     part-passed l p (PartCase.found a h) r = found-behind l a h
 
-    head-missing : k < 3 → present s (suc k) ≡ true → isField (fieldAt plan at) (headTag (suc k)) (headLength (suc k)) ≡ false → Dec (at < length plan) → LayoutFault s plan at
+    head-missing : k < 3 → present s (suc k) ≡ true → isField (fieldAt plan at) (headTag (suc k)) (headLength (suc k)) ≡ false → Dec (at < length plan)
+        → LayoutFault s plan at
     unfolding NoneDue
     head-missing l p h (yes a) = LayoutFault.wrong-field (st .fields) (st .section) (st .due) a none-due
       where
@@ -184,7 +188,8 @@ module _ (s : Sheet) (plan : List ℕ) where
     part-fault l p (PartCase.found a h) r = absurd (true≢false r)
 
   -- a section that is found stands where it is due
-  section-found : (k at : ℕ) → Standing k at → k < 3 → (p : Part) → PartCase s plan at (suc k) p → p .right ≡ true → present s (suc k) ≡ true → SectionAt s plan (suc k) (p .head) (p .members)
+  section-found : (k at : ℕ) → Standing k at → k < 3 → (p : Part) → PartCase s plan at (suc k) p → p .right ≡ true → present s (suc k) ≡ true
+      → SectionAt s plan (suc k) (p .head) (p .members)
   unfolding partFrom
   section-found k at st l p (PartCase.absent a) r h = absurd (true≢false (sym h ∙ a))
   section-found k at st l p (PartCase.no-head a n) r h = absurd (true≢false (sym r))
@@ -255,7 +260,8 @@ module _ (s : Sheet) (plan : List ℕ) where
       found-wrong a b c d =
           cond a (cond b (cond c (cond d (verdict 0 0) (verdict layoutWrong (flightPart s plan .end))) (verdict layoutWrong (flightPart s plan .head))) (verdict layoutWrong (sortingPart s plan .head))) (verdict layoutWrong (mosaicPart s plan .head))
 
-      go : (a : Bool) → mosaicPart s plan .right ≡ a → (b : Bool) → sortingPart s plan .right ≡ b → (c : Bool) → flightPart s plan .right ≡ c → (d : Bool) → eqb (flightPart s plan .end) (length plan) ≡ d
+      go : (a : Bool) → mosaicPart s plan .right ≡ a → (b : Bool) → sortingPart s plan .right ≡ b → (c : Bool) → flightPart s plan .right ≡ c → (d : Bool)
+          → eqb (flightPart s plan .end) (length plan) ≡ d
           → (found-wrong a b c d .number ≡ 0 → ⊥) → (found-wrong a b c d .number ≡ layoutWrong) × LayoutFault s plan (found-wrong a b c d .place)
       go false p b q c r d t h = (refl, part-fault 0 0 stand-start (omega arith) (mosaicPart s plan) mosaic-case p)
       go true p false q c r d t h = (refl, part-fault 1 (mosaicPart s plan .end) (after-mosaic p) (omega arith) (sortingPart s plan) sorting-case q)

@@ -29,7 +29,7 @@ use sheet::desks::strips_in_all;
 use sheet::numbers::FIGURE_UNTRUE;
 use sheet::numbers::RULE_BROKEN;
 ghost use mathlib.Core.Path.{_≡_};
-ghost use Prim.Native.Nat.{_+_, _*_, _<_, _^_};
+ghost use Prim.Native.Nat.{_+_, _*_, _<_};
 ghost use Rattle.sheet.specs.Sound.{SheetSound};
 ghost use Rattle.plan_format.specs.Format.{sizeOf};
 ghost use Rattle.plan_read.specs.PlanRead.{figureFrom};

@@ -34,7 +34,8 @@ number-first (suc width) value post h =
     let rest : numberAt (value % 256 ∷ bytesOf width (value / 256) ++ post) 1 width ≡ numberAt (bytesOf width (value / 256) ++ post) 0 width = number-append (value % 256 ∷ []) (bytesOf width (value / 256) ++ post) 0 width in
     omega (arith, rest, number-first width (value / 256) post (omega (arith, pow-byte width)))
 
-pub number-back : (pre : List ℕ) (width value : ℕ) (post : List ℕ) → value < 2 ^ (8 * width) → numberAt (pre ++ (bytesOf width value ++ post)) (length pre) width ≡ value
+pub number-back : (pre : List ℕ) (width value : ℕ) (post : List ℕ) → value < 2 ^ (8 * width)
+    → numberAt (pre ++ (bytesOf width value ++ post)) (length pre) width ≡ value
 number-back pre width value post h =
     ap (λ (k : ℕ). numberAt (pre ++ (bytesOf width value ++ post)) k width) (sym (add-zero (length pre)))
     ∙ number-append pre (bytesOf width value ++ post) 0 width
@@ -55,7 +56,8 @@ bytes-number s b at (suc width) h =
     high = omega (arith, b .byte at)
 
 -- the same with what stands behind it
-pub number-then : (s : List ℕ) → AreBytes s → (at width more next : ℕ) → at + width ≡ next → next ≤ length s → take (width + more) (drop at s) ≡ bytesOf width (numberAt s at width) ++ take more (drop next s)
+pub number-then : (s : List ℕ) → AreBytes s → (at width more next : ℕ) → at + width ≡ next → next ≤ length s
+    → take (width + more) (drop at s) ≡ bytesOf width (numberAt s at width) ++ take more (drop next s)
 number-then s b at width more next e h =
     take-add width more (drop at s) ∙ rw (← bytes-number s b at width (omega arith), drop-drop width at s, e)
 
@@ -69,7 +71,8 @@ unfolding fieldBytes bytesOf
 length-field tag content = omega arith
 
 -- a field that is written is found
-pub field-written : (pre : List ℕ) (tag : ℕ) (content post : List ℕ) → length content < 2 ^ 16 → fieldAt (pre ++ (fieldBytes tag content ++ post)) (length pre) ≡ Whole tag (length content)
+pub field-written : (pre : List ℕ) (tag : ℕ) (content post : List ℕ) → length content < 2 ^ 16
+    → fieldAt (pre ++ (fieldBytes tag content ++ post)) (length pre) ≡ Whole tag (length content)
 unfolding fieldBytes bytesOf
 field-written pre tag content post h =
     sym (field-whole (pre ++ (fieldBytes tag content ++ post)) (length pre) (length content) read (omega (arith, size)) (omega (arith, size)) (omega (arith, size)))

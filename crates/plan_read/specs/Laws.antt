@@ -8,7 +8,7 @@ use native.Mathlib.Omega.{arith}
 use lib.ListN.{length, getD}
 use Rattle.field.specs.Bytes.{NumberRead}
 use Rattle.field.specs.Numbers.{past-read}
-use Rattle.plan_format.specs.Format.{Form, widthOf, offsetOf, valuesFrom, EachFits, mosaicHeadForm, batchForm, sortingHeadForm, jobForm, flightHeadForm, passesForm}
+use Rattle.plan_format.specs.Format.{widthOf, offsetOf, EachFits, mosaicHeadForm, batchForm, sortingHeadForm, jobForm, flightHeadForm, passesForm}
 use Rattle.rules.specs.Plan.{batchValues, jobValues, passesValues}
 use Rattle.rules.specs.declared.Batch.{Batch}
 use Rattle.rules.specs.declared.Job.{Job}

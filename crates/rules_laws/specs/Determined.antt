@@ -119,13 +119,15 @@ module _ (s : Sheet) (sound : SheetSound s) where
         (plan-is s p ∙ ap (λ (l : List ℕ). mosaicOf s p ++ l ++ flightOf s p) (present-some (stripsInAll (s .sorting)) (sortingBytes (sortingFigure (s .sorting) (p .jobs)) (p .jobs)) h))
         ∙ sorting-back (sortingFigure (s .sorting) (p .jobs)) (p .jobs) (mosaicOf s p) (flightOf s p) (job-fits (s .sorting) (p .jobs) (sound .sorting) (L .sorting))
 
-    flight-last : 0 < s .flight .blocks → planBytes s p ≡ mosaicOf s p ++ sortingOf s p ++ flightBytes (flightFigure (s .flight) (p .passes)) (p .order) (p .passes) ++ []
+    flight-last : 0 < s .flight .blocks
+        → planBytes s p ≡ mosaicOf s p ++ sortingOf s p ++ flightBytes (flightFigure (s .flight) (p .passes)) (p .order) (p .passes) ++ []
     flight-last h =
         plan-is s p
         ∙ ap (λ (l : List ℕ). mosaicOf s p ++ sortingOf s p ++ l) (present-some (s .flight .blocks) (flightBytes (flightFigure (s .flight) (p .passes)) (p .order) (p .passes)) h)
         ∙ sym (append-nil (mosaicOf s p ++ sortingOf s p ++ flightBytes (flightFigure (s .flight) (p .passes)) (p .order) (p .passes)))
 
-    pub passes-read : 0 < s .flight .blocks → blocksFrom (planBytes s p) (length (mosaicOf s p ++ sortingOf s p) + sizeOf flightHeadForm) (length (p .passes)) ≡ p .passes
+    pub passes-read : 0 < s .flight .blocks
+        → blocksFrom (planBytes s p) (length (mosaicOf s p ++ sortingOf s p) + sizeOf flightHeadForm) (length (p .passes)) ≡ p .passes
     passes-read h =
         ap (λ (l : List ℕ). blocksFrom l (length (mosaicOf s p ++ sortingOf s p) + sizeOf flightHeadForm) (length (p .passes))) (flight-last h)
         ∙ flight-back (flightFigure (s .flight) (p .passes)) (p .order) (p .passes) (mosaicOf s p ++ sortingOf s p) [] (passes-fits (s .flight) (p .passes) (sound .flight) (L .flight))

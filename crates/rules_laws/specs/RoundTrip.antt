@@ -1,6 +1,6 @@
 -- What a plan's bytes say: members and heads that fit their widths are read back from what was written, and what is read is what stands there.
 -- The three kinds of members are given once each, by their values in order; all else follows from their forms (crate plan_format, and Members).
-use mathlib.Core.Path.{_≡_, refl, sym, ap, _∙_}
+use mathlib.Core.Path.{_≡_, refl, ap, _∙_}
 use mathlib.Core.List.{List, [], _∷_, _++_, append-assoc}
 use Prim.Native.Nat.{ℕ}
 use native.Mathlib.Omega.{arith}

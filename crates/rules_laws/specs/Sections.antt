@@ -36,7 +36,8 @@ module _ {A : Type 0} (kind : Kind A) (head : Form) (values : List ℕ) (count :
     head-apart = ap (λ (l : List ℕ). l ++ post) (sym (append-assoc pre (formBytes head values) (membersBytes (kind .bytes) xs)))
 
     -- the head, and all that stands behind it
-    pub head-first : pre ++ (formBytes head values ++ membersBytes (kind .bytes) xs) ++ post ≡ pre ++ formBytes head values ++ (membersBytes (kind .bytes) xs ++ post)
+    pub head-first : pre ++ (formBytes head values ++ membersBytes (kind .bytes) xs) ++ post
+        ≡ pre ++ formBytes head values ++ (membersBytes (kind .bytes) xs ++ post)
     head-first = head-apart ∙ append-assoc (pre ++ formBytes head values) (membersBytes (kind .bytes) xs) post
 
     behind-head : length (pre ++ formBytes head values) ≡ length pre + sizeOf head
@@ -76,7 +77,8 @@ module _ (figure : ℕ) (bs : List Batch) where
     unfolding mosaicBytes batchKind
     mosaic-found = section-found batchKind mosaicHeadForm (figure ∷ []) refl bs pre post (omega arith)
 
-    pub mosaic-figure-back : EachFits (mosaicHeadForm .widths) (figure ∷ []) → figureFrom mosaicHeadForm (pre ++ mosaicBytes figure bs ++ post) (length pre) ≡ figure
+    pub mosaic-figure-back : EachFits (mosaicHeadForm .widths) (figure ∷ [])
+        → figureFrom mosaicHeadForm (pre ++ mosaicBytes figure bs ++ post) (length pre) ≡ figure
     unfolding mosaicBytes batchKind
     mosaic-figure-back h =
         ap (λ (l : List ℕ). figureFrom mosaicHeadForm l (length pre)) (head-first batchKind mosaicHeadForm (figure ∷ []) refl bs pre post)
@@ -104,7 +106,8 @@ module _ (figure : ℕ) (js : List Job) where
     unfolding sortingBytes jobKind
     sorting-found = section-found jobKind sortingHeadForm (figure ∷ []) refl js pre post (omega arith)
 
-    pub sorting-figure-back : EachFits (sortingHeadForm .widths) (figure ∷ []) → figureFrom sortingHeadForm (pre ++ sortingBytes figure js ++ post) (length pre) ≡ figure
+    pub sorting-figure-back : EachFits (sortingHeadForm .widths) (figure ∷ [])
+        → figureFrom sortingHeadForm (pre ++ sortingBytes figure js ++ post) (length pre) ≡ figure
     unfolding sortingBytes jobKind
     sorting-figure-back h =
         ap (λ (l : List ℕ). figureFrom sortingHeadForm l (length pre)) (head-first jobKind sortingHeadForm (figure ∷ []) refl js pre post)
@@ -132,7 +135,8 @@ module _ (figure order : ℕ) (ps : List Passes) where
     unfolding flightBytes passesKind
     flight-found = section-found passesKind flightHeadForm (figure ∷ order ∷ []) refl ps pre post (omega arith)
 
-    flight-head-first : pre ++ flightBytes figure order ps ++ post ≡ pre ++ formBytes flightHeadForm (figure ∷ order ∷ []) ++ (membersBytes (passesKind .bytes) ps ++ post)
+    flight-head-first : pre ++ flightBytes figure order ps ++ post
+        ≡ pre ++ formBytes flightHeadForm (figure ∷ order ∷ []) ++ (membersBytes (passesKind .bytes) ps ++ post)
     unfolding flightBytes passesKind
     flight-head-first = head-first passesKind flightHeadForm (figure ∷ order ∷ []) refl ps pre post
 
