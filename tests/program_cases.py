@@ -19,12 +19,11 @@ import tty
 CRATES = pathlib.Path(__file__).resolve().parent.parent / "crates"
 USAGE = {
     "plan_sheet": "usage: plan_sheet < SHEET > PLAN\n",
-    "read_sheet": "usage: read_sheet < SHEET\n",
     "sheet_cases": "usage: sheet_cases < CASES\n",
     "judge_cases": "usage: judge_cases < CASES\n",
     "judge_plan": "usage: judge_plan SHEET PLAN\n",
 }
-READERS = ["plan_sheet", "read_sheet", "sheet_cases", "judge_cases"]  # of standard input
+READERS = ["plan_sheet", "sheet_cases", "judge_cases"]  # of standard input
 NOBODY = 65534
 
 tried = wrong = 0

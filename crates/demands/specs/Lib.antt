@@ -12,7 +12,8 @@ use Rattle.sheet.specs.Limits.{tableLength, planLength}
 use Rattle.sheet.specs.Refusals.{orderImpossible}
 use Rattle.sheet.specs.Read.{readSheet}
 use Rattle.sheet.specs.Theorems.{read-sound}
-use Rattle.sheet.specs.Refused.{RefusedFor, sound-exactly}
+use Rattle.sheet.specs.Table.{RefusedFor}
+use Rattle.sheet.specs.Refused.{sound-exactly}
 use Rattle.sheet.specs.Decode.{zeros}
 use Rattle.sheet.specs.Stores.{length-zeros}
 use Rattle.sheet.specs.declared.Sheet.{Sheet}
@@ -20,7 +21,7 @@ use Rattle.rules.specs.Mosaic.{batchAt}
 use Rattle.rules.specs.Sorting.{jobAt}
 use Rattle.rules.specs.Flight.{passesAt}
 use Rattle.rules.specs.Plan.{Plan, AllowedFor}
-use Rattle.rules_laws.specs.ByteLaws.{AreBytes}
+use Rattle.plan_format.specs.ByteLaws.{AreBytes}
 use Rattle.rules_laws.specs.Determined.{plan-most, plan-determined}
 use Rattle.judge.specs.Judged.{turnedBack, found, judged}
 use Rattle.judge.specs.declared.Judged.{Judged}
@@ -70,7 +71,8 @@ bytes-most sheet plan table planAfter r a =
     )
 
 -- "A sheet is otherwise sound where no cause that the planner checks it for, 11 apart, lies in it": what is meant by `readSheet sheet .number ≡ 0` below.
-pub otherwise-sound : (sheet : List ℕ) → (readSheet sheet .number ≡ 0 → (number place : ℕ) → RefusedFor sheet number place → ⊥) × (((number place : ℕ) → RefusedFor sheet number place → ⊥) → readSheet sheet .number ≡ 0)
+pub otherwise-sound : (sheet : List ℕ) → (readSheet sheet .number ≡ 0 → (number place : ℕ) → RefusedFor sheet number place → ⊥)
+    × (((number place : ℕ) → RefusedFor sheet number place → ⊥) → readSheet sheet .number ≡ 0)
 otherwise-sound = sound-exactly
 
 -- A planning call: the sheet, the plan buffer and the working table at entry, the plan buffer and the table at exit, and the answer.

@@ -24,7 +24,7 @@ use Rattle.flight_order.specs.Contracts.{LeastStartsPre, Least}
 use Rattle.flight_search.specs.Search.{noIncumbent, searched}
 use Rattle.flight_search.specs.Orders.{ordersOf, freeSection}
 use Rattle.flight_search.specs.Contracts.{BlockTimes}
-use Rattle.flight.specs.Choice.{chosenOrder, isPossible, leastFigure, chosenPasses, passesOf, PlannedIn, Planned}
+use Rattle.flight.specs.Choice.{chosenOrder, isPossible, leastFigure, chosenPasses, passesOfPlan, PlannedIn, Planned}
 use Rattle.flight.specs.Chosen.{chosen-given, chosen-free, chosen-proper}
 use Rattle.flight.specs.Contracts.{SomeBlocks, PlanChosenPre, PlanInOrderPre, PlanBlocksPre, Copied}
 use Rattle.flight_search.specs.declared.Incumbent.{Incumbent}
@@ -51,7 +51,7 @@ module _ (f : FlightSection) (w : ℕ) {rows₀ starts₀ : List ℕ} (pre : Pla
     pub plan-made : (firsts seconds : List ℕ) → Copied starts 0 (f .blocks) firsts → Copied starts (f .blocks) (f .blocks) seconds
         → PlannedIn f w
         (record { possible = found; figure = getD starts (2 * f .blocks - 1) 0 + getD (f .second) (f .blocks - 1) 0; order = w; first = firsts; second = seconds })
-    unfolding possibleIn orderFigure leastStarts passesOf leastPasses passesWithStarts
+    unfolding possibleIn orderFigure leastStarts passesOfPlan leastPasses passesWithStarts
     plan-made firsts seconds a b = record {
       possible = least .result;
       figure = rw (ne-eqb (f .blocks) 0 (λ e. omega (arith, pre .plan .blocks .some)), least .starts);
@@ -116,7 +116,7 @@ module _ (f : FlightSection) (rows starts : List ℕ) (pre : PlanBlocksPre f row
 -- No block, no passes.
 pub plan-none : (f : FlightSection) → FlightSound f → f .blocks ≡ 0
     → Planned f (record { possible = true; figure = 0; order = 0; first = replicate 32 0; second = replicate 32 0 })
-unfolding isPossible leastFigure chosenPasses passesOf leastPasses passesWithStarts
+unfolding isPossible leastFigure chosenPasses passesOfPlan leastPasses passesWithStarts
 plan-none f sound e = record {
   possible = sym (empty-possible f (chosenOrder f) sound proper (λ l. omega arith));
   figure = sym (figure-none f (chosenOrder f) sound proper (λ l. omega arith));

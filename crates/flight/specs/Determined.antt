@@ -8,11 +8,11 @@ use Rattle.base.specs.Zeros.{padded-same}
 use Rattle.sheet.specs.declared.FlightSection.{FlightSection}
 use Rattle.rules.specs.Flight.{noPasses}
 use Rattle.rules.specs.declared.Passes.{Passes}
-use Rattle.flight.specs.Choice.{planPasses, passesOf, Planned}
+use Rattle.flight.specs.Choice.{planPasses, passesOfPlan, Planned}
 use Rattle.flight.specs.declared.FlightPlan.{FlightPlan}
 
-entry-at : (n : ℕ) (r : FlightPlan) (i : ℕ) → i < n → getD (passesOf n r) i noPasses ≡ planPasses r i
-unfolding passesOf
+entry-at : (n : ℕ) (r : FlightPlan) (i : ℕ) → i < n → getD (passesOfPlan n r) i noPasses ≡ planPasses r i
+unfolding passesOfPlan
 entry-at n r i l = listed-at n (planPasses r) i noPasses l
 
 module _ {f : FlightSection} {p r : FlightPlan} (P : Planned f p) (R : Planned f r) where

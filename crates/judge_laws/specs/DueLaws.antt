@@ -16,11 +16,12 @@ use Rattle.field.specs.declared.Field.{Field}
 use Rattle.field.specs.declared.Field.the-variants.{Whole}
 use Rattle.sheet.specs.Refusals.{layoutWrong}
 use Rattle.sheet.specs.declared.Sheet.{Sheet}
+use Rattle.plan_format.specs.Format.{mosaicHeadForm, batchForm, sortingHeadForm, jobForm, flightHeadForm, passesForm}
 use Rattle.judge_layout.specs.Layout.{isField, run, partFrom, partOf, mosaicPart, sortingPart, flightPart, verdict, layoutVerdict}
 use Rattle.judge_layout.specs.Laws.{is-field-true}
 use Rattle.judge_layout.specs.declared.Part.{Part}
 use Rattle.judge_layout.specs.declared.Verdict.{Verdict}
-use Rattle.judge_members.specs.Members.{present}
+use Rattle.judge_members.specs.Members.{present, headForm, memberForm}
 use Rattle.judge.specs.Judged.{pickPart, partAt}
 use Rattle.judge_laws.specs.Laid.{is-field, run-each}
 use Rattle.judge_laws.specs.Outcomes.{LayoutRight, layout-right}
@@ -216,15 +217,15 @@ module _ (s : Sheet) (plan : List ℕ) where
 
   -- The judge's walk over the three parts.
   mosaic-case : PartCase s plan 0 1 (mosaicPart s plan)
-  unfolding mosaicPart headTag headLength memberTag memberLength present
+  unfolding mosaicPart headForm memberForm present
   mosaic-case = part-case s plan 0 1
 
   sorting-case : PartCase s plan (mosaicPart s plan .end) 2 (sortingPart s plan)
-  unfolding sortingPart headTag headLength memberTag memberLength present
+  unfolding sortingPart headForm memberForm present
   sorting-case = part-case s plan (mosaicPart s plan .end) 2
 
   flight-case : PartCase s plan (sortingPart s plan .end) 3 (flightPart s plan)
-  unfolding flightPart headTag headLength memberTag memberLength present
+  unfolding flightPart headForm memberForm present
   flight-case = part-case s plan (sortingPart s plan .end) 3
 
   after-mosaic : mosaicPart s plan .right ≡ true → Standing 1 (mosaicPart s plan .end)
@@ -268,10 +269,11 @@ module _ (s : Sheet) (plan : List ℕ) where
 
 -- The fields that are due are determined: a head is told from a member by its tag, so that a field leads to one section.
 heads-no-members : (i k : ℕ) → headTag i ≡ memberTag k → ⊥
-unfolding headTag memberTag
+unfolding headForm memberForm
 heads-no-members i k e = go (eqb i 1) (eqb i 2) (eqb k 1) (eqb k 2) e
   where
-    go : (a b c d : Bool) → _≡_ {A = ℕ} (cond a 0x90 (cond b 0xa0 0xb0)) (cond c 0x91 (cond d 0xa1 0xb1)) → ⊥
+    go : (a b c d : Bool)
+        → cond a mosaicHeadForm (cond b sortingHeadForm flightHeadForm) .tag ≡ cond c batchForm (cond d jobForm passesForm) .tag → ⊥
     go true b true d e = omega arith
     go true b false true e = omega arith
     go true b false false e = omega arith

@@ -12,12 +12,13 @@ use Rattle.base.specs.Branch.{check}
 use Rattle.order.specs.Order.{Decides}
 use Rattle.sheet.specs.Refusals.{layoutWrong, ruleBroken, figureUntrue}
 use Rattle.sheet.specs.Read.{readSheet, refused}
-use Rattle.sheet.specs.Refused.{RefusedFor, refused-for, refused-is, sound-exactly}
+use Rattle.sheet.specs.Table.{RefusedFor}
+use Rattle.sheet.specs.Refused.{refused-for, refused-is, sound-exactly}
 use Rattle.sheet.specs.declared.Sheet.{Sheet}
 use Rattle.plan_read.specs.PlanRead.{figureFrom}
 use Rattle.judge_layout.specs.Layout.{verdict, layoutVerdict}
 use Rattle.judge_layout.specs.declared.Verdict.{Verdict}
-use Rattle.judge_members.specs.Members.{present, memberPlace, begun, memberFollows, afterMember, headFollows, figureOf, headNumber}
+use Rattle.judge_members.specs.Members.{present, headForm, memberPlace, begun, memberFollows, afterMember, headFollows, figureOf, headNumber}
 use Rattle.judge_members.specs.declared.Progress.{Progress}
 use Rattle.judge.specs.Judged.{partAt, sectionFrom, sectionVerdict, sectionsFrom, turnedBack, found, judged}
 use Rattle.judge.specs.Loops.{section-absent, zero-number, section-here, sections-next, sections-stop, member-next, member-wrong, members-judged, sheet-wrong, sheet-right, layout-wrong, section-wrong}
@@ -41,7 +42,7 @@ module _ (s : Sheet) (plan : List ℕ) (section : ℕ) where
       follows = head-decided s plan section (partAt s plan section) st
 
       go : (b : Bool) → headFollows s plan section (partAt s plan section) st ≡ b
-          → (c : Bool) → eqb (figureFrom plan (partAt s plan section .head)) (figureOf s plan section (partAt s plan section) st) ≡ c
+          → (c : Bool) → eqb (figureFrom (headForm section) plan (partAt s plan section .head)) (figureOf s plan section (partAt s plan section) st) ≡ c
           → (check b ruleBroken (check c figureUntrue 0) ≡ 0 → ⊥)
           → SectionFault s plan section (check b ruleBroken (check c figureUntrue 0)) (partAt s plan section .head)
       go false p c q n = SectionFault.at-head st r (follows .fails p) refl refl
@@ -89,7 +90,7 @@ module _ (s : Sheet) (plan : List ℕ) (section : ℕ) where
   head-broken k st h = members-judged s plan section (partAt s plan section) k st ∙ rw (decided-false (head-decided s plan section (partAt s plan section) st) h)
 
   head-untrue : (k : ℕ) (st : Progress) → HeadFollows s plan section (partAt s plan section) st
-      → (figureFrom plan (partAt s plan section .head) ≡ figureOf s plan section (partAt s plan section) st → ⊥)
+      → (figureFrom (headForm section) plan (partAt s plan section .head) ≡ figureOf s plan section (partAt s plan section) st → ⊥)
       → sectionFrom 0 s plan section (partAt s plan section) k st ≡ verdict figureUntrue (partAt s plan section .head)
   unfolding headNumber check
   head-untrue k st h n = members-judged s plan section (partAt s plan section) k st ∙ rw (decided-true (head-decided s plan section (partAt s plan section) st) h, ne-eqb _ _ n)

@@ -9,7 +9,7 @@ use lib.ListN.{length, getD, set, List·getD-eq-default}
 use lib.Dec.{eqb}
 use borrow.Author.Tests.{lt-ltb, le-ltb, eq-eqb, ne-eqb, not-true, not-false, ltb-true, leb-true, eqb-true}
 use Rattle.base.specs.Branch.{both}
-use Rattle.sheet.specs.Checks.{stripsOfDesk}
+use Rattle.sheet.specs.Sections.{stripsOfDesk}
 use Rattle.sheet.specs.declared.MosaicSection.{MosaicSection}
 use Rattle.sheet.specs.declared.SortingSection.{SortingSection}
 use Rattle.sheet.specs.declared.FlightSection.{FlightSection}

@@ -28,7 +28,7 @@ use Rattle.sorting.specs.Plan.{jobsOfPlan, chosenJobs}
 use Rattle.sorting.specs.Contracts as sorting
 use Rattle.sorting.specs.Theorems.{sorting-figure}
 use Rattle.sorting.specs.declared.SortingPlan.{SortingPlan}
-use Rattle.flight.specs.Choice.{passesOf, chosenOrder, chosenPasses, isPossible}
+use Rattle.flight.specs.Choice.{passesOfPlan, chosenOrder, chosenPasses, isPossible}
 use Rattle.flight.specs.Choice as flight
 use Rattle.flight.specs.Theorems.{flight-figure}
 use Rattle.flight.specs.declared.FlightPlan.{FlightPlan}
@@ -78,17 +78,17 @@ module _ (s : Sheet) (sound : SheetSound s) (possible : isPossible (s .flight) �
   sorting-same : sortingBytes (t .figure) (jobsOfPlan t) ≡ sortingBytes (sortingFigure (s .sorting) (chosenJobs (s .sorting))) (chosenJobs (s .sorting))
   sorting-same = rw (sorting-figure (s .sorting) (sound .sorting), ← sorting-planned .figure, sorting-planned .jobs)
 
-  flight-same : flightBytes (f .figure) (f .order) (passesOf (s .flight .blocks) f) ≡ flightBytes (flightFigure (s .flight) (chosenPasses (s .flight))) (chosenOrder (s .flight)) (chosenPasses (s .flight))
+  flight-same : flightBytes (f .figure) (f .order) (passesOfPlan (s .flight .blocks) f) ≡ flightBytes (flightFigure (s .flight) (chosenPasses (s .flight))) (chosenOrder (s .flight)) (chosenPasses (s .flight))
   flight-same =
-      ap (λ (x : ℕ). flightBytes x (f .order) (passesOf (s .flight .blocks) f)) (flight-planned .figure ∙ sym (flight-figure (s .flight) (sound .flight) possible))
-      ∙ ap (λ (x : ℕ). flightBytes (flightFigure (s .flight) (chosenPasses (s .flight))) x (passesOf (s .flight .blocks) f)) (flight-planned .order)
+      ap (λ (x : ℕ). flightBytes x (f .order) (passesOfPlan (s .flight .blocks) f)) (flight-planned .figure ∙ sym (flight-figure (s .flight) (sound .flight) possible))
+      ∙ ap (λ (x : ℕ). flightBytes (flightFigure (s .flight) (chosenPasses (s .flight))) x (passesOfPlan (s .flight .blocks) f)) (flight-planned .order)
       ∙ ap (λ (x : List Passes). flightBytes (flightFigure (s .flight) (chosenPasses (s .flight))) (chosenOrder (s .flight)) x) (flight-planned .passes)
 
   plan-same : planOf s m t f ≡ planBytes s (chosenPlan s)
   unfolding planOf planBytes chosenPlan
   plan-same =
-      ap (λ (l : List ℕ). ifPresent (s .mosaic .strips) l ++ ifPresent (stripsInAll (s .sorting)) (sortingBytes (t .figure) (jobsOfPlan t)) ++ ifPresent (s .flight .blocks) (flightBytes (f .figure) (f .order) (passesOf (s .flight .blocks) f))) mosaic-same
-      ∙ ap (λ (l : List ℕ). ifPresent (s .mosaic .strips) (mosaicBytes (mosaicFigure (s .mosaic) (chosenBatches (s .mosaic))) (chosenBatches (s .mosaic))) ++ ifPresent (stripsInAll (s .sorting)) l ++ ifPresent (s .flight .blocks) (flightBytes (f .figure) (f .order) (passesOf (s .flight .blocks) f))) sorting-same
+      ap (λ (l : List ℕ). ifPresent (s .mosaic .strips) l ++ ifPresent (stripsInAll (s .sorting)) (sortingBytes (t .figure) (jobsOfPlan t)) ++ ifPresent (s .flight .blocks) (flightBytes (f .figure) (f .order) (passesOfPlan (s .flight .blocks) f))) mosaic-same
+      ∙ ap (λ (l : List ℕ). ifPresent (s .mosaic .strips) (mosaicBytes (mosaicFigure (s .mosaic) (chosenBatches (s .mosaic))) (chosenBatches (s .mosaic))) ++ ifPresent (stripsInAll (s .sorting)) l ++ ifPresent (s .flight .blocks) (flightBytes (f .figure) (f .order) (passesOfPlan (s .flight .blocks) f))) sorting-same
       ∙ ap (λ (l : List ℕ). ifPresent (s .mosaic .strips) (mosaicBytes (mosaicFigure (s .mosaic) (chosenBatches (s .mosaic))) (chosenBatches (s .mosaic))) ++ ifPresent (stripsInAll (s .sorting)) (sortingBytes (sortingFigure (s .sorting) (chosenJobs (s .sorting))) (chosenJobs (s .sorting))) ++ ifPresent (s .flight .blocks) l) flight-same
 
   plan-long : length (planOf s m t f) ≤ planLength
@@ -96,7 +96,7 @@ module _ (s : Sheet) (sound : SheetSound s) (possible : isPossible (s .flight) �
   plan-long =
       omega (
         arith,
-        length-append (ifPresent (s .mosaic .strips) (mosaicBytes (m .figure) (batchesOf m)) ++ ifPresent (stripsInAll (s .sorting)) (sortingBytes (t .figure) (jobsOfPlan t))) (ifPresent (s .flight .blocks) (flightBytes (f .figure) (f .order) (passesOf (s .flight .blocks) f))),
+        length-append (ifPresent (s .mosaic .strips) (mosaicBytes (m .figure) (batchesOf m)) ++ ifPresent (stripsInAll (s .sorting)) (sortingBytes (t .figure) (jobsOfPlan t))) (ifPresent (s .flight .blocks) (flightBytes (f .figure) (f .order) (passesOfPlan (s .flight .blocks) f))),
         length-append (ifPresent (s .mosaic .strips) (mosaicBytes (m .figure) (batchesOf m))) (ifPresent (stripsInAll (s .sorting)) (sortingBytes (t .figure) (jobsOfPlan t))),
         mosaic-long (s .mosaic .strips) m,
         sorting-long (stripsInAll (s .sorting)) t,

@@ -8,7 +8,8 @@ use borrow.Author.Tests.{lt-ltb, le-ltb, eq-eqb, ne-eqb}
 use Rattle.sheet.specs.Limits.{tableLength, planLength}
 use Rattle.sheet.specs.Refusals.{tableTooSmall, bufferTooSmall, orderImpossible}
 use Rattle.sheet.specs.Read.{readSheet, refused}
-use Rattle.sheet.specs.Refused.{FromThreeToTen, cause-number, RefusedFor, refused-for, refused-is}
+use Rattle.sheet.specs.Table.{RefusedFor}
+use Rattle.sheet.specs.Refused.{refused-for, refused-is, some-number, not-eleven}
 use Rattle.planner.specs.Call.{answer, sheetAnswer, answerOf, Called}
 use Rattle.planner.specs.Outcomes.{Large, Outcome, call-outcome}
 use Rattle.planner.specs.Theorems.{Impossible, impossible-exactly}
@@ -20,7 +21,7 @@ pub data TurnedBack (sheet plan table : List ℕ) (number place : ℕ) : Type 0 
   table-small : length table < tableLength → number ≡ tableTooSmall → place ≡ 0 → TurnedBack sheet plan table number place
   -- "plan buffer below 1,095 bytes"
   buffer-small : tableLength ≤ length table → length plan < planLength → number ≡ bufferTooSmall → place ≡ 0 → TurnedBack sheet plan table number place
-  -- 3 to 10: a cause of the sheet, at the first field that has one (sheet, Table.antt)
+  -- 3 to 10: a cause of the sheet, at the first field that has one (sheet, Causes.antt and Table.antt)
   in-sheet : Large plan table → RefusedFor sheet number place → TurnedBack sheet plan table number place
   -- "no timetable keeps the given order", at the order field, of a sheet that is otherwise sound
   impossible :
@@ -39,10 +40,7 @@ module _ (sheet plan table planAfter tableEnd : List ℕ) (r : Answer) (call : C
   turned-back number place (TurnedBack.buffer-small l m en ep) = rw (en, ep) (rw (le-ltb (length table) tableLength l, lt-ltb (length plan) planLength m) at (call .answer))
   turned-back number place (TurnedBack.in-sheet l f) =
       let e : readSheet sheet ≡ refused number place = refused-is sheet number place f in
-      by-sheet l ∙ rw (e, ne-eqb number 0 (λ z. some z (cause-number sheet (f .reading) number place (f .cause))))
-    where
-      some : number ≡ 0 → FromThreeToTen number → ⊥
-      some z n = omega (arith, n .least)
+      by-sheet l ∙ rw (e, ne-eqb number 0 (some-number sheet number place f))
   turned-back number place (TurnedBack.impossible l sound none en ep) = by-sheet l ∙ rw (eq-eqb (readSheet sheet .number) 0 sound, impossible-exactly sheet sound .1 none, en, ep)
 
   -- .. and it is turned back only where its cause lies.
@@ -70,7 +68,7 @@ module _ (sheet plan table planAfter tableEnd : List ℕ) (r : Answer) (call : C
       go : TurnedBack sheet plan table (r .number) (r .place) → Large plan table × (readSheet sheet .number ≡ 0) × Impossible (readSheet sheet)
       go (TurnedBack.table-small l en ep) = absurd (omega arith)
       go (TurnedBack.buffer-small l m en ep) = absurd (omega arith)
-      go (TurnedBack.in-sheet l f) = absurd (omega (arith, cause-number sheet (f .reading) (r .number) (r .place) (f .cause) .most))
+      go (TurnedBack.in-sheet l f) = absurd (not-eleven sheet (r .number) (r .place) f e)
       go (TurnedBack.impossible l s i en ep) = (l, s, i)
 
   -- A sound sheet that is not impossible is accepted.

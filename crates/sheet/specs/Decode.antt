@@ -6,7 +6,8 @@ use lib.ListN.{set, replicate}
 use lib.Dec.{eqb}
 use Rattle.field.specs.Bytes.{numberAt}
 use Rattle.sheet.specs.Tags.{mosaicHeadTag, mosaicStripTag, sortingHeadTag, sortingStripTag, flightHeadTag, flightBlockTag, flightOrderTag}
-use Rattle.sheet.specs.Checks.{noSection, inMosaic, inSorting, inFlight, afterOrder, endsSection, stripsOfDesk}
+use Rattle.sheet.specs.Sections.{noSection, inMosaic, inSorting, inFlight, afterOrder, stripsOfDesk}
+use Rattle.sheet.specs.Checks.{endsSection}
 use Rattle.sheet.specs.declared.MosaicSection.{MosaicSection}
 use Rattle.sheet.specs.declared.SortingSection.{SortingSection}
 use Rattle.sheet.specs.declared.FlightSection.{FlightSection}

@@ -1,19 +1,21 @@
 -- What holds wherever a reading stands, and that a field which passes its checks keeps it. The field's tag is one of seven; each is one law.
-use Prim.Native.Nat.{ℕ, _+_, _-_, _≤_, _<_}
+use Prim.Native.Nat.{ℕ, _+_, _-_, _*_, _/_, _≤_, _<_}
 use mathlib.Core.Path.{_≡_, refl, sym, ap, _∙_, subst}
 use mathlib.Core.Bool.{true, false}
 use mathlib.Core.List.{List}
 use native.Mathlib.Omega.{arith}
 use lib.ListN.{length}
-use borrow.Author.Tests.{ltb-true}
+use native.Mathlib.Decide.{decLt}
 use Rattle.sheet.specs.Limits.{mostBlocks, mostStrips}
 use Rattle.sheet.specs.Tags.{mosaicHeadTag, mosaicStripTag, sortingHeadTag, sortingStripTag, flightHeadTag, flightBlockTag, flightOrderTag}
-use Rattle.sheet.specs.Checks.{noSection, inMosaic, inSorting, inFlight, afterOrder, endsSection, inRange, hasRoom, orderProper}
+use Rattle.sheet.specs.Sections.{noSection, inMosaic, inSorting, inFlight, afterOrder}
+use Rattle.sheet.specs.Checks.{endsSection}
+use Rattle.sheet.specs.FieldTable.{lengthDue, mosaicStripValues, stationTimes, valuesOf, InRange}
+use Rattle.sheet.specs.Causes.{Permitted, TooMany}
 use Rattle.sheet.specs.Decode.{noFlight, withMosaicHead, withMosaicStrip, withSortingHead, withBlock, withOrder, nextMosaic, nextSorting, nextFlight, nextSection, nextHead, nextMembers, nextReading, startReading}
 use Rattle.sheet.specs.Sound.{MosaicSound, SortingSound, FlightWithin, stripsInAll}
 use Rattle.sheet.specs.Stores.{zeros-at}
-use Rattle.sheet.specs.Passed.{Passed, Next, next-of}
-use Rattle.sheet.specs.Passed.Next.{mosaic-head, mosaic-strip, sorting-head, sorting-strip, flight-head, flight-block, flight-order}
+use Rattle.sheet.specs.Passed.{Passed}
 use Rattle.sheet.specs.SectionLaws.{no-mosaic-sound, no-sorting-sound, no-flight-sound, mosaic-head-sound, mosaic-strip-sound, sorting-head-sound, sorting-strip-sound, sorting-strip-more, block-sound, order-sound}
 use Rattle.sheet.specs.declared.Reading.{Reading}
 
@@ -49,9 +51,25 @@ kept-start s =
       after-order = λ e. absurd (omega arith);
     }
 
+-- what is not too many
+pub below : (i j : ℕ) → (j ≤ i → ⊥) → i < j
+below i j n = go (decLt i j)
+  where
+    go : Dec (i < j) → i < j
+    go (yes h) = h
+    go (no h) = absurd (n (omega arith))
+
+-- a strip of the length that is due has as many station times as the mosaic has stations
+strip-values : {s : List ℕ} {st : Reading} {len : ℕ} → Passed s st mosaicStripTag len → InRange (mosaicStripValues s (st .at + 3) 0 (st .mosaic .stations))
+unfolding lengthDue stationTimes valuesOf
+strip-values {s} {st} {len} p = subst (λ n. InRange (mosaicStripValues s (st .at + 3) 0 n)) (times (p .length-ok)) (p .range-ok)
+  where
+    times : len ≡ 2 * st .mosaic .stations + 2 → (len - 1) / 2 ≡ st .mosaic .stations
+    times e = omega arith
+
 module _ (s : List ℕ) (st : Reading) (len : ℕ) (k : Kept s st) (w : st .at + 3 + len ≤ length s) where
   kept-mosaic-head : Passed s st mosaicHeadTag len → st .section ≡ noSection → Kept s (nextReading s st mosaicHeadTag len)
-  unfolding nextReading nextSection nextHead nextMembers nextMosaic nextSorting nextFlight endsSection inRange withMosaicHead
+  unfolding nextReading nextSection nextHead nextMembers nextMosaic nextSorting nextFlight endsSection valuesOf withMosaicHead
   kept-mosaic-head p e =
       record {
         within = w;
@@ -69,16 +87,16 @@ module _ (s : List ℕ) (st : Reading) (len : ℕ) (k : Kept s st) (w : st .at +
       }
 
   kept-mosaic-strip : Passed s st mosaicStripTag len → st .section ≡ inMosaic → Kept s (nextReading s st mosaicStripTag len)
-  unfolding nextReading nextSection nextHead nextMembers nextMosaic nextSorting nextFlight endsSection inRange hasRoom withMosaicStrip
+  unfolding nextReading nextSection nextHead nextMembers nextMosaic nextSorting nextFlight endsSection withMosaicStrip
   kept-mosaic-strip p e =
       let f = k .few-members in
       let m = k .in-mosaic e in
-      let r : st .members < mostStrips = ltb-true (st .members) mostStrips (p .room-ok) in
+      let r : st .members < mostStrips = below _ _ (λ h. p .room-ok (TooMany.strip refl h)) in
       record {
         within = w;
         few-members = omega arith;
         known = omega arith;
-        mosaic = mosaic-strip-sound s (st .at + 3) (st .mosaic) (k .mosaic) (omega arith) (p .range-ok);
+        mosaic = mosaic-strip-sound s (st .at + 3) (st .mosaic) (k .mosaic) (omega arith) (strip-values p);
         sorting = k .sorting;
         flight = k .flight;
         in-none = λ q. absurd (omega arith);
@@ -94,7 +112,7 @@ module _ (s : List ℕ) (st : Reading) (len : ℕ) (k : Kept s st) (w : st .at +
   none-yet c = omega (arith, zeros-at 3 0, zeros-at 3 1, zeros-at 3 2)
 
   kept-sorting-head : Passed s st sortingHeadTag len → st .section < inSorting → Kept s (nextReading s st sortingHeadTag len)
-  unfolding nextReading nextSection nextHead nextMembers nextMosaic nextSorting nextFlight endsSection inRange
+  unfolding nextReading nextSection nextHead nextMembers nextMosaic nextSorting nextFlight endsSection valuesOf
   kept-sorting-head p h =
       record {
         within = w;
@@ -112,7 +130,7 @@ module _ (s : List ℕ) (st : Reading) (len : ℕ) (k : Kept s st) (w : st .at +
       }
 
   kept-sorting-strip : Passed s st sortingStripTag len → st .section ≡ inSorting → Kept s (nextReading s st sortingStripTag len)
-  unfolding nextReading nextSection nextHead nextMembers nextMosaic nextSorting nextFlight endsSection inRange hasRoom
+  unfolding nextReading nextSection nextHead nextMembers nextMosaic nextSorting nextFlight endsSection valuesOf
   kept-sorting-strip p e =
       let f = k .few-members in
       record {
@@ -120,7 +138,7 @@ module _ (s : List ℕ) (st : Reading) (len : ℕ) (k : Kept s st) (w : st .at +
         few-members = omega arith;
         known = omega arith;
         mosaic = k .mosaic;
-        sorting = sorting-strip-sound s (st .at + 3) (st .sorting) (k .sorting) (p .range-ok) (ltb-true _ _ (p .room-ok));
+        sorting = sorting-strip-sound s (st .at + 3) (st .sorting) (k .sorting) (p .range-ok) (below _ _ (λ h. p .room-ok (TooMany.strip-of-desk refl h)));
         flight = k .flight;
         in-none = λ q. absurd (omega arith);
         in-mosaic = λ q. absurd (omega arith);
@@ -150,11 +168,11 @@ module _ (s : List ℕ) (st : Reading) (len : ℕ) (k : Kept s st) (w : st .at +
       }
 
   kept-flight-block : Passed s st flightBlockTag len → st .section ≡ inFlight → Kept s (nextReading s st flightBlockTag len)
-  unfolding nextReading nextSection nextHead nextMembers nextMosaic nextSorting nextFlight endsSection inRange hasRoom withBlock
+  unfolding nextReading nextSection nextHead nextMembers nextMosaic nextSorting nextFlight endsSection valuesOf withBlock
   kept-flight-block p e =
       let f = k .few-members in
       let b = k .in-flight e in
-      let r : st .members < mostBlocks = ltb-true (st .members) mostBlocks (p .room-ok) in
+      let r : st .members < mostBlocks = below _ _ (λ h. p .room-ok (TooMany.block refl h)) in
       record {
         within = w;
         few-members = omega arith;
@@ -171,7 +189,7 @@ module _ (s : List ℕ) (st : Reading) (len : ℕ) (k : Kept s st) (w : st .at +
       }
 
   kept-flight-order : Passed s st flightOrderTag len → st .section ≡ inFlight → Kept s (nextReading s st flightOrderTag len)
-  unfolding nextReading nextSection nextHead nextMembers nextMosaic nextSorting nextFlight endsSection orderProper withOrder
+  unfolding nextReading nextSection nextHead nextMembers nextMosaic nextSorting nextFlight endsSection withOrder
   kept-flight-order p e =
       let f = k .few-members in
       let b = k .in-flight e in
@@ -181,7 +199,7 @@ module _ (s : List ℕ) (st : Reading) (len : ℕ) (k : Kept s st) (w : st .at +
         known = omega arith;
         mosaic = k .mosaic;
         sorting = k .sorting;
-        flight = order-sound s (st .at + 3) (st .at) (st .flight) (k .flight) (rw (b .0) at (p .order-ok));
+        flight = order-sound s (st .at + 3) (st .at) (st .flight) (k .flight) (rw (b .0) at (p .order-ok refl));
         in-none = λ q. absurd (omega arith);
         in-mosaic = λ q. absurd (omega arith);
         in-sorting = λ q. absurd (omega arith);
@@ -195,14 +213,14 @@ module _ (s : List ℕ) (st : Reading) (tag len : ℕ) (k : Kept s st) (w : st .
   at-tag : (t : ℕ) → tag ≡ t → (Passed s st t len → Kept s (nextReading s st t len)) → Kept s (nextReading s st tag len)
   at-tag t e f = subst (λ (x : ℕ). Passed s st x len → Kept s (nextReading s st x len)) (sym e) f p
 
-  kept-case : Next tag (st .section) (st .members) → Kept s (nextReading s st tag len)
-  kept-case (mosaic-head e h) = at-tag mosaicHeadTag e (λ q. kept-mosaic-head s st len k w q h)
-  kept-case (mosaic-strip e h) = at-tag mosaicStripTag e (λ q. kept-mosaic-strip s st len k w q h)
-  kept-case (sorting-head e h) = at-tag sortingHeadTag e (λ q. kept-sorting-head s st len k w q h)
-  kept-case (sorting-strip e h) = at-tag sortingStripTag e (λ q. kept-sorting-strip s st len k w q h)
-  kept-case (flight-head e h) = at-tag flightHeadTag e (λ q. kept-flight-head s st len k w h)
-  kept-case (flight-block e h) = at-tag flightBlockTag e (λ q. kept-flight-block s st len k w q h)
-  kept-case (flight-order e h l) = at-tag flightOrderTag e (λ q. kept-flight-order s st len k w q h)
+  kept-case : Permitted tag (st .section) (st .members) → Kept s (nextReading s st tag len)
+  kept-case (Permitted.mosaic-head e h) = at-tag mosaicHeadTag e (λ q. kept-mosaic-head s st len k w q h)
+  kept-case (Permitted.mosaic-strip e h) = at-tag mosaicStripTag e (λ q. kept-mosaic-strip s st len k w q h)
+  kept-case (Permitted.sorting-head e h) = at-tag sortingHeadTag e (λ q. kept-sorting-head s st len k w q h)
+  kept-case (Permitted.sorting-strip e h) = at-tag sortingStripTag e (λ q. kept-sorting-strip s st len k w q h)
+  kept-case (Permitted.flight-head e h) = at-tag flightHeadTag e (λ q. kept-flight-head s st len k w h)
+  kept-case (Permitted.flight-block e h) = at-tag flightBlockTag e (λ q. kept-flight-block s st len k w q h)
+  kept-case (Permitted.flight-order e h l) = at-tag flightOrderTag e (λ q. kept-flight-order s st len k w q h)
 
   pub kept-next : Kept s (nextReading s st tag len)
-  kept-next = kept-case (next-of tag (st .section) (st .members) (p .tag-ok))
+  kept-next = kept-case (p .tag-ok)

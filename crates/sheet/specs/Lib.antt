@@ -1,16 +1,23 @@
--- What a sheet is, and what reading one gives: definitions first, then the theorems, then the laws that lead to them.
+-- What a sheet is, when it is refused, and what reading one gives: definitions first, then the theorems, then the laws that lead to them.
 pub mod Limits
 pub mod Refusals
 pub mod Tags
+pub mod Sections
+pub mod FieldTable
+pub mod Rows
+pub mod Causes
+pub mod Table
 pub mod Checks
 pub mod Decode
 pub mod Read
 pub mod Sound
-pub mod Table
 pub mod Theorems
 pub mod Refused
-pub mod Stores
+pub mod RowLaws
+pub mod Decided
 pub mod Passed
+pub mod Stores
 pub mod SectionLaws
+pub mod DeskLaws
 pub mod Invariant
 pub mod Progress

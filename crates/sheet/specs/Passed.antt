@@ -1,90 +1,86 @@
--- A field whose number is 0 passes every check, and its tag is one of the seven that may stand next.
-use Prim.Native.Nat.{ℕ, _+_, _≤_, _<_}
+-- A field that passes every row: what the rows' causes shut out, stated of the field.
+use Prim.{tt}
+use Prim.Native.Nat.{ℕ, _+_, _<_}
 use mathlib.Core.Path.{_≡_, refl}
-use mathlib.Core.Bool.{Bool, true, false, cond}
-use mathlib.Core.List.{List}
-use mathlib.Core.Logic.{_⊎_, inl, inr, ⊎-elim}
+use mathlib.Core.Bool.{Bool, true, false}
+use mathlib.Core.List.{List, [], _∷_}
+use mathlib.Core.Logic.{inl, inr}
+use native.Mathlib.Decide.{ℕ-discrete, decLt}
 use native.Mathlib.Omega.{arith}
-use lib.Dec.{leb, eqb}
-use borrow.Author.Tests.{eqb-true, ltb-true, leb-true}
-use Rattle.base.specs.Branch.{passed, both}
 use Rattle.field.specs.Bytes.{numberAt}
-use Rattle.sheet.specs.Tags.{mosaicHeadTag, mosaicStripTag, sortingHeadTag, sortingStripTag, flightHeadTag, flightBlockTag, flightOrderTag}
-use Rattle.sheet.specs.Checks.{noSection, inMosaic, inSorting, inFlight, sectionFilled, orderGiven, orderPermitted, permitted, lengthDue, between, inRange, hasRoom, stripsOfDesk, orderProper}
-use Rattle.sheet.specs.Read.{contentNumber, fieldNumber}
+use Rattle.field.specs.Field.{fieldAt}
+use Rattle.field.specs.declared.Field.the-variants.{Whole}
+use Rattle.order.specs.Order.{Proper, isProper}
+use Rattle.order.specs.Decided.{proper-true, proper-decided}
+use Rattle.sheet.specs.Tags.{flightOrderTag}
+use Rattle.sheet.specs.Sections.{stripsOfDesk}
+use Rattle.sheet.specs.FieldTable.{lengthDue, Value, valuesOf, OutOfRange, Within, InRange}
+use Rattle.sheet.specs.Rows.{rowAt, Passes}
+use Rattle.sheet.specs.RowLaws.{answer-passes}
+use Rattle.sheet.specs.Causes.{Permitted, TooMany, fieldRows}
+use Rattle.sheet.specs.Checks.{permitted}
+use Rattle.sheet.specs.Read.{fieldNumber}
+use Rattle.sheet.specs.Decided.{true-permitted, false-permitted, field-answers}
 use Rattle.sheet.specs.declared.Reading.{Reading}
 
 pub record Passed (s : List ℕ) (st : Reading) (tag len : ℕ) : Type 0 where
-  pub filled : sectionFilled tag (st .section) (st .members) ≡ true
-  pub given : orderGiven tag (st .section) (st .members) ≡ true
-  pub tag-ok : permitted tag (st .section) (st .members) ≡ true
+  pub tag-ok : Permitted tag (st .section) (st .members)
   pub length-ok : len ≡ lengthDue tag (st .mosaic .stations)
-  pub range-ok : inRange s (st .at + 3) tag (st .mosaic .stations) (st .sorting .desks) ≡ true
-  pub room-ok : hasRoom tag (st .members) (stripsOfDesk (st .sorting .counts) (numberAt s (st .at + 3) 1)) ≡ true
-  pub order-ok : orderProper tag (st .members) (numberAt s (st .at + 3) 8) ≡ true
+  pub range-ok : InRange (valuesOf s (st .at + 3) tag len (st .sorting .desks))
+  pub room-ok : TooMany tag (st .members) (stripsOfDesk (st .sorting .counts) (numberAt s (st .at + 3) 1)) → ⊥
+  pub order-ok : tag ≡ flightOrderTag → Proper (st .members) (numberAt s (st .at + 3) 8)
 
-pub passes : (s : List ℕ) (st : Reading) (tag len : ℕ) → fieldNumber s st tag len ≡ 0 → Passed s st tag len
-unfolding fieldNumber contentNumber
-passes s st tag len e =
-    let p1 = passed _ _ _ tt e in
-    let p2 = passed _ _ _ tt (p1 .1) in
-    let p3 = passed _ _ _ tt (p2 .1) in
-    let p4 = passed _ _ _ tt (p3 .1) in
-    let p5 = passed _ _ _ tt (p4 .1) in
-    let p6 = passed _ _ _ tt (p5 .1) in
-    let p7 = passed _ _ _ tt (p6 .1) in
+-- values of which none is out of its range
+in-range : (values : List Value) → (OutOfRange values → ⊥) → InRange values
+unfolding OutOfRange InRange
+in-range [] n = tt
+in-range (v ∷ values) n = (within (decLt (v .number) (v .least)) (decLt (v .most) (v .number)), in-range values (λ c. n (inr (inr c))))
+  where
+    within : Dec (v .number < v .least) → Dec (v .most < v .number) → Within v
+    within (yes h) d = absurd (n (inl h))
+    within (no h) (yes d) = absurd (n (inr (inl d)))
+    within (no h) (no d) = record { at-least = omega arith; at-most = omega arith }
+
+proper-else : (n x : ℕ) → ((Proper n x → ⊥) → ⊥) → Proper n x
+proper-else n x h = go (isProper n x) refl
+  where
+    go : (b : Bool) → isProper n x ≡ b → Proper n x
+    go true e = proper-true n x e
+    go false e = absurd (h (proper-decided n x .fails e))
+
+permitted-else : (tag section members : ℕ) → ((Permitted tag section members → ⊥) → ⊥) → Permitted tag section members
+permitted-else tag section members h = go (permitted tag section members) refl
+  where
+    go : (b : Bool) → permitted tag section members ≡ b → Permitted tag section members
+    go true e = true-permitted tag section members e
+    go false e = absurd (h (false-permitted tag section members e))
+
+length-else : (len due : ℕ) → ((len ≡ due → ⊥) → ⊥) → len ≡ due
+length-else len due h = go (ℕ-discrete len due)
+  where
+    go : Dec (len ≡ due) → len ≡ due
+    go (yes e) = e
+    go (no n) = absurd (h n)
+
+pub passed-rows : (s : List ℕ) (st : Reading) (tag len : ℕ) → Passes (fieldRows s st tag len) → Passed s st tag len
+unfolding Passes fieldRows rowAt
+passed-rows s st tag len p =
     record {
-      filled = p1 .0;
-      given = p2 .0;
-      tag-ok = p3 .0;
-      length-ok = eqb-true _ _ (p4 .0);
-      range-ok = p5 .0;
-      room-ok = p6 .0;
-      order-ok = p7 .0;
+      tag-ok = permitted-else tag (st .section) (st .members) (p 3);
+      length-ok = length-else len _ (p 4);
+      range-ok = in-range _ (p 5);
+      room-ok = p 6;
+      order-ok = λ e. proper-else _ _ (λ n. p 7 (record { is-order = e; improper = n }));
     }
 
--- the seven ways to go on
-pub data Next (tag section members : ℕ) : Type 0 where
-  mosaic-head : tag ≡ mosaicHeadTag → section ≡ noSection → Next tag section members
-  mosaic-strip : tag ≡ mosaicStripTag → section ≡ inMosaic → Next tag section members
-  sorting-head : tag ≡ sortingHeadTag → section < inSorting → Next tag section members
-  sorting-strip : tag ≡ sortingStripTag → section ≡ inSorting → Next tag section members
-  flight-head : tag ≡ flightHeadTag → section < inFlight → Next tag section members
-  flight-block : tag ≡ flightBlockTag → section ≡ inFlight → Next tag section members
-  flight-order : tag ≡ flightOrderTag → section ≡ inFlight → 1 ≤ members → Next tag section members
+pub passes : (s : List ℕ) (st : Reading) (tag len : ℕ) → fieldAt s (st .at) ≡ Whole tag len → fieldNumber s st tag len ≡ 0 → Passed s st tag len
+passes s st tag len e z = passed-rows s st tag len (answer-passes _ _ _ (field-answers s st tag len e) z)
 
-split : (tag k : ℕ) (x y : Bool) → cond (eqb tag k) x y ≡ true → ((tag ≡ k) × (x ≡ true)) ⊎ (y ≡ true)
-split tag k x y e = go (eqb tag k) refl e
-  where
-    go : (b : Bool) → eqb tag k ≡ b → cond b x y ≡ true → ((tag ≡ k) × (x ≡ true)) ⊎ (y ≡ true)
-    go true p q = inl (eqb-true tag k p, q)
-    go false p q = inr q
+-- the first value of a field, and the others
+pub first-within : (v : Value) (values : List Value) → InRange (v ∷ values) → Within v
+unfolding InRange
+first-within v values p = p .0
 
-pub next-of : (tag section members : ℕ) → permitted tag section members ≡ true → Next tag section members
-unfolding permitted orderPermitted
-next-of tag section members e =
-    ⊎-elim (λ h. mosaic-head (h .0) (eqb-true _ _ (h .1)))
-    (λ e. ⊎-elim (λ h. mosaic-strip (h .0) (eqb-true _ _ (h .1)))
-    (λ e. ⊎-elim (λ h. sorting-head (h .0) (ltb-true _ _ (h .1)))
-    (λ e. ⊎-elim (λ h. sorting-strip (h .0) (eqb-true _ _ (h .1)))
-    (λ e. ⊎-elim (λ h. flight-head (h .0) (ltb-true _ _ (h .1)))
-    (λ e. ⊎-elim (λ h. flight-block (h .0) (eqb-true _ _ (h .1)))
-    (λ e. ⊎-elim (λ h. order-next (h .0) (both _ _ (h .1))) (λ n. absurd (never n))
-    (split tag flightOrderTag _ _ e))
-    (split tag flightBlockTag _ _ e))
-    (split tag flightHeadTag _ _ e))
-    (split tag sortingStripTag _ _ e))
-    (split tag sortingHeadTag _ _ e))
-    (split tag mosaicStripTag _ _ e))
-    (split tag mosaicHeadTag _ _ e)
-  where
-    order-next : tag ≡ flightOrderTag → (eqb section inFlight ≡ true) × (leb 1 members ≡ true) → Next tag section members
-    order-next t p = flight-order t (eqb-true _ _ (p .0)) (leb-true _ _ (p .1))
-
-    never : false ≡ true → ⊥
-    never q = let z : _≡_ {A = ℕ} 0 1 = cc in omega arith
-
--- a value between two bounds
-pub is-between : (low value high : ℕ) → between low value high ≡ true → (low ≤ value) × (value ≤ high)
-unfolding between
-is-between low value high e = let p = both _ _ e in (leb-true _ _ (p .0), leb-true _ _ (p .1))
+pub others-within : (v : Value) (values : List Value) → InRange (v ∷ values) → InRange values
+unfolding InRange
+others-within v values p = p .1

@@ -27,11 +27,13 @@ module _ (turns : ℕ) (s : List ℕ) (st : Reading) where
   unfolding readFrom
   turn-cut e = rw (e, readFrom)
 
-  pub turn-next : (tag len : ℕ) → fieldAt s (st .at) ≡ Whole tag len → fieldNumber s st tag len ≡ 0 → readFrom (suc turns) s st ≡ readFrom turns s (nextReading s st tag len)
+  pub turn-next : (tag len : ℕ) → fieldAt s (st .at) ≡ Whole tag len → fieldNumber s st tag len ≡ 0
+      → readFrom (suc turns) s st ≡ readFrom turns s (nextReading s st tag len)
   unfolding readFrom
   turn-next tag len e h = rw (e, readFrom, eq-eqb _ _ h)
 
-  pub turn-refused : (tag len : ℕ) → fieldAt s (st .at) ≡ Whole tag len → (fieldNumber s st tag len ≡ 0 → ⊥) → readFrom (suc turns) s st ≡ refused (fieldNumber s st tag len) (placeOf (fieldNumber s st tag len) (st .head) (st .at))
+  pub turn-refused : (tag len : ℕ) → fieldAt s (st .at) ≡ Whole tag len → (fieldNumber s st tag len ≡ 0 → ⊥)
+      → readFrom (suc turns) s st ≡ refused (fieldNumber s st tag len) (placeOf (fieldNumber s st tag len) (st .head) (st .at))
   unfolding readFrom
   turn-refused tag len e h = rw (e, readFrom, ne-eqb _ _ h)
 
@@ -63,7 +65,8 @@ module _ (s : List ℕ) (st : Reading) (p : Progress s st) where
       within : st .at + 3 + len ≤ length s
       within = whole-at s (st .at) tag len (sym ef ∙ e) .within
 
-      pub progress-refused : (number place : ℕ) (r : Sheet) → number ≡ fieldNumber s st tag len → (number ≡ 0 → ⊥) → place ≡ placeOf number (st .head) (st .at) → r ≡ refused number place → r ≡ readSheet s
+      pub progress-refused : (number place : ℕ) (r : Sheet) → number ≡ fieldNumber s st tag len → (number ≡ 0 → ⊥)
+          → place ≡ placeOf number (st .head) (st .at) → r ≡ refused number place → r ≡ readSheet s
       progress-refused number place r en hn ep h =
           h
           ∙ ap (refused number) ep
@@ -81,7 +84,7 @@ module _ (s : List ℕ) (st : Reading) (p : Progress s st) where
           let q = p .enough in
           rw h
           (record {
-            kept = kept-next s st tag len (p .kept) w (passes s st tag len (sym en ∙ hn));
+            kept = kept-next s st tag len (p .kept) w (passes s st tag len (sym ef ∙ e) (sym en ∙ hn));
             turns = p .turns - 1;
             enough = omega (arith, ahead);
             same = sym (turn-next (p .turns - 1) s st tag len (sym ef ∙ e) (sym en ∙ hn)) ∙ opened;

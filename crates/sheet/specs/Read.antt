@@ -2,39 +2,49 @@
 -- 01: "The planner checks 1, 2, then each field for 3, then 8 or 10 if its tag ends the section before, then 4, 5, 6, 7, 9."
 use Prim.Native.Nat.{ℕ, zero, suc, _+_}
 use mathlib.Core.Bool.{true, false, cond}
-use mathlib.Core.List.{List}
+use mathlib.Core.List.{List, [], _∷_}
 use lib.ListN.{length}
 use lib.Dec.{leb, eqb}
 use Rattle.base.specs.Branch.{check}
 use Rattle.field.specs.Field.{fieldAt}
 use Rattle.field.specs.declared.Field.the-variants.{End, Cut, Whole}
-use Rattle.sheet.specs.Refusals.{fieldCut, tagNotPermitted, lengthWrong, outOfRange, tooMany, noMembers, orderNotProper, orderMissing}
-use Rattle.sheet.specs.Checks.{sectionFilled, orderGiven, fewBlocks, permitted, lengthDue, inRange, hasRoom, stripsOfDesk, orderProper}
+use Rattle.sheet.specs.Refusals.{fieldCut, tagNotPermitted, lengthWrong, tooMany, noMembers, orderNotProper, orderMissing}
+use Rattle.sheet.specs.Checks.{sectionFilled, orderGiven, fewBlocks, permitted, rangeNumber, hasRoom, orderProper}
+use Rattle.sheet.specs.Sections.{stripsOfDesk}
+use Rattle.sheet.specs.FieldTable.{lengthDue, valuesOf}
+use Rattle.sheet.specs.Rows.{firstFailure}
 use Rattle.field.specs.Bytes.{numberAt}
 use Rattle.sheet.specs.Decode.{noMosaic, noSorting, noFlight, nextReading, startReading}
 use Rattle.sheet.specs.declared.Reading.{Reading}
 use Rattle.sheet.specs.declared.Sheet.{Sheet}
 
--- the number that a field of a permitted tag is refused with for its content: "4, 5, 6, 7, 9", 4 passed
-unfoldable pub contentNumber : List ℕ → Reading → ℕ → ℕ → ℕ
-contentNumber s st tag len =
-    check (eqb len (lengthDue tag (st .mosaic .stations))) lengthWrong
-    (check (inRange s (st .at + 3) tag (st .mosaic .stations) (st .sorting .desks)) outOfRange
-    (check (hasRoom tag (st .members) (stripsOfDesk (st .sorting .counts) (numberAt s (st .at + 3) 1))) tooMany
-    (check (orderProper tag (st .members) (numberAt s (st .at + 3) 8)) orderNotProper
-    0)))
+-- the checks of a field of a permitted tag for its content: "5, 6, 7, 9"
+unfoldable pub contentChecks : List ℕ → Reading → ℕ → ℕ → List ℕ
+contentChecks s st tag len =
+    check (eqb len (lengthDue tag (st .mosaic .stations))) lengthWrong 0
+    ∷ rangeNumber (valuesOf s (st .at + 3) tag len (st .sorting .desks))
+    ∷ check (hasRoom tag (st .members) (stripsOfDesk (st .sorting .counts) (numberAt s (st .at + 3) 1))) tooMany 0
+    ∷ check (orderProper tag (st .members) (numberAt s (st .at + 3) 8)) orderNotProper 0
+    ∷ []
 
--- the number that a whole field is refused with, in the order of the checks, 0 where it passes all
+-- the checks of a whole field, each the number that it gives, 0 where the field passes it
+unfoldable pub fieldChecks : List ℕ → Reading → ℕ → ℕ → List ℕ
+fieldChecks s st tag len =
+    check (sectionFilled tag (st .section) (st .members)) noMembers 0
+    ∷ check (orderGiven tag (st .section) (st .members)) orderMissing 0
+    ∷ check (permitted tag (st .section) (st .members)) tagNotPermitted 0
+    ∷ contentChecks s st tag len
+
+-- the number that a whole field is refused with, 0 where it passes all checks
 unfoldable pub fieldNumber : List ℕ → Reading → ℕ → ℕ → ℕ
-fieldNumber s st tag len =
-    check (sectionFilled tag (st .section) (st .members)) noMembers
-    (check (orderGiven tag (st .section) (st .members)) orderMissing
-    (check (permitted tag (st .section) (st .members)) tagNotPermitted
-    (contentNumber s st tag len)))
+fieldNumber s st tag len = firstFailure (fieldChecks s st tag len)
 
--- the number that the end of the sheet is refused with: it ends a section too, and an empty sheet has none
+-- the checks of the end of the sheet, and the number that it is refused with
+unfoldable pub endChecks : ℕ → ℕ → List ℕ
+endChecks section members = check (leb 1 members) noMembers 0 ∷ check (fewBlocks section members) orderMissing 0 ∷ []
+
 unfoldable pub endNumber : ℕ → ℕ → ℕ
-endNumber section members = check (leb 1 members) noMembers (check (fewBlocks section members) orderMissing 0)
+endNumber section members = firstFailure (endChecks section members)
 
 -- "Place is the offset of the tag of the field named": the section's head for 8 and 10 (0 for the empty sheet), else the field
 unfoldable pub placeOf : ℕ → ℕ → ℕ → ℕ

@@ -6,17 +6,15 @@ use mathlib.Core.List.{List}
 use native.Mathlib.Decide.{ℕ-discrete}
 use native.Mathlib.Omega.{arith}
 use lib.ListN.{length, getD, set, length-set}
-use borrow.Author.Tests.{leb-true}
-use Rattle.base.specs.Branch.{both}
 use Rattle.field.specs.Bytes.{numberAt}
-use Rattle.order.specs.Order.{isProper}
-use Rattle.order.specs.Decided.{proper-true}
+use Rattle.order.specs.Order.{Proper}
 use Rattle.sheet.specs.Limits.{mostStations, mostDesks, mostTime, mostStrips, mostStripsOfDesk, mostBlocks}
-use Rattle.sheet.specs.Checks.{mosaicHeadInRange, stationTimesInRange, mosaicStripInRange, sortingStripInRange, flightBlockInRange, between, stripsOfDesk}
+use Rattle.sheet.specs.Sections.{stripsOfDesk}
+use Rattle.sheet.specs.FieldTable.{value, mosaicHeadValues, mosaicStripValues, sortingHeadValues, sortingStripValues, flightBlockValues, Within, InRange}
 use Rattle.sheet.specs.Decode.{zeros, noMosaic, noSorting, noFlight, withMosaicHead, withStationTimes, withMosaicStrip, withSortingHead, withStripAt, withSortingStrip, withBlock, withOrder}
 use Rattle.sheet.specs.Sound.{MosaicSound, SortingSound, FlightWithin, stripsInAll}
 use Rattle.sheet.specs.Stores.{length-zeros, zeros-at, set-here, set-there, set-most, set-least}
-use Rattle.sheet.specs.Passed.{is-between}
+use Rattle.sheet.specs.Passed.{first-within, others-within}
 use Rattle.sheet.specs.declared.MosaicSection.{MosaicSection}
 use Rattle.sheet.specs.declared.SortingSection.{SortingSection}
 use Rattle.sheet.specs.declared.FlightSection.{FlightSection}
@@ -26,7 +24,8 @@ zero-most n i most = omega (arith, zeros-at n i)
 
 -- the mosaic
 
-mosaic-begun : (stations mount : ℕ) → stations ≤ mostStations → mount ≤ mostTime → MosaicSound (record { stations = stations; mount = mount; strips = 0; station = zeros 160; bench = zeros 40 })
+mosaic-begun : (stations mount : ℕ) → stations ≤ mostStations → mount ≤ mostTime
+    → MosaicSound (record { stations = stations; mount = mount; strips = 0; station = zeros 160; bench = zeros 40 })
 mosaic-begun stations mount h₁ h₂ =
     record {
       most-stations = h₁;
@@ -43,11 +42,9 @@ pub no-mosaic-sound : MosaicSound noMosaic
 unfolding noMosaic
 no-mosaic-sound = mosaic-begun 0 0 (omega arith) (omega arith)
 
-pub mosaic-head-sound : (s : List ℕ) (c : ℕ) → mosaicHeadInRange (numberAt s c 1) (numberAt s (c + 1) 2) ≡ true → MosaicSound (withMosaicHead s c)
-unfolding mosaicHeadInRange withMosaicHead
-mosaic-head-sound s c e =
-    let p = both _ _ e in
-    mosaic-begun _ _ (is-between 1 (numberAt s c 1) mostStations (p .0) .1) (leb-true _ _ (p .1))
+pub mosaic-head-sound : (s : List ℕ) (c : ℕ) → InRange (mosaicHeadValues (numberAt s c 1) (numberAt s (c + 1) 2)) → MosaicSound (withMosaicHead s c)
+unfolding mosaicHeadValues withMosaicHead
+mosaic-head-sound s c r = mosaic-begun _ _ (first-within _ _ r .at-most) (first-within _ _ (others-within _ _ r) .at-most)
 
 module _ (s : List ℕ) (c base : ℕ) (times : List ℕ) where
   pub length-times : (k : ℕ) → length (withStationTimes s c base k times) ≡ length times
@@ -55,18 +52,38 @@ module _ (s : List ℕ) (c base : ℕ) (times : List ℕ) where
   length-times zero = refl
   length-times (suc k) = simp length-set (length-times k)
 
-  pub times-most : ((i : ℕ) → getD times i 0 ≤ mostTime) → (k : ℕ) → stationTimesInRange s c k ≡ true → (i : ℕ) → getD (withStationTimes s c base k times) i 0 ≤ mostTime
-  unfolding withStationTimes stationTimesInRange
-  times-most all zero e = all
-  times-most all (suc k) e =
-      let p = both _ _ e in
-      set-most (withStationTimes s c base k times) mostTime (base + k) (numberAt s (c + 2 * k) 2) (times-most all k (p .0)) (leb-true _ _ (p .1))
+  pub times-most : ((i : ℕ) → getD times i 0 ≤ mostTime) → (k : ℕ) → ((j : ℕ) → j < k → numberAt s (c + 2 * j) 2 ≤ mostTime)
+      → (i : ℕ) → getD (withStationTimes s c base k times) i 0 ≤ mostTime
+  unfolding withStationTimes
+  times-most all zero h = all
+  times-most all (suc k) h =
+      set-most (withStationTimes s c base k times) mostTime (base + k) (numberAt s (c + 2 * k) 2) (times-most all k (λ j l. h j (omega arith)))
+      (h k (omega arith))
 
-pub mosaic-strip-sound : (s : List ℕ) (c : ℕ) (m : MosaicSection) → MosaicSound m → m .strips < mostStrips → mosaicStripInRange s c (m .stations) ≡ true → MosaicSound (withMosaicStrip s c m)
-unfolding mosaicStripInRange withMosaicStrip
-mosaic-strip-sound s c m h room e =
-    let p = both _ _ e in
-    let b = is-between 1 (numberAt s (c + 2 * m .stations) 2) mostTime (p .1) in
+-- the values of a strip from station k on, of which there are n: the station times, and the bench time behind them
+module _ (s : List ℕ) (c : ℕ) where
+  strip-time : (n k : ℕ) → InRange (mosaicStripValues s c k n) → (j : ℕ) → k ≤ j → j < k + n → numberAt s (c + 2 * j) 2 ≤ mostTime
+  unfolding mosaicStripValues
+  strip-time zero k r j h l = absurd (omega arith)
+  strip-time (suc n) k r j h l = here (strip-time n (k + 1) (others-within _ _ r) j) (ℕ-discrete j k)
+    where
+      here : (k + 1 ≤ j → j < k + 1 + n → numberAt s (c + 2 * j) 2 ≤ mostTime) → Dec (j ≡ k) → numberAt s (c + 2 * j) 2 ≤ mostTime
+      here later (yes e) = rw e (first-within _ _ r .at-most)
+      here later (no e) = later (omega arith) (omega arith)
+
+  strip-bench : (n k b : ℕ) → k + n ≡ b → InRange (mosaicStripValues s c k n) → Within (value 1 (numberAt s (c + 2 * b) 2) mostTime)
+  unfolding mosaicStripValues
+  strip-bench zero k b e r = rw (bench-at e) (first-within _ _ r)
+    where
+      bench-at : k + 0 ≡ b → b ≡ k
+      bench-at e = omega arith
+  strip-bench (suc n) k b e r = strip-bench n (k + 1) b (omega arith) (others-within _ _ r)
+
+pub mosaic-strip-sound : (s : List ℕ) (c : ℕ) (m : MosaicSection) → MosaicSound m → m .strips < mostStrips → InRange (mosaicStripValues s c 0 (m .stations))
+    → MosaicSound (withMosaicStrip s c m)
+unfolding withMosaicStrip
+mosaic-strip-sound s c m h room r =
+    let b = strip-bench s c (m .stations) 0 (m .stations) (omega arith) r in
     let long = h .bench-length in
     record {
       most-stations = h .most-stations;
@@ -74,9 +91,9 @@ mosaic-strip-sound s c m h room e =
       most-strips = omega arith;
       station-length = length-times s c (4 * m .strips) (m .station) (m .stations) ∙ h .station-length;
       bench-length = simp length-set (h .bench-length);
-      most-station = times-most s c (4 * m .strips) (m .station) (h .most-station) (m .stations) (p .0);
-      most-bench = set-most (m .bench) mostTime (m .strips) _ (h .most-bench) (b .1);
-      least-bench = set-least (m .bench) (m .strips) _ (h .least-bench) (b .0) (omega arith);
+      most-station = times-most s c (4 * m .strips) (m .station) (h .most-station) (m .stations) (λ j l. strip-time s c (m .stations) 0 r j (omega arith) (omega arith));
+      most-bench = set-most (m .bench) mostTime (m .strips) _ (h .most-bench) (b .at-most);
+      least-bench = set-least (m .bench) (m .strips) _ (h .least-bench) (b .at-least) (omega arith);
     }
 
 -- the sorting
@@ -100,12 +117,14 @@ pub no-sorting-sound : SortingSound noSorting
 unfolding noSorting
 no-sorting-sound = sorting-begun 0 (omega arith)
 
-pub sorting-head-sound : (s : List ℕ) (c : ℕ) → between 1 (numberAt s c 1) mostDesks ≡ true → SortingSound (withSortingHead s c)
-unfolding withSortingHead
-sorting-head-sound s c e = sorting-begun _ (is-between 1 (numberAt s c 1) mostDesks e .1)
+pub sorting-head-sound : (s : List ℕ) (c : ℕ) → InRange (sortingHeadValues (numberAt s c 1)) → SortingSound (withSortingHead s c)
+unfolding sortingHeadValues withSortingHead
+sorting-head-sound s c r = sorting-begun _ (first-within _ _ r .at-most)
 
 -- strip k of desk d is stored with a time at 6 d + k: every strip of every desk has a time of 1 or more
-module _ (counts times : List ℕ) (d k v : ℕ) (here : getD counts d 0 ≡ k) (within : d < length counts) (few : (d′ : ℕ) → getD counts d′ 0 ≤ mostStripsOfDesk) (room : k < mostStripsOfDesk) (slot : 6 * d + k < length times) (least : (d′ k′ : ℕ) → k′ < getD counts d′ 0 → 1 ≤ getD times (6 * d′ + k′) 0) (fits : 1 ≤ v) where
+module _ (counts times : List ℕ) (d k v : ℕ) (here : getD counts d 0 ≡ k) (within : d < length counts)
+    (few : (d′ : ℕ) → getD counts d′ 0 ≤ mostStripsOfDesk) (room : k < mostStripsOfDesk) (slot : 6 * d + k < length times)
+    (least : (d′ k′ : ℕ) → k′ < getD counts d′ 0 → 1 ≤ getD times (6 * d′ + k′) 0) (fits : 1 ≤ v) where
   least-same : (k′ : ℕ) → k′ < k + 1 → Dec (k′ ≡ k) → 1 ≤ getD (set times (6 * d + k) v) (6 * d + k′) 0
   least-same k′ h (yes e) = rw (set-here times (6 * d + k) (6 * d + k′) v slot (omega arith)) fits
   least-same k′ h (no e) = rw (set-there times (6 * d + k) (6 * d + k′) v (λ q. e (omega arith))) (least d k′ (omega arith))
@@ -122,11 +141,10 @@ module _ (counts times : List ℕ) (d k v : ℕ) (here : getD counts d 0 ≡ k) 
       let f = few d′ in
       rw (set-there times (6 * d + k) (6 * d′ + k′) v (λ q. e (omega arith))) (least d′ k′ l)
 
-pub strip-at-sound : (s : List ℕ) (c : ℕ) (t : SortingSection) (d k : ℕ) → SortingSound t → d < t .desks → getD (t .counts) d 0 ≡ k → k < mostStripsOfDesk → between 1 (numberAt s (c + 1) 2) mostTime ≡ true → between 1 (numberAt s (c + 3) 2) mostTime ≡ true → SortingSound (withStripAt s c t d k)
+pub strip-at-sound : (s : List ℕ) (c : ℕ) (t : SortingSection) (d k : ℕ) → SortingSound t → d < t .desks → getD (t .counts) d 0 ≡ k → k < mostStripsOfDesk
+    → Within (value 1 (numberAt s (c + 1) 2) mostTime) → Within (value 1 (numberAt s (c + 3) 2) mostTime) → SortingSound (withStripAt s c t d k)
 unfolding withStripAt
-strip-at-sound s c t d k h hd here room e₁ e₂ =
-    let b₁ = is-between 1 (numberAt s (c + 1) 2) mostTime e₁ in
-    let b₂ = is-between 1 (numberAt s (c + 3) 2) mostTime e₂ in
+strip-at-sound s c t d k h hd here room b₁ b₂ =
     let md = h .most-desks in
     let lc = h .counts-length in
     let ls = h .scan-length in
@@ -138,22 +156,26 @@ strip-at-sound s c t d k h hd here room e₁ e₂ =
       desk-length = simp length-set (h .desk-length);
       most-strips = set-most (t .counts) mostStripsOfDesk d (k + 1) (h .most-strips) (omega arith);
       no-desk = λ d′ l. set-there (t .counts) d d′ (k + 1) (λ q. absurd (omega arith)) ∙ h .no-desk d′ l;
-      most-scan = set-most (t .scan) mostTime (6 * d + k) _ (h .most-scan) (b₁ .1);
-      most-desk = set-most (t .desk) mostTime (6 * d + k) _ (h .most-desk) (b₂ .1);
-      least-scan = λ d′ k′ l. least-strip (t .counts) (t .scan) d k _ here (omega arith) (h .most-strips) room (omega arith) (h .least-scan) (b₁ .0) d′ k′ l (ℕ-discrete d′ d);
-      least-desk = λ d′ k′ l. least-strip (t .counts) (t .desk) d k _ here (omega arith) (h .most-strips) room (omega arith) (h .least-desk) (b₂ .0) d′ k′ l (ℕ-discrete d′ d);
+      most-scan = set-most (t .scan) mostTime (6 * d + k) _ (h .most-scan) (b₁ .at-most);
+      most-desk = set-most (t .desk) mostTime (6 * d + k) _ (h .most-desk) (b₂ .at-most);
+      least-scan = λ d′ k′ l. least-strip (t .counts) (t .scan) d k _ here (omega arith) (h .most-strips) room (omega arith) (h .least-scan) (b₁ .at-least) d′ k′ l (ℕ-discrete d′ d);
+      least-desk = λ d′ k′ l. least-strip (t .counts) (t .desk) d k _ here (omega arith) (h .most-strips) room (omega arith) (h .least-desk) (b₂ .at-least) d′ k′ l (ℕ-discrete d′ d);
     }
 
-pub sorting-strip-sound : (s : List ℕ) (c : ℕ) (t : SortingSection) → SortingSound t → sortingStripInRange (t .desks) (numberAt s c 1) (numberAt s (c + 1) 2) (numberAt s (c + 3) 2) ≡ true → stripsOfDesk (t .counts) (numberAt s c 1) < mostStripsOfDesk → SortingSound (withSortingStrip s c t)
-unfolding sortingStripInRange withSortingStrip stripsOfDesk
-sorting-strip-sound s c t h e room =
-    let p = both _ _ e in
-    let q = both _ _ (p .1) in
-    let b = is-between 1 (numberAt s c 1) (t .desks) (p .0) in
-    strip-at-sound s c t (numberAt s c 1 - 1) _ h (omega arith) refl room (q .0) (q .1)
+pub sorting-strip-sound : (s : List ℕ) (c : ℕ) (t : SortingSection) → SortingSound t
+    → InRange (sortingStripValues (t .desks) (numberAt s c 1) (numberAt s (c + 1) 2) (numberAt s (c + 3) 2))
+    → stripsOfDesk (t .counts) (numberAt s c 1) < mostStripsOfDesk → SortingSound (withSortingStrip s c t)
+unfolding sortingStripValues withSortingStrip stripsOfDesk
+sorting-strip-sound s c t h r room =
+    let b = first-within _ _ r in
+    let times = others-within _ _ r in
+    let lo : 1 ≤ numberAt s c 1 = b .at-least in
+    let hi : numberAt s c 1 ≤ t .desks = b .at-most in
+    strip-at-sound s c t (numberAt s c 1 - 1) _ h (omega arith) refl room (first-within _ _ times) (first-within _ _ (others-within _ _ times))
 
 -- and there is one strip more in all
-desk-cases : (l : List ℕ) (d k : ℕ) → length l ≡ 3 → d < 3 → getD l d 0 ≡ k → getD (set l d (k + 1)) 0 0 + getD (set l d (k + 1)) 1 0 + getD (set l d (k + 1)) 2 0 ≡ getD l 0 0 + getD l 1 0 + getD l 2 0 + 1
+desk-cases : (l : List ℕ) (d k : ℕ) → length l ≡ 3 → d < 3 → getD l d 0 ≡ k
+    → getD (set l d (k + 1)) 0 0 + getD (set l d (k + 1)) 1 0 + getD (set l d (k + 1)) 2 0 ≡ getD l 0 0 + getD l 1 0 + getD l 2 0 + 1
 desk-cases l zero k long h e =
     omega (arith, set-here l 0 0 (k + 1) (omega arith) refl, set-there l 0 1 (k + 1) (λ q. omega arith), set-there l 0 2 (k + 1) (λ q. omega arith))
 desk-cases l (suc zero) k long h e =
@@ -162,10 +184,14 @@ desk-cases l (suc (suc zero)) k long h e =
     omega (arith, set-there l 2 0 (k + 1) (λ q. omega arith), set-there l 2 1 (k + 1) (λ q. omega arith), set-here l 2 2 (k + 1) (omega arith) refl)
 desk-cases l (suc (suc (suc d))) k long h e = absurd (omega arith)
 
-pub sorting-strip-more : (s : List ℕ) (c : ℕ) (t : SortingSection) → SortingSound t → sortingStripInRange (t .desks) (numberAt s c 1) (numberAt s (c + 1) 2) (numberAt s (c + 3) 2) ≡ true → stripsInAll (withSortingStrip s c t) ≡ stripsInAll t + 1
-unfolding sortingStripInRange withSortingStrip withStripAt stripsOfDesk stripsInAll
-sorting-strip-more s c t h e =
-    let b = is-between 1 (numberAt s c 1) (t .desks) (both _ _ e .0) in
+pub sorting-strip-more : (s : List ℕ) (c : ℕ) (t : SortingSection) → SortingSound t
+    → InRange (sortingStripValues (t .desks) (numberAt s c 1) (numberAt s (c + 1) 2) (numberAt s (c + 3) 2))
+    → stripsInAll (withSortingStrip s c t) ≡ stripsInAll t + 1
+unfolding sortingStripValues withSortingStrip withStripAt stripsOfDesk stripsInAll
+sorting-strip-more s c t h r =
+    let b = first-within _ _ r in
+    let lo : 1 ≤ numberAt s c 1 = b .at-least in
+    let hi : numberAt s c 1 ≤ t .desks = b .at-most in
     let d = h .most-desks in
     desk-cases (t .counts) (numberAt s c 1 - 1) _ (h .counts-length) (omega arith) refl
 
@@ -191,13 +217,13 @@ no-flight-sound =
     differ : false ≡ true → ⊥
     differ q = let z : _≡_ {A = ℕ} 0 1 = cc in omega arith
 
-pub block-sound : (s : List ℕ) (c : ℕ) (f : FlightSection) → FlightWithin mostBlocks f → f .ordered ≡ false → f .blocks < mostBlocks → flightBlockInRange (numberAt s c 2) (numberAt s (c + 2) 2) (numberAt s (c + 4) 2) ≡ true → FlightWithin mostBlocks (withBlock s c f)
-unfolding flightBlockInRange withBlock
-block-sound s c f h plain room e =
-    let p = both _ _ e in
-    let q = both _ _ (p .1) in
-    let a = is-between 1 (numberAt s c 2) mostTime (p .0) in
-    let b = is-between 1 (numberAt s (c + 4) 2) mostTime (q .1) in
+pub block-sound : (s : List ℕ) (c : ℕ) (f : FlightSection) → FlightWithin mostBlocks f → f .ordered ≡ false → f .blocks < mostBlocks
+    → InRange (flightBlockValues (numberAt s c 2) (numberAt s (c + 2) 2) (numberAt s (c + 4) 2)) → FlightWithin mostBlocks (withBlock s c f)
+unfolding flightBlockValues withBlock
+block-sound s c f h plain room r =
+    let a = first-within _ _ r in
+    let l = first-within _ _ (others-within _ _ r) in
+    let b = first-within _ _ (others-within _ _ (others-within _ _ r)) in
     let la = h .first-length in
     let lb = h .second-length in
     record {
@@ -205,11 +231,11 @@ block-sound s c f h plain room e =
       first-length = simp length-set (h .first-length);
       delay-length = simp length-set (h .delay-length);
       second-length = simp length-set (h .second-length);
-      most-first = set-most (f .first) mostTime (f .blocks) _ (h .most-first) (a .1);
-      most-delay = set-most (f .delay) mostTime (f .blocks) _ (h .most-delay) (leb-true _ _ (q .0));
-      most-second = set-most (f .second) mostTime (f .blocks) _ (h .most-second) (b .1);
-      least-first = set-least (f .first) (f .blocks) _ (h .least-first) (a .0) (omega arith);
-      least-second = set-least (f .second) (f .blocks) _ (h .least-second) (b .0) (omega arith);
+      most-first = set-most (f .first) mostTime (f .blocks) _ (h .most-first) (a .at-most);
+      most-delay = set-most (f .delay) mostTime (f .blocks) _ (h .most-delay) (l .at-most);
+      most-second = set-most (f .second) mostTime (f .blocks) _ (h .most-second) (b .at-most);
+      least-first = set-least (f .first) (f .blocks) _ (h .least-first) (a .at-least) (omega arith);
+      least-second = set-least (f .second) (f .blocks) _ (h .least-second) (b .at-least) (omega arith);
       given = λ e. absurd (differ (sym plain ∙ e));
       free = λ e. omega arith;
     }
@@ -217,7 +243,8 @@ block-sound s c f h plain room e =
     differ : false ≡ true → ⊥
     differ q = let z : _≡_ {A = ℕ} 0 1 = cc in omega arith
 
-pub order-sound : (s : List ℕ) (c at : ℕ) (f : FlightSection) → FlightWithin mostBlocks f → isProper (f .blocks) (numberAt s c 8) ≡ true → FlightWithin mostBlocks (withOrder s c at f)
+pub order-sound : (s : List ℕ) (c at : ℕ) (f : FlightSection) → FlightWithin mostBlocks f → Proper (f .blocks) (numberAt s c 8)
+    → FlightWithin mostBlocks (withOrder s c at f)
 unfolding withOrder
 order-sound s c at f h e =
     record {
@@ -230,6 +257,6 @@ order-sound s c at f h e =
       most-second = h .most-second;
       least-first = h .least-first;
       least-second = h .least-second;
-      given = λ _. proper-true (f .blocks) (numberAt s c 8) e;
+      given = λ _. e;
       free = λ _. h .most-blocks;
     }

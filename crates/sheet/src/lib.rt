@@ -1,5 +1,6 @@
 // The sheet: its limits, its tags, its refusal numbers, and what reading one gives.
 
+pub mod desks;
 pub mod limits;
 pub mod numbers;
 pub mod sections;

@@ -1,4 +1,4 @@
-// The section that is being read: none yet, one of the three, or flight behind its order field. specs/Checks.antt states the same for the definitions.
+// The section that is being read: none yet, one of the three, or flight behind its order field. specs/Sections.antt states the same for the definitions.
 
 pub const NO_SECTION: u64 = 0;
 

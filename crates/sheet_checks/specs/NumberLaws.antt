@@ -1,55 +1,60 @@
--- The chain of checks, one law for each way through it: the number that the code answers is the definition's.
-use Prim.Native.Nat.{ℕ, _+_}
-use mathlib.Core.Path.{_≡_}
+-- The way through the rows of a field, as the code answers their tests: a row that fails gives its number, one that passes leaves it to the rows behind it.
+-- No law speaks of the rows before its own; those of numbers that a callee gives are crate sheet's (RowLaws.antt).
+use Prim.{tt}
+use Prim.Native.Nat.{ℕ}
+use mathlib.Core.Path.{_≡_, sym, _∙_}
 use mathlib.Core.Bool.{Bool, true, false, not}
-use mathlib.Core.List.{List}
+use mathlib.Core.List.{List, _∷_}
+use lib.Dec.{T, ltb, eqb}
 use borrow.Author.Tests.{eq-eqb, ne-eqb, not-true, not-false}
 use Rattle.base.specs.Branch.{check}
-use Rattle.field.specs.Bytes.{NumberRead}
-use Rattle.sheet.specs.Refusals.{tagNotPermitted, lengthWrong, outOfRange, tooMany, noMembers, orderNotProper, orderMissing}
-use Rattle.sheet.specs.Checks.{sectionFilled, orderGiven, permitted, lengthDue, inRange, hasRoom, stripsOfDesk, orderProper}
-use Rattle.sheet.specs.Read.{contentNumber, fieldNumber}
-use Rattle.sheet.specs.declared.Reading.{Reading}
+use Rattle.field.specs.Bytes.{numberAt, NumberRead}
+use Rattle.sheet.specs.Refusals.{lengthWrong, tooMany, orderNotProper}
+use Rattle.sheet.specs.Sections.{stripsOfDesk}
+use Rattle.sheet.specs.Checks.{hasRoom, orderProper}
+use Rattle.sheet.specs.Rows.{firstFailure}
+use Rattle.sheet.specs.RowLaws.{given-fails, given-passes, test-fails, test-passes}
 
-module _ (s : List ℕ) (st : Reading) (tag len due : ℕ) (ed : due ≡ lengthDue tag (st .mosaic .stations)) where
-  pub length-fails : (len ≡ due → ⊥) → lengthWrong ≡ contentNumber s st tag len
-  unfolding contentNumber check
-  length-fails h = rw (← ed, ne-eqb _ _ h)
+module _ (checks : List ℕ) where
+  -- a test that a callee answers
+  module _ (x b : Bool) (e : x ≡ b) where
+    pub answer-fails : (number : ℕ) → T (ltb 0 number) → not x ≡ true → number ≡ firstFailure (check b number 0 ∷ checks)
+    answer-fails number t h = test-fails checks b number t (sym e ∙ not-true x h)
 
-  module _ (el : len ≡ due) (x : Bool) (ex : x ≡ inRange s (st .at + 3) tag (st .mosaic .stations) (st .sorting .desks)) where
-    pub range-fails : not x ≡ true → outOfRange ≡ contentNumber s st tag len
-    unfolding contentNumber check
-    range-fails h = rw (← ed, eq-eqb _ _ el, ← ex, not-true x h)
+    pub answer-passes : (number r : ℕ) → not x ≡ false → r ≡ firstFailure checks → r ≡ firstFailure (check b number 0 ∷ checks)
+    answer-passes number r h p = test-passes checks b number r (sym e ∙ not-false x h) p
 
-    module _ (hx : not x ≡ false) (desk n : ℕ) (rd : NumberRead s (st .at + 3) 1 desk) (en : n ≡ stripsOfDesk (st .sorting .counts) desk) (y : Bool) (ey : y ≡ hasRoom tag (st .members) n) where
-      pub room-fails : not y ≡ true → tooMany ≡ contentNumber s st tag len
-      unfolding contentNumber check
-      room-fails h = rw (← ed, eq-eqb _ _ el, ← ex, not-false x hx, ← rd .is, ← en, ← ey, not-true y h)
+  -- the length, by the one that is due
+  module _ (len due is : ℕ) (e : due ≡ is) where
+    pub length-fails : (len ≡ due → ⊥) → lengthWrong ≡ firstFailure (check (eqb len is) lengthWrong 0 ∷ checks)
+    length-fails h = test-fails checks (eqb len is) lengthWrong tt (ne-eqb len is (λ p. h (p ∙ sym e)))
 
-      module _ (hy : not y ≡ false) (w : ℕ) (rw8 : NumberRead s (st .at + 3) 8 w) (z : Bool) (ez : z ≡ orderProper tag (st .members) w) where
-        pub order-fails : not z ≡ true → orderNotProper ≡ contentNumber s st tag len
-        unfolding contentNumber check
-        order-fails h = rw (← ed, eq-eqb _ _ el, ← ex, not-false x hx, ← rd .is, ← en, ← ey, not-false y hy, ← rw8 .is, ← ez, not-true z h)
+    pub length-passes : (r : ℕ) → len ≡ due → r ≡ firstFailure checks → r ≡ firstFailure (check (eqb len is) lengthWrong 0 ∷ checks)
+    length-passes r h p = test-passes checks (eqb len is) lengthWrong r (eq-eqb len is (h ∙ e)) p
 
-        pub content-passes : not z ≡ false → 0 ≡ contentNumber s st tag len
-        unfolding contentNumber check
-        content-passes h = rw (← ed, eq-eqb _ _ el, ← ex, not-false x hx, ← rd .is, ← en, ← ey, not-false y hy, ← rw8 .is, ← ez, not-false z h)
+  -- the room for one member more, by the desk that was read
+  module _ (s : List ℕ) (c tag members : ℕ) (counts : List ℕ) (desk n : ℕ) (y : Bool)
+      (d : NumberRead s c 1 desk) (en : n ≡ stripsOfDesk counts desk) (ey : y ≡ hasRoom tag members n) where
+    room : (b : Bool) → y ≡ b → hasRoom tag members (stripsOfDesk counts (numberAt s c 1)) ≡ b
+    room b h = rw (← d .is, ← en) (sym ey ∙ h)
 
-module _ (s : List ℕ) (st : Reading) (tag len : ℕ) (x : Bool) (ex : x ≡ sectionFilled tag (st .section) (st .members)) where
-  pub filled-fails : not x ≡ true → noMembers ≡ fieldNumber s st tag len
-  unfolding fieldNumber check
-  filled-fails h = rw (← ex, not-true x h)
+    pub room-fails : not y ≡ true → tooMany ≡ firstFailure (check (hasRoom tag members (stripsOfDesk counts (numberAt s c 1))) tooMany 0 ∷ checks)
+    room-fails h = test-fails checks _ tooMany tt (room false (not-true y h))
 
-  module _ (hx : not x ≡ false) (y : Bool) (ey : y ≡ orderGiven tag (st .section) (st .members)) where
-    pub given-fails : not y ≡ true → orderMissing ≡ fieldNumber s st tag len
-    unfolding fieldNumber check
-    given-fails h = rw (← ex, not-false x hx, ← ey, not-true y h)
+    pub room-passes : (r : ℕ) → not y ≡ false → r ≡ firstFailure checks
+        → r ≡ firstFailure (check (hasRoom tag members (stripsOfDesk counts (numberAt s c 1))) tooMany 0 ∷ checks)
+    room-passes r h p = test-passes checks _ tooMany r (room true (not-false y h)) p
 
-    module _ (hy : not y ≡ false) (z : Bool) (ez : z ≡ permitted tag (st .section) (st .members)) where
-      pub tag-fails : not z ≡ true → tagNotPermitted ≡ fieldNumber s st tag len
-      unfolding fieldNumber check
-      tag-fails h = rw (← ex, not-false x hx, ← ey, not-false y hy, ← ez, not-true z h)
+  -- the order number that was read
+  module _ (s : List ℕ) (c tag members order : ℕ) (z : Bool) (n : NumberRead s c 8 order) (ez : z ≡ orderProper tag members order) where
+    proper : (b : Bool) → z ≡ b → orderProper tag members (numberAt s c 8) ≡ b
+    proper b h = rw (← n .is) (sym ez ∙ h)
 
-      pub tag-passes : (r : ℕ) → not z ≡ false → r ≡ contentNumber s st tag len → r ≡ fieldNumber s st tag len
-      unfolding fieldNumber check
-      tag-passes r h e = rw (← ex, not-false x hx, ← ey, not-false y hy, ← ez, not-false z h) e
+    pub order-fails : not z ≡ true → orderNotProper ≡ firstFailure (check (orderProper tag members (numberAt s c 8)) orderNotProper 0 ∷ checks)
+    order-fails h = test-fails checks _ orderNotProper tt (proper false (not-true z h))
+
+    pub order-passes : (r : ℕ) → not z ≡ false → r ≡ firstFailure checks
+        → r ≡ firstFailure (check (orderProper tag members (numberAt s c 8)) orderNotProper 0 ∷ checks)
+    order-passes r h p = test-passes checks _ orderNotProper r (proper true (not-false z h)) p
+
+pub ruleset rows = (answer-fails, answer-passes, length-fails, length-passes, given-fails, given-passes, room-fails, room-passes, order-fails, order-passes)

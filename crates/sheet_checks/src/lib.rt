@@ -2,7 +2,7 @@
 use field::byte;
 use field::number;
 use sheet::Reading;
-use sheet::SortingSection;
+use sheet::desks::strips_of_desk;
 use sheet::limits::MOST_BLOCKS;
 use sheet::limits::MOST_BLOCKS_WITHOUT_ORDER;
 use sheet::limits::MOST_STRIPS;
@@ -11,7 +11,6 @@ use sheet::numbers::LENGTH_WRONG;
 use sheet::numbers::NO_MEMBERS;
 use sheet::numbers::ORDER_MISSING;
 use sheet::numbers::ORDER_NOT_PROPER;
-use sheet::numbers::OUT_OF_RANGE;
 use sheet::numbers::TAG_NOT_PERMITTED;
 use sheet::numbers::TOO_MANY;
 use sheet::sections::IN_FLIGHT;
@@ -25,12 +24,13 @@ use sheet::tags::MOSAIC_HEAD;
 use sheet::tags::MOSAIC_STRIP;
 use sheet::tags::SORTING_HEAD;
 use sheet::tags::SORTING_STRIP;
-use sheet_ranges::is_in_range;
+use sheet_ranges::range_number;
 ghost use mathlib.Core.Path.{_≡_};
-ghost use Prim.Native.Nat.{_-_, _≤_};
-ghost use Rattle.sheet.specs.Checks.{endsSection, sectionFilled, fewBlocks, orderGiven, orderPermitted, permitted, lengthDue, stripsOfDesk, hasRoom, orderProper};
-ghost use Rattle.sheet.specs.Read.{contentNumber, fieldNumber, endNumber, placeOf};
-ghost use Rattle.sheet.specs.Sound.{SortingSound, stripsInAll};
+ghost use Prim.Native.Nat.{_≤_};
+ghost use Rattle.sheet.specs.FieldTable.{lengthDue};
+ghost use Rattle.sheet.specs.Rows.{firstFailure};
+ghost use Rattle.sheet.specs.Checks.{endsSection, sectionFilled, fewBlocks, orderGiven, orderPermitted, permitted, hasRoom, orderProper};
+ghost use Rattle.sheet.specs.Read.{contentChecks, fieldNumber, endNumber, placeOf};
 ghost use Rattle.sheet_checks.specs.FieldPre.{FieldPre};
 
 pub fn ends_section(tag: u8) -> bool
@@ -115,29 +115,6 @@ fn has_room(tag: u8, members: usize, of_desk: usize) -> bool
     }
 }
 
-// The index of a desk that is numbered from 1.
-pub fn desk_index(desk: u64) -> usize
-    ensures { λ r. ⌜ r ≡ desk - 1 ⌝ }
-{
-    if desk == 0 { 0 } else { (desk - 1) as usize }
-}
-
-pub fn strips_of_desk(counts: [usize; 3], desk: u64) -> usize
-    ensures { λ r. ⌜ r ≡ stripsOfDesk counts desk ⌝ }
-{
-    let d = desk_index(desk);
-    if d < 3 { counts[d] } else { 0 }
-}
-
-// The strips of all desks.
-pub fn strips_in_all(t: SortingSection) -> usize
-    requires { ⌜ SortingSound t ⌝ }
-    ensures { λ r. ⌜ r ≡ stripsInAll t ⌝ }
-{
-    let counts = t.counts;
-    counts[0] + counts[1] + counts[2]
-}
-
 fn order_proper(tag: u8, members: usize, order: u64) -> bool
     ensures { λ r. ⌜ r ≡ orderProper tag members order ⌝ }
 {
@@ -147,10 +124,10 @@ fn order_proper(tag: u8, members: usize, order: u64) -> bool
     true
 }
 
-// 5, 6, 7 or 9 for the content of a field, 0 where it passes.
+// The number that the content of a field is refused with, 0 where it passes.
 fn content_number(s: &[u8], st: Reading, tag: u8, length: usize) -> u64
     requires { ⌜ FieldPre (now s) st length ⌝ }
-    ensures { λ r. ⌜ r ≡ contentNumber (now (s .entry)) st tag length ⌝ }
+    ensures { λ r. ⌜ r ≡ firstFailure (contentChecks (now (s .entry)) st tag length) ⌝ }
 {
     let content = st.at + 3;
     let stations = st.mosaic.stations;
@@ -160,8 +137,9 @@ fn content_number(s: &[u8], st: Reading, tag: u8, length: usize) -> u64
     if length != length_due(tag, stations) {
         return LENGTH_WRONG;
     }
-    if !is_in_range(s, content, tag, stations, desks) {
-        return OUT_OF_RANGE;
+    let range = range_number(s, content, tag, length, desks);
+    if range != 0 {
+        return range;
     }
     if !has_room(tag, members, strips_of_desk(counts, byte(s, content))) {
         return TOO_MANY;

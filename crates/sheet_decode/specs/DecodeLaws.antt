@@ -8,7 +8,7 @@ use native.Mathlib.Omega.{arith}
 use lib.ListN.{length, set, length-set}
 use Rattle.field.specs.Bytes.{numberAt, NumberRead}
 use Rattle.sheet.specs.Decode.{zeros, noMosaic, noSorting, noFlight, startReading, withMosaicHead, withStationTimes, withMosaicStrip, withSortingHead, withStripAt, withSortingStrip, withBlock, withOrder, nextMosaic, nextSorting, nextFlight, nextSection, nextHead, nextMembers, nextReading}
-use Rattle.sheet.specs.Checks.{stripsOfDesk}
+use Rattle.sheet.specs.Sections.{stripsOfDesk}
 use Rattle.sheet.specs.Tags.{sortingStripTag}
 use Rattle.sheet.specs.Read.{refused}
 use Rattle.sheet.specs.declared.MosaicSection.{MosaicSection}
@@ -26,11 +26,13 @@ module _ (m : MosaicSection) (t : SortingSection) (f : FlightSection) (em : m �
   unfolding refused
   refused-is number place = rw (em, et, ef)
 
-pub mosaic-head-is : (s : List ℕ) (c m mount : ℕ) → NumberRead s c 1 m → NumberRead s (c + 1) 2 mount → _≡_ {A = MosaicSection} (record { stations = m; mount = mount; strips = 0; station = zeros 160; bench = zeros 40 }) (withMosaicHead s c)
+pub mosaic-head-is : (s : List ℕ) (c m mount : ℕ) → NumberRead s c 1 m → NumberRead s (c + 1) 2 mount
+    → _≡_ {A = MosaicSection} (record { stations = m; mount = mount; strips = 0; station = zeros 160; bench = zeros 40 }) (withMosaicHead s c)
 unfolding withMosaicHead
 mosaic-head-is s c m mount n₁ n₂ = rw (n₁ .is, n₂ .is)
 
-pub sorting-head-is : (s : List ℕ) (c m : ℕ) → NumberRead s c 1 m → _≡_ {A = SortingSection} (record { desks = m; counts = zeros 3; scan = zeros 18; desk = zeros 18 }) (withSortingHead s c)
+pub sorting-head-is : (s : List ℕ) (c m : ℕ) → NumberRead s c 1 m
+    → _≡_ {A = SortingSection} (record { desks = m; counts = zeros 3; scan = zeros 18; desk = zeros 18 }) (withSortingHead s c)
 unfolding withSortingHead
 sorting-head-is s c m n = rw (n .is)
 
@@ -40,7 +42,8 @@ pub record TimesStored (s : List ℕ) (c base count : ℕ) (times : List ℕ) (k
   pub long : length out ≡ length times
   pub same : out ≡ withStationTimes s c base k times
 
-times-suc : (s : List ℕ) (c base k : ℕ) (times : List ℕ) → withStationTimes s c base (suc k) times ≡ set (withStationTimes s c base k times) (base + k) (numberAt s (c + 2 * k) 2)
+times-suc : (s : List ℕ) (c base k : ℕ) (times : List ℕ)
+    → withStationTimes s c base (suc k) times ≡ set (withStationTimes s c base k times) (base + k) (numberAt s (c + 2 * k) 2)
 unfolding withStationTimes
 times-suc s c base k times = refl
 
@@ -49,7 +52,8 @@ module _ (s : List ℕ) (c base count : ℕ) (times : List ℕ) where
   unfolding withStationTimes
   stored-none = record { within = omega arith; long = refl; same = refl }
 
-  pub stored-more : (k value : ℕ) (out : List ℕ) → TimesStored s c base count times k out → k < count → NumberRead s (c + 2 * k) 2 value → TimesStored s c base count times (k + 1) (set out (base + k) value)
+  pub stored-more : (k value : ℕ) (out : List ℕ) → TimesStored s c base count times k out → k < count → NumberRead s (c + 2 * k) 2 value
+      → TimesStored s c base count times (k + 1) (set out (base + k) value)
   stored-more k value out t h n =
       record { within = omega arith; long = length-set out (base + k) value ∙ t .long; same = same }
     where
@@ -62,26 +66,36 @@ module _ (s : List ℕ) (c base count : ℕ) (times : List ℕ) where
       all : k ≡ count
       all = let w = t .within in omega arith
 
-pub mosaic-strip-is : (s : List ℕ) (c : ℕ) (m : MosaicSection) (station : List ℕ) (value : ℕ) → station ≡ withStationTimes s c (4 * m .strips) (m .stations) (m .station) → NumberRead s (c + 2 * m .stations) 2 value → _≡_ {A = MosaicSection} (record { stations = m .stations; mount = m .mount; strips = m .strips + 1; station = station; bench = set (m .bench) (m .strips) value }) (withMosaicStrip s c m)
+pub mosaic-strip-is : (s : List ℕ) (c : ℕ) (m : MosaicSection) (station : List ℕ) (value : ℕ)
+    → station ≡ withStationTimes s c (4 * m .strips) (m .stations) (m .station) → NumberRead s (c + 2 * m .stations) 2 value
+    → _≡_ {A = MosaicSection} (record { stations = m .stations; mount = m .mount; strips = m .strips + 1; station = station; bench = set (m .bench) (m .strips) value }) (withMosaicStrip s c m)
 unfolding withMosaicStrip
 mosaic-strip-is s c m station value e n = rw (e, n .is)
 
-pub strip-at-is : (s : List ℕ) (c : ℕ) (t : SortingSection) (d k scan desk : ℕ) → NumberRead s (c + 1) 2 scan → NumberRead s (c + 3) 2 desk → _≡_ {A = SortingSection} (record { desks = t .desks; counts = set (t .counts) d (k + 1); scan = set (t .scan) (6 * d + k) scan; desk = set (t .desk) (6 * d + k) desk }) (withStripAt s c t d k)
+pub strip-at-is : (s : List ℕ) (c : ℕ) (t : SortingSection) (d k scan desk : ℕ) → NumberRead s (c + 1) 2 scan → NumberRead s (c + 3) 2 desk
+    → _≡_ {A = SortingSection} (record { desks = t .desks; counts = set (t .counts) d (k + 1); scan = set (t .scan) (6 * d + k) scan; desk = set (t .desk) (6 * d + k) desk }) (withStripAt s c t d k)
 unfolding withStripAt
 strip-at-is s c t d k scan desk n₁ n₂ = rw (n₁ .is, n₂ .is)
 
-pub block-is : (s : List ℕ) (c : ℕ) (f : FlightSection) (a l b : ℕ) → NumberRead s c 2 a → NumberRead s (c + 2) 2 l → NumberRead s (c + 4) 2 b → _≡_ {A = FlightSection} (record { blocks = f .blocks + 1; first = set (f .first) (f .blocks) a; delay = set (f .delay) (f .blocks) l; second = set (f .second) (f .blocks) b; ordered = f .ordered; order = f .order; place = f .place }) (withBlock s c f)
+pub block-is : (s : List ℕ) (c : ℕ) (f : FlightSection) (a l b : ℕ) → NumberRead s c 2 a → NumberRead s (c + 2) 2 l → NumberRead s (c + 4) 2 b
+    → _≡_ {A = FlightSection} (record { blocks = f .blocks + 1; first = set (f .first) (f .blocks) a; delay = set (f .delay) (f .blocks) l; second = set (f .second) (f .blocks) b; ordered = f .ordered; order = f .order; place = f .place }) (withBlock s c f)
 unfolding withBlock
 block-is s c f a l b n₁ n₂ n₃ = rw (n₁ .is, n₂ .is, n₃ .is)
 
-pub order-is : (s : List ℕ) (c at : ℕ) (f : FlightSection) (order : ℕ) → NumberRead s c 8 order → _≡_ {A = FlightSection} (record { blocks = f .blocks; first = f .first; delay = f .delay; second = f .second; ordered = true; order = order; place = at }) (withOrder s c at f)
+pub order-is : (s : List ℕ) (c at : ℕ) (f : FlightSection) (order : ℕ) → NumberRead s c 8 order
+    → _≡_ {A = FlightSection} (record { blocks = f .blocks; first = f .first; delay = f .delay; second = f .second; ordered = true; order = order; place = at }) (withOrder s c at f)
 unfolding withOrder
 order-is s c at f order n = rw (n .is)
 
-pub sorting-strip-is : (s : List ℕ) (c tag : ℕ) (t r : SortingSection) (desk d k : ℕ) → tag ≡ sortingStripTag → NumberRead s c 1 desk → d ≡ desk - 1 → k ≡ stripsOfDesk (t .counts) desk → r ≡ withStripAt s c t d k → r ≡ nextSorting s c tag t
+pub sorting-strip-is : (s : List ℕ) (c tag : ℕ) (t r : SortingSection) (desk d k : ℕ) → tag ≡ sortingStripTag → NumberRead s c 1 desk → d ≡ desk - 1
+    → k ≡ stripsOfDesk (t .counts) desk → r ≡ withStripAt s c t d k → r ≡ nextSorting s c tag t
 unfolding nextSorting withSortingStrip
 sorting-strip-is s c tag t r desk d k e n ed ek h = rw (e, ← n .is, ← ed, ← ek) h
 
-pub reading-is : (s : List ℕ) (st : Reading) (tag len section head members : ℕ) (m : MosaicSection) (t : SortingSection) (f : FlightSection) → section ≡ nextSection tag (st .section) → head ≡ nextHead tag (st .head) (st .at) → members ≡ nextMembers tag (st .members) → m ≡ nextMosaic s (st .at + 3) tag (st .mosaic) → t ≡ nextSorting s (st .at + 3) tag (st .sorting) → f ≡ nextFlight s (st .at + 3) tag (st .at) (st .flight) → _≡_ {A = Reading} (record { at = st .at + 3 + len; section = section; head = head; members = members; mosaic = m; sorting = t; flight = f }) (nextReading s st tag len)
+pub reading-is : (s : List ℕ) (st : Reading) (tag len section head members : ℕ) (m : MosaicSection) (t : SortingSection) (f : FlightSection)
+    → section ≡ nextSection tag (st .section) → head ≡ nextHead tag (st .head) (st .at) → members ≡ nextMembers tag (st .members)
+    → m ≡ nextMosaic s (st .at + 3) tag (st .mosaic) → t ≡ nextSorting s (st .at + 3) tag (st .sorting)
+    → f ≡ nextFlight s (st .at + 3) tag (st .at) (st .flight)
+    → _≡_ {A = Reading} (record { at = st .at + 3 + len; section = section; head = head; members = members; mosaic = m; sorting = t; flight = f }) (nextReading s st tag len)
 unfolding nextReading
 reading-is s st tag len section head members m t f e₁ e₂ e₃ e₄ e₅ e₆ = rw (e₁, e₂, e₃, e₄, e₅, e₆)

@@ -1,3 +1,3 @@
 -- What decoding a field rests on; its definitions are those of crate sheet.
-pub mod Room
+pub mod Pre
 pub mod DecodeLaws

@@ -6,6 +6,8 @@ use sheet::MosaicSection;
 use sheet::Reading;
 use sheet::Sheet;
 use sheet::SortingSection;
+use sheet::desks::desk_index;
+use sheet::desks::strips_of_desk;
 use sheet::sections::AFTER_ORDER;
 use sheet::sections::IN_FLIGHT;
 use sheet::sections::IN_MOSAIC;
@@ -18,17 +20,15 @@ use sheet::tags::MOSAIC_HEAD;
 use sheet::tags::MOSAIC_STRIP;
 use sheet::tags::SORTING_HEAD;
 use sheet::tags::SORTING_STRIP;
-use sheet_checks::desk_index;
 use sheet_checks::ends_section;
-use sheet_checks::strips_of_desk;
 ghost use mathlib.Core.Path.{_≡_};
 ghost use Prim.Native.Nat.{_+_, _*_, _<_, _^_};
 ghost use lib.ListN.{length};
 ghost use Rattle.sheet.specs.Decode.{noMosaic, noSorting, noFlight, withMosaicHead, withStationTimes, withMosaicStrip, withSortingHead, withStripAt, withBlock, withOrder, nextMosaic, nextSorting, nextFlight, nextSection, nextMembers, nextHead, nextReading, startReading};
 ghost use Rattle.field.specs.Bytes.{numberAt};
-ghost use Rattle.sheet.specs.Checks.{stripsOfDesk};
+ghost use Rattle.sheet.specs.Sections.{stripsOfDesk};
 ghost use Rattle.sheet.specs.Read.{refused, accepted};
-ghost use Rattle.sheet_decode.specs.Room.{TimesRoom, StripRoom, DeskRoom, BlockRoom, MosaicRoom, SortingRoom, FlightRoom, NextPre};
+ghost use Rattle.sheet_decode.specs.Pre.{StationTimesPre, MosaicStripPre, StripAtPre, BlockPre, NextMosaicPre, NextSortingPre, NextFlightPre, NextReadingPre};
 
 pub fn no_mosaic() -> MosaicSection
     ensures { λ r. ⌜ r ≡ noMosaic ⌝ }
@@ -132,7 +132,7 @@ fn with_station_times(
     count: usize,
     times: [u64; 160],
 ) -> [u64; 160]
-    requires { ⌜ TimesRoom c base count ⌝ }
+    requires { ⌜ StationTimesPre c base count ⌝ }
     ensures { λ r. ⌜ r ≡ withStationTimes (now (s .entry)) c base count times ⌝ }
 {
     let mut out = times;
@@ -145,7 +145,7 @@ fn with_station_times(
 }
 
 fn with_mosaic_strip(s: &[u8], c: usize, m: MosaicSection) -> MosaicSection
-    requires { ⌜ StripRoom c (m .strips) (m .stations) ⌝ }
+    requires { ⌜ MosaicStripPre c (m .strips) (m .stations) ⌝ }
     ensures { λ r. ⌜ r ≡ withMosaicStrip (now (s .entry)) c m ⌝ }
 {
     let stations = m.stations;
@@ -176,7 +176,7 @@ fn with_sorting_head(s: &[u8], c: usize) -> SortingSection
 
 // The sorting with strip k of desk d, both from 0.
 fn with_strip_at(s: &[u8], c: usize, t: SortingSection, d: usize, k: usize) -> SortingSection
-    requires { ⌜ DeskRoom c d k ⌝ }
+    requires { ⌜ StripAtPre c d k ⌝ }
     ensures { λ r. ⌜ r ≡ withStripAt (now (s .entry)) c t d k ⌝ }
 {
     let mut counts = t.counts;
@@ -194,7 +194,7 @@ fn with_strip_at(s: &[u8], c: usize, t: SortingSection, d: usize, k: usize) -> S
 }
 
 fn with_block(s: &[u8], c: usize, f: FlightSection) -> FlightSection
-    requires { ⌜ BlockRoom c (f .blocks) ⌝ }
+    requires { ⌜ BlockPre c (f .blocks) ⌝ }
     ensures { λ r. ⌜ r ≡ withBlock (now (s .entry)) c f ⌝ }
 {
     let i = f.blocks;
@@ -233,7 +233,7 @@ fn with_order(s: &[u8], c: usize, at: usize, f: FlightSection) -> FlightSection
 }
 
 fn next_mosaic(s: &[u8], c: usize, tag: u8, m: MosaicSection) -> MosaicSection
-    requires { ⌜ MosaicRoom c tag (m .strips) (m .stations) ⌝ }
+    requires { ⌜ NextMosaicPre c tag (m .strips) (m .stations) ⌝ }
     ensures { λ r. ⌜ r ≡ nextMosaic (now (s .entry)) c tag m ⌝ }
 {
     if tag == MOSAIC_HEAD {
@@ -246,7 +246,7 @@ fn next_mosaic(s: &[u8], c: usize, tag: u8, m: MosaicSection) -> MosaicSection
 }
 
 fn next_sorting(s: &[u8], c: usize, tag: u8, t: SortingSection) -> SortingSection
-    requires { ⌜ SortingRoom c tag (numberAt (now s) c 1) (stripsOfDesk (t .counts) (numberAt (now s) c 1)) ⌝ }
+    requires { ⌜ NextSortingPre c tag (numberAt (now s) c 1) (stripsOfDesk (t .counts) (numberAt (now s) c 1)) ⌝ }
     ensures { λ r. ⌜ r ≡ nextSorting (now (s .entry)) c tag t ⌝ }
 {
     if tag == SORTING_HEAD {
@@ -261,7 +261,7 @@ fn next_sorting(s: &[u8], c: usize, tag: u8, t: SortingSection) -> SortingSectio
 }
 
 fn next_flight(s: &[u8], c: usize, tag: u8, at: usize, f: FlightSection) -> FlightSection
-    requires { ⌜ FlightRoom c tag (f .blocks) ⌝ }
+    requires { ⌜ NextFlightPre c tag (f .blocks) ⌝ }
     ensures { λ r. ⌜ r ≡ nextFlight (now (s .entry)) c tag at f ⌝ }
 {
     if tag == FLIGHT_BLOCK {
@@ -309,7 +309,7 @@ fn next_head(tag: u8, head: usize, at: usize) -> usize
 
 // The reading after a whole field that passed its checks.
 pub fn next_reading(s: &[u8], st: Reading, tag: u8, length: usize) -> Reading
-    requires { ⌜ NextPre (now s) st tag length ⌝ }
+    requires { ⌜ NextReadingPre (now s) st tag length ⌝ }
     ensures { λ r. ⌜ r ≡ nextReading (now (s .entry)) st tag length ⌝ }
 {
     let at = st.at;

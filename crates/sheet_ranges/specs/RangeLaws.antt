@@ -1,99 +1,129 @@
--- Laws of the ranges: how a loop over the station times decides them, and that values read from the sheet are the ones that the definitions name.
-use Prim.Native.Nat.{ℕ, zero, suc, _+_, _-_, _*_, _≤_, _<_}
+-- Laws of the ranges: how one value after another decides the number, in a loop over the station times too, and that values read from the sheet are the ones
+-- that the field table names.
+use Prim.Native.Nat.{ℕ, suc, _+_, _-_, _*_, _≤_, _<_}
 use mathlib.Core.Path.{_≡_, refl, sym, ap, _∙_}
-use mathlib.Core.Bool.{Bool, true, false, _&&_}
-use mathlib.Core.List.{List}
-use native.Mathlib.Numerals.{add-one}
+use mathlib.Core.List.{List, [], _∷_}
 use native.Mathlib.Omega.{arith}
-use lib.Dec.{leb}
-use borrow.Author.Tests.{le-leb, lt-leb}
+use borrow.Author.Tests.{le-leb, lt-leb, ne-eqb}
+use Rattle.base.specs.Branch.{check}
 use Rattle.field.specs.Bytes.{numberAt, NumberRead}
-use Rattle.sheet.specs.Limits.{mostTime, mostDesks}
+use Rattle.sheet.specs.Limits.{mostTime}
+use Rattle.sheet.specs.Refusals.{outOfRange}
 use Rattle.sheet.specs.Tags.{mosaicHeadTag, mosaicStripTag, sortingHeadTag, sortingStripTag, flightBlockTag}
-use Rattle.sheet.specs.Checks.{stationTimesInRange, mosaicStripInRange, between, mosaicHeadInRange, sortingStripInRange, flightBlockInRange, inRange}
+use Rattle.sheet.specs.FieldTable.{Value, value, mosaicHeadValues, mosaicStripValues, stationTimes, sortingHeadValues, sortingStripValues, flightBlockValues, valuesOf}
+use Rattle.sheet.specs.Rows.{firstFailure}
+use Rattle.sheet.specs.RowLaws.{given-fails, given-passes, given-last}
+use Rattle.sheet.specs.Checks.{valueNumber, valueNumbers, rangeNumber}
 
--- the first k station times are in range
-pub record TimesPassed (s : List ℕ) (c count k : ℕ) : Type 0 where
-  pub within : k ≤ count
-  pub passed : stationTimesInRange s c k ≡ true
+-- one value
+module _ (least number most : ℕ) where
+  pub below-least : number < least → outOfRange ≡ valueNumber least number most
+  unfolding valueNumber check
+  below-least h = rw (lt-leb least number h)
 
-pub times-none : (s : List ℕ) (c count : ℕ) → TimesPassed s c count 0
-unfolding stationTimesInRange
-times-none s c count = record { within = omega arith; passed = refl }
+  pub above-most : least ≤ number → most < number → outOfRange ≡ valueNumber least number most
+  unfolding valueNumber check
+  above-most h k = rw (le-leb least number h, lt-leb number most k)
 
-times-suc : (s : List ℕ) (c k : ℕ) → stationTimesInRange s c (suc k) ≡ (stationTimesInRange s c k && leb (numberAt s (c + 2 * k) 2) mostTime)
-unfolding stationTimesInRange
-times-suc s c k = refl
+  pub in-range : least ≤ number → number ≤ most → 0 ≡ valueNumber least number most
+  unfolding valueNumber check
+  in-range h k = rw (le-leb least number h, le-leb number most k)
 
--- one time out of range, and the whole is
-times-fail : (s : List ℕ) (c k d : ℕ) → stationTimesInRange s c k ≡ false → stationTimesInRange s c (k + d) ≡ false
-times-fail s c k zero e = ap (stationTimesInRange s c) (omega arith) ∙ e
-times-fail s c k (suc d) e =
-    ap (stationTimesInRange s c) next ∙ times-suc s c (k + d) ∙ ap (λ b. b && leb (numberAt s (c + 2 * (k + d)) 2) mostTime) (times-fail s c k d e)
-  where
-    next : k + suc d ≡ suc (k + d)
-    next = omega arith
+-- one value after another: the first that gives no 0 decides
+module _ (least number most : ℕ) (values : List Value) (n : ℕ) (e : n ≡ valueNumber least number most) where
+  pub value-fails : (n ≡ 0 → ⊥) → n ≡ rangeNumber (value least number most ∷ values)
+  unfolding rangeNumber valueNumbers
+  value-fails h = given-fails (valueNumbers values) n _ e h
 
-module _ (s : List ℕ) (c count k value : ℕ) (t : TimesPassed s c count k) (less : k < count) (r : NumberRead s (c + 2 * k) 2 value) where
-  pub times-more : value ≤ mostTime → TimesPassed s c count (k + 1)
-  times-more h =
-      record { within = omega arith; passed = ap (stationTimesInRange s c) (add-one k) ∙ times-suc s c k ∙ rw (t .passed, ← r .is, le-leb _ _ h) }
+  pub value-passes : (r : ℕ) → n ≡ 0 → r ≡ rangeNumber values → r ≡ rangeNumber (value least number most ∷ values)
+  unfolding rangeNumber valueNumbers
+  value-passes r z h = given-passes (valueNumbers values) n _ r e z h
 
-  pub times-wrong : mostTime < value → false ≡ stationTimesInRange s c count
-  times-wrong h = sym (ap (stationTimesInRange s c) all ∙ times-fail s c (suc k) (count - suc k) here)
+pub value-last : (least number most r : ℕ) → r ≡ valueNumber least number most → r ≡ rangeNumber (value least number most ∷ [])
+unfolding rangeNumber valueNumbers
+value-last least number most r e = given-last r _ e
+
+-- the first k station times of a strip pass: those from k on decide
+pub record TimesPassed (s : List ℕ) (c len k : ℕ) : Type 0 where
+  pub within : 2 * k ≤ len
+  pub left : rangeNumber (mosaicStripValues s c 0 (stationTimes len)) ≡ rangeNumber (mosaicStripValues s c k (stationTimes len - k))
+
+pub times-none : (s : List ℕ) (c len : ℕ) → TimesPassed s c len 0
+times-none s c len = record { within = omega arith; left = ap (λ n. rangeNumber (mosaicStripValues s c 0 n)) (omega arith) }
+
+values-suc : (s : List ℕ) (c k n : ℕ) → mosaicStripValues s c k (suc n) ≡ value 0 (numberAt s (c + 2 * k) 2) mostTime ∷ mosaicStripValues s c (k + 1) n
+unfolding mosaicStripValues
+values-suc s c k n = refl
+
+values-none : (s : List ℕ) (c k : ℕ) → mosaicStripValues s c k 0 ≡ value 1 (numberAt s (c + 2 * k) 2) mostTime ∷ []
+unfolding mosaicStripValues
+values-none s c k = refl
+
+module _ (s : List ℕ) (c len k : ℕ) (t : TimesPassed s c len k) where
+  module _ (more : 2 * k + 2 < len) (time n : ℕ) (r : NumberRead s (c + 2 * k) 2 time) (e : n ≡ valueNumber 0 time mostTime) where
+    some-left : stationTimes len - k ≡ suc (stationTimes len - (k + 1))
+    unfolding stationTimes
+    some-left = omega arith
+
+    next : rangeNumber (mosaicStripValues s c 0 (stationTimes len))
+        ≡ rangeNumber (value 0 (numberAt s (c + 2 * k) 2) mostTime ∷ mosaicStripValues s c (k + 1) (stationTimes len - (k + 1)))
+    next = t .left ∙ ap (λ j. rangeNumber (mosaicStripValues s c k j)) some-left ∙ ap rangeNumber (values-suc s c k _)
+
+    read : n ≡ valueNumber 0 (numberAt s (c + 2 * k) 2) mostTime
+    read = e ∙ ap (λ x. valueNumber 0 x mostTime) (r .is)
+
+    pub times-wrong : (n ≡ 0 → ⊥) → n ≡ rangeNumber (mosaicStripValues s c 0 (stationTimes len))
+    times-wrong h = value-fails _ _ _ _ n read h ∙ sym next
+
+    pub times-more : n ≡ 0 → TimesPassed s c len (k + 1)
+    times-more z =
+        record {
+          within = omega arith;
+          left = next ∙ sym (value-passes _ _ _ _ n read _ z refl);
+        }
+
+  all-passed : len ≤ 2 * k + 2 → stationTimes len - k ≡ 0
+  unfolding stationTimes
+  all-passed h = omega arith
+
+  pub times-bench : len ≤ 2 * k + 2 → (time r : ℕ) → NumberRead s (c + 2 * k) 2 time → r ≡ valueNumber 1 time mostTime
+      → r ≡ rangeNumber (mosaicStripValues s c 0 (stationTimes len))
+  times-bench h time r n e =
+      value-last _ _ _ r (e ∙ ap (λ x. valueNumber 1 x mostTime) (n .is))
+      ∙ sym (t .left ∙ ap (λ j. rangeNumber (mosaicStripValues s c k j)) none-left ∙ ap rangeNumber (values-none s c k))
     where
-      all : count ≡ suc k + (count - suc k)
-      all = omega arith
-
-      here : stationTimesInRange s c (suc k) ≡ false
-      here = times-suc s c k ∙ rw (t .passed, ← r .is, lt-leb _ _ h)
-
-pub times-all : (s : List ℕ) (c count k : ℕ) → TimesPassed s c count k → count ≤ k → true ≡ stationTimesInRange s c count
-times-all s c count k t h = sym (ap (stationTimesInRange s c) all ∙ t .passed)
-  where
-    all : count ≡ k
-    all = let w = t .within in omega arith
-
-module _ (s : List ℕ) (c stations : ℕ) (x : Bool) (e : x ≡ stationTimesInRange s c stations) where
-  pub strip-wrong : x ≡ false → false ≡ mosaicStripInRange s c stations
-  unfolding mosaicStripInRange
-  strip-wrong h = rw (sym e ∙ h)
-
-  pub strip-bench : (bench : ℕ) (r : Bool) → x ≡ true → NumberRead s (c + 2 * stations) 2 bench → r ≡ between 1 bench mostTime → r ≡ mosaicStripInRange s c stations
-  unfolding mosaicStripInRange
-  strip-bench bench r h n p = rw (sym e ∙ h, ← n .is) p
+      none-left : stationTimes len - k ≡ 0
+      none-left = all-passed h
 
 -- the values that a field is checked for are read from its content
-module _ (s : List ℕ) (c tag stations desks : ℕ) (r : Bool) where
-  pub mosaic-head-read : tag ≡ mosaicHeadTag → (m mount : ℕ) → NumberRead s c 1 m → NumberRead s (c + 1) 2 mount → r ≡ mosaicHeadInRange m mount → r ≡ inRange s c tag stations desks
-  unfolding inRange
+module _ (s : List ℕ) (c tag len desks r : ℕ) where
+  pub mosaic-head-read : tag ≡ mosaicHeadTag → (m mount : ℕ) → NumberRead s c 1 m → NumberRead s (c + 1) 2 mount
+      → r ≡ rangeNumber (mosaicHeadValues m mount) → r ≡ rangeNumber (valuesOf s c tag len desks)
+  unfolding valuesOf
   mosaic-head-read e m mount n₁ n₂ h = rw (e, ← n₁ .is, ← n₂ .is) h
 
-  pub mosaic-strip-read : tag ≡ mosaicStripTag → r ≡ mosaicStripInRange s c stations → r ≡ inRange s c tag stations desks
-  unfolding inRange
+  pub mosaic-strip-read : tag ≡ mosaicStripTag → r ≡ rangeNumber (mosaicStripValues s c 0 (stationTimes len)) → r ≡ rangeNumber (valuesOf s c tag len desks)
+  unfolding valuesOf
   mosaic-strip-read e h = rw e h
 
-  pub sorting-head-read : tag ≡ sortingHeadTag → (m : ℕ) → NumberRead s c 1 m → r ≡ between 1 m mostDesks → r ≡ inRange s c tag stations desks
-  unfolding inRange
+  pub sorting-head-read : tag ≡ sortingHeadTag → (m : ℕ) → NumberRead s c 1 m → r ≡ rangeNumber (sortingHeadValues m)
+      → r ≡ rangeNumber (valuesOf s c tag len desks)
+  unfolding valuesOf
   sorting-head-read e m n h = rw (e, ← n .is) h
 
-  pub sorting-strip-read : tag ≡ sortingStripTag → (desk scan time : ℕ) → NumberRead s c 1 desk → NumberRead s (c + 1) 2 scan → NumberRead s (c + 3) 2 time → r ≡ sortingStripInRange desks desk scan time → r ≡ inRange s c tag stations desks
-  unfolding inRange
+  pub sorting-strip-read : tag ≡ sortingStripTag → (desk scan time : ℕ) → NumberRead s c 1 desk → NumberRead s (c + 1) 2 scan → NumberRead s (c + 3) 2 time
+      → r ≡ rangeNumber (sortingStripValues desks desk scan time) → r ≡ rangeNumber (valuesOf s c tag len desks)
+  unfolding valuesOf
   sorting-strip-read e desk scan time n₁ n₂ n₃ h = rw (e, ← n₁ .is, ← n₂ .is, ← n₃ .is) h
 
-  pub flight-block-read : tag ≡ flightBlockTag → (a l b : ℕ) → NumberRead s c 2 a → NumberRead s (c + 2) 2 l → NumberRead s (c + 4) 2 b → r ≡ flightBlockInRange a l b → r ≡ inRange s c tag stations desks
-  unfolding inRange
+  pub flight-block-read : tag ≡ flightBlockTag → (a l b : ℕ) → NumberRead s c 2 a → NumberRead s (c + 2) 2 l → NumberRead s (c + 4) 2 b
+      → r ≡ rangeNumber (flightBlockValues a l b) → r ≡ rangeNumber (valuesOf s c tag len desks)
+  unfolding valuesOf
   flight-block-read e a l b n₁ n₂ n₃ h = rw (e, ← n₁ .is, ← n₂ .is, ← n₃ .is) h
 
-module _ (desks desk scan time : ℕ) (x : Bool) (e : x ≡ between 1 desk desks) where
-  pub desk-wrong : x ≡ false → false ≡ sortingStripInRange desks desk scan time
-  unfolding sortingStripInRange
-  desk-wrong h = rw (sym e ∙ h)
-
-  pub scan-wrong : (y : Bool) → x ≡ true → y ≡ between 1 scan mostTime → y ≡ false → false ≡ sortingStripInRange desks desk scan time
-  unfolding sortingStripInRange
-  scan-wrong y h p k = rw (sym e ∙ h, sym p ∙ k)
-
-  pub desk-time : (y r : Bool) → x ≡ true → y ≡ between 1 scan mostTime → y ≡ true → r ≡ between 1 time mostTime → r ≡ sortingStripInRange desks desk scan time
-  unfolding sortingStripInRange
-  desk-time y r h p k q = rw (sym e ∙ h, sym p ∙ k) q
+-- a field of any other tag has no value with a range
+pub no-values-read : (s : List ℕ) (c tag len desks : ℕ)
+    → (tag ≡ mosaicHeadTag → ⊥) → (tag ≡ mosaicStripTag → ⊥) → (tag ≡ sortingHeadTag → ⊥) → (tag ≡ sortingStripTag → ⊥) → (tag ≡ flightBlockTag → ⊥)
+    → 0 ≡ rangeNumber (valuesOf s c tag len desks)
+unfolding valuesOf rangeNumber valueNumbers firstFailure
+no-values-read s c tag len desks h₁ h₂ h₃ h₄ h₅ = rw (ne-eqb _ _ h₁, ne-eqb _ _ h₂, ne-eqb _ _ h₃, ne-eqb _ _ h₄, ne-eqb _ _ h₅)

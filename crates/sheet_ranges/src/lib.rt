@@ -1,103 +1,113 @@
-// Whether the values of a field are within their ranges (01, the table of tags): one function a tag.
+// The number that the values of a field give by their ranges (01, the table of tags), 0 where each is in its range: one function a tag.
 use field::byte;
 use field::number;
 use sheet::limits::MOST_DESKS;
 use sheet::limits::MOST_STATIONS;
 use sheet::limits::MOST_TIME;
+use sheet::numbers::OUT_OF_RANGE;
 use sheet::tags::FLIGHT_BLOCK;
 use sheet::tags::MOSAIC_HEAD;
 use sheet::tags::MOSAIC_STRIP;
 use sheet::tags::SORTING_HEAD;
 use sheet::tags::SORTING_STRIP;
 ghost use mathlib.Core.Path.{_≡_};
-ghost use Prim.Native.Nat.{_+_, _*_, _≤_, _<_, _^_};
-ghost use Rattle.sheet.specs.Checks.{between, mosaicHeadInRange, stationTimesInRange, mosaicStripInRange, sortingStripInRange, flightBlockInRange, inRange};
+ghost use Prim.Native.Nat.{_+_, _<_, _^_};
+ghost use Rattle.sheet.specs.FieldTable.{mosaicHeadValues, mosaicStripValues, stationTimes, sortingHeadValues, sortingStripValues, flightBlockValues, valuesOf};
+ghost use Rattle.sheet.specs.Checks.{valueNumber, rangeNumber};
 
-fn is_between(low: u64, value: u64, high: u64) -> bool
-    ensures { λ r. ⌜ r ≡ between low value high ⌝ }
+// The number of one value, which may be from `least` to `most`.
+fn value_number(least: u64, value: u64, most: u64) -> u64
+    ensures { λ r. ⌜ r ≡ valueNumber least value most ⌝ }
 {
-    low <= value && value <= high
-}
-
-fn mosaic_head_in_range(stations: u64, mount: u64) -> bool
-    ensures { λ r. ⌜ r ≡ mosaicHeadInRange stations mount ⌝ }
-{
-    if !is_between(1, stations, MOST_STATIONS) {
-        return false;
+    if value < least {
+        return OUT_OF_RANGE;
     }
-    mount <= MOST_TIME
+    if most < value {
+        return OUT_OF_RANGE;
+    }
+    0
 }
 
-// Whether the first `count` station times are in range.
-fn station_times_in_range(s: &[u8], c: usize, count: usize) -> bool
-    requires { ⌜ c + 2 * count < 2 ^ 64 ⌝ }
-    ensures { λ r. ⌜ r ≡ stationTimesInRange (now (s .entry)) c count ⌝ }
+fn mosaic_head_number(stations: u64, mount: u64) -> u64
+    ensures { λ r. ⌜ r ≡ rangeNumber (mosaicHeadValues stations mount) ⌝ }
+{
+    let number = value_number(1, stations, MOST_STATIONS);
+    if number != 0 {
+        return number;
+    }
+    value_number(0, mount, MOST_TIME)
+}
+
+// A strip of a content length: its station times, and the bench time behind them.
+fn mosaic_strip_number(s: &[u8], c: usize, length: usize) -> u64
+    requires { ⌜ c + length < 2 ^ 63 ⌝ }
+    ensures { λ r. ⌜ r ≡ rangeNumber (mosaicStripValues (now (s .entry)) c 0 (stationTimes length)) ⌝ }
 {
     let mut k: usize = 0;
-    while k < count {
-        if MOST_TIME < number(s, c + 2 * k, 2) {
-            return false;
+    while 2 * k + 2 < length {
+        let wrong = value_number(0, number(s, c + 2 * k, 2), MOST_TIME);
+        if wrong != 0 {
+            return wrong;
         }
         k += 1;
     }
-    true
+    value_number(1, number(s, c + 2 * k, 2), MOST_TIME)
 }
 
-fn mosaic_strip_in_range(s: &[u8], c: usize, stations: usize) -> bool
-    requires { ⌜ c + 2 * stations < 2 ^ 64 ⌝ }
-    ensures { λ r. ⌜ r ≡ mosaicStripInRange (now (s .entry)) c stations ⌝ }
+fn sorting_head_number(desks: u64) -> u64
+    ensures { λ r. ⌜ r ≡ rangeNumber (sortingHeadValues desks) ⌝ }
 {
-    if !station_times_in_range(s, c, stations) {
-        return false;
-    }
-    let bench = number(s, c + 2 * stations, 2);
-    is_between(1, bench, MOST_TIME)
+    value_number(1, desks, MOST_DESKS)
 }
 
-fn sorting_strip_in_range(desks: u64, desk: u64, scan: u64, time: u64) -> bool
-    ensures { λ r. ⌜ r ≡ sortingStripInRange desks desk scan time ⌝ }
+fn sorting_strip_number(desks: u64, desk: u64, scan: u64, time: u64) -> u64
+    ensures { λ r. ⌜ r ≡ rangeNumber (sortingStripValues desks desk scan time) ⌝ }
 {
-    if !is_between(1, desk, desks) {
-        return false;
+    let of_desk = value_number(1, desk, desks);
+    if of_desk != 0 {
+        return of_desk;
     }
-    if !is_between(1, scan, MOST_TIME) {
-        return false;
+    let of_scan = value_number(1, scan, MOST_TIME);
+    if of_scan != 0 {
+        return of_scan;
     }
-    is_between(1, time, MOST_TIME)
+    value_number(1, time, MOST_TIME)
 }
 
-fn flight_block_in_range(a: u64, l: u64, b: u64) -> bool
-    ensures { λ r. ⌜ r ≡ flightBlockInRange a l b ⌝ }
+fn flight_block_number(a: u64, l: u64, b: u64) -> u64
+    ensures { λ r. ⌜ r ≡ rangeNumber (flightBlockValues a l b) ⌝ }
 {
-    if !is_between(1, a, MOST_TIME) {
-        return false;
+    let of_first = value_number(1, a, MOST_TIME);
+    if of_first != 0 {
+        return of_first;
     }
-    if MOST_TIME < l {
-        return false;
+    let of_delay = value_number(0, l, MOST_TIME);
+    if of_delay != 0 {
+        return of_delay;
     }
-    is_between(1, b, MOST_TIME)
+    value_number(1, b, MOST_TIME)
 }
 
-// Whether the content of a field, from an offset on, is in range.
-pub fn is_in_range(s: &[u8], c: usize, tag: u8, stations: usize, desks: usize) -> bool
-    requires { ⌜ (stations ≤ 4) × (c + 8 < 2 ^ 64) ⌝ }
-    ensures { λ r. ⌜ r ≡ inRange (now (s .entry)) c tag stations desks ⌝ }
+// The number that the content of a field gives, which begins at an offset and has a length; 0 where every value is in its range.
+pub fn range_number(s: &[u8], c: usize, tag: u8, length: usize, desks: usize) -> u64
+    requires { ⌜ c + length < 2 ^ 63 ⌝ }
+    ensures { λ r. ⌜ r ≡ rangeNumber (valuesOf (now (s .entry)) c tag length desks) ⌝ }
 {
     match tag {
-        MOSAIC_HEAD => mosaic_head_in_range(byte(s, c), number(s, c + 1, 2)),
-        MOSAIC_STRIP => mosaic_strip_in_range(s, c, stations),
-        SORTING_HEAD => is_between(1, byte(s, c), MOST_DESKS),
-        SORTING_STRIP => sorting_strip_in_range(
+        MOSAIC_HEAD => mosaic_head_number(byte(s, c), number(s, c + 1, 2)),
+        MOSAIC_STRIP => mosaic_strip_number(s, c, length),
+        SORTING_HEAD => sorting_head_number(byte(s, c)),
+        SORTING_STRIP => sorting_strip_number(
             desks as u64,
             byte(s, c),
             number(s, c + 1, 2),
             number(s, c + 3, 2),
         ),
-        FLIGHT_BLOCK => flight_block_in_range(
+        FLIGHT_BLOCK => flight_block_number(
             number(s, c, 2),
             number(s, c + 2, 2),
             number(s, c + 4, 2),
         ),
-        _ => true,
+        _ => 0,
     }
 }

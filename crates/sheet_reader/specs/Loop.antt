@@ -6,8 +6,7 @@ use mathlib.Core.List.{List}
 use native.Mathlib.Omega.{arith}
 use lib.ListN.{length}
 use lib.Dec.{eqb}
-use borrow.Author.Tests.{ltb-true, eqb-true, eqb-false, eq-eqb, ne-eqb}
-use Rattle.base.specs.Branch.{both}
+use borrow.Author.Tests.{eqb-true, eqb-false, eq-eqb, ne-eqb}
 use Rattle.field.specs.Bytes.{numberAt}
 use Rattle.field.specs.Field.{fieldAt, endOf}
 use Rattle.field.specs.Fields.{whole-at}
@@ -15,46 +14,49 @@ use Rattle.field.specs.declared.Field.{Field}
 use Rattle.field.specs.declared.Field.the-variants.{End, Cut, Whole}
 use Rattle.sheet.specs.Limits.{mostBlocks, mostDesks, mostStrips, mostStripsOfDesk}
 use Rattle.sheet.specs.Tags.{mosaicStripTag, sortingStripTag, flightBlockTag}
-use Rattle.sheet.specs.Checks.{inMosaic, inFlight, permitted, inRange, hasRoom, stripsOfDesk, sortingStripInRange}
+use Rattle.sheet.specs.Sections.{inMosaic, inFlight, stripsOfDesk}
+use Rattle.sheet.specs.FieldTable.{sortingStripValues, valuesOf}
+use Rattle.sheet.specs.Causes.{TooMany}
+use Rattle.sheet.specs.Checks.{permitted}
 use Rattle.sheet.specs.Decode.{nextReading, startReading}
 use Rattle.sheet.specs.Read.{fieldNumber, endNumber, placeOf, refused, accepted, atEnd, readSheet}
-use Rattle.sheet.specs.Passed.{Passed, passes, is-between}
-use Rattle.sheet.specs.Invariant.{Kept}
+use Rattle.sheet.specs.Decided.{permitted-true}
+use Rattle.sheet.specs.Passed.{Passed, passes, first-within}
+use Rattle.sheet.specs.Invariant.{Kept, below}
 use Rattle.sheet.specs.Progress.{Progress, progress-start, progress-end, progress-cut, progress-next, progress-refused, progress-less}
 use Rattle.sheet.specs.declared.Reading.{Reading}
 use Rattle.sheet.specs.declared.Sheet.{Sheet}
 use Rattle.sheet_checks.specs.FieldPre.{FieldPre}
-use Rattle.sheet_decode.specs.Room.{NextPre}
+use Rattle.sheet_decode.specs.Pre.{NextReadingPre}
 use Rattle.sheet_reader.specs.Step.{firstStep, ended, goesOn, stepAt, sheetOf}
 use Rattle.sheet_reader.specs.declared.Step.{Step}
 
 module _ (s : List ℕ) (st : Reading) (tag len : ℕ) (k : Kept s st) (w : st .at + 3 + len ≤ length s) (p : Passed s st tag len) where
   strip-fits : tag ≡ mosaicStripTag → st .mosaic .strips < mostStrips
-  unfolding permitted hasRoom
+  unfolding permitted
   strip-fits e =
-      let h : st .section ≡ inMosaic = eqb-true (st .section) inMosaic (rw e at (p .tag-ok)) in
-      let r : st .members < mostStrips = ltb-true (st .members) mostStrips (rw e at (p .room-ok)) in
+      let h : st .section ≡ inMosaic = eqb-true (st .section) inMosaic (rw e at (permitted-true tag (st .section) (st .members) (p .tag-ok))) in
+      let r : st .members < mostStrips = below (st .members) mostStrips (λ m. p .room-ok (TooMany.strip e m)) in
       omega (arith, k .in-mosaic h)
 
   desk-fits : tag ≡ sortingStripTag → numberAt s (st .at + 3) 1 ≤ mostDesks
-  unfolding inRange sortingStripInRange
+  unfolding valuesOf sortingStripValues
   desk-fits e =
-      let b = is-between 1 (numberAt s (st .at + 3) 1) (st .sorting .desks) (both _ _ (rw e at (p .range-ok)) .0) in
+      let b : numberAt s (st .at + 3) 1 ≤ st .sorting .desks = first-within _ _ (rw e at (p .range-ok)) .at-most in
       let d = k .sorting .most-desks in
       omega arith
 
   desk-strip-fits : tag ≡ sortingStripTag → stripsOfDesk (st .sorting .counts) (numberAt s (st .at + 3) 1) < mostStripsOfDesk
-  unfolding hasRoom
-  desk-strip-fits e = ltb-true _ _ (rw e at (p .room-ok))
+  desk-strip-fits e = below _ _ (λ m. p .room-ok (TooMany.strip-of-desk e m))
 
   block-fits : tag ≡ flightBlockTag → st .flight .blocks < mostBlocks
-  unfolding permitted hasRoom
+  unfolding permitted
   block-fits e =
-      let h : st .section ≡ inFlight = eqb-true (st .section) inFlight (rw e at (p .tag-ok)) in
-      let r : st .members < mostBlocks = ltb-true (st .members) mostBlocks (rw e at (p .room-ok)) in
+      let h : st .section ≡ inFlight = eqb-true (st .section) inFlight (rw e at (permitted-true tag (st .section) (st .members) (p .tag-ok))) in
+      let r : st .members < mostBlocks = below (st .members) mostBlocks (λ m. p .room-ok (TooMany.block e m)) in
       omega (arith, k .in-flight h .0)
 
-  pub next-pre : length s * 1 < 2 ^ 63 → NextPre s st tag len
+  pub next-pre : length s * 1 < 2 ^ 63 → NextReadingPre s st tag len
   next-pre big =
       record {
         within = w;
@@ -71,8 +73,8 @@ module _ (s : List ℕ) (st : Reading) (p : Progress s st) (f : Field) (ef : f �
   pub field-pre : FieldPre s st len
   field-pre = record { within = within; stations = p .kept .mosaic .most-stations }
 
-  pub progress-pre : (number : ℕ) → number ≡ fieldNumber s st tag len → number ≡ 0 → length s * 1 < 2 ^ 63 → NextPre s st tag len
-  progress-pre number en hn big = next-pre s st tag len (p .kept) within (passes s st tag len (sym en ∙ hn)) big
+  pub progress-pre : (number : ℕ) → number ≡ fieldNumber s st tag len → number ≡ 0 → length s * 1 < 2 ^ 63 → NextReadingPre s st tag len
+  progress-pre number en hn big = next-pre s st tag len (p .kept) within (passes s st tag len (sym ef ∙ e) (sym en ∙ hn)) big
 
 -- each way out of a step is the step's definition
 pub first-step-is : (st : Reading) → st ≡ startReading → _≡_ {A = Step} (record { more = true; number = 0; place = 0; reading = st }) firstStep
@@ -134,7 +136,8 @@ module _ (s : List ℕ) (st : Reading) (p : Progress s st) where
   next-holds Cut e = record { goes = λ g. absurd (true≢false (sym g)); done = λ _. progress-cut s st p Cut e _ refl refl }
   next-holds (Whole tag len) e = go _ refl
     where
-      go : (b : Bool) → eqb (fieldNumber s st tag len) 0 ≡ b → StepHolds s (cond b (goesOn (nextReading s st tag len)) (ended st (fieldNumber s st tag len) (placeOf (fieldNumber s st tag len) (st .head) (st .at))))
+      go : (b : Bool) → eqb (fieldNumber s st tag len) 0 ≡ b
+          → StepHolds s (cond b (goesOn (nextReading s st tag len)) (ended st (fieldNumber s st tag len) (placeOf (fieldNumber s st tag len) (st .head) (st .at))))
       go true h = record { goes = λ _. progress-next s st p (Whole tag len) e tag len refl (fieldNumber s st tag len) (nextReading s st tag len) refl (eqb-true _ _ h) refl; done = λ g. absurd (true≢false g) }
       go false h = record { goes = λ g. absurd (true≢false (sym g)); done = λ _. rw (ne-eqb _ _ (eqb-false _ _ h)) (progress-refused s st p (Whole tag len) e tag len refl (fieldNumber s st tag len) _ _ refl (eqb-false _ _ h) refl refl) }
 
@@ -145,7 +148,8 @@ module _ (s : List ℕ) (st : Reading) (p : Progress s st) where
   next-less Cut e = omega arith
   next-less (Whole tag len) e = go (eqb (fieldNumber s st tag len) 0)
     where
-      go : (b : Bool) → left s (cond b (goesOn (nextReading s st tag len)) (ended st (fieldNumber s st tag len) (placeOf (fieldNumber s st tag len) (st .head) (st .at)))) < suc (length s - st .at)
+      go : (b : Bool)
+          → left s (cond b (goesOn (nextReading s st tag len)) (ended st (fieldNumber s st tag len) (placeOf (fieldNumber s st tag len) (st .head) (st .at)))) < suc (length s - st .at)
       go true = let h = progress-less s st p (Whole tag len) e tag len refl (nextReading s st tag len) refl in omega arith
       go false = omega arith
 

@@ -36,7 +36,7 @@ stepAt s st (Whole tag len) =
 unfoldable pub sheetOf : Step → Sheet
 sheetOf t = cond (eqb (t .number) 0) (accepted (t .reading)) (refused (t .number) (t .place))
 
--- what a step asks: the reading has come here, and the field is the one that stands there
-pub record StepAsked (s : List ℕ) (t : Step) (f : Field) : Type 0 where
+-- what a step requires: the reading has come here, and the field is the one that stands there
+pub record StepPre (s : List ℕ) (t : Step) (f : Field) : Type 0 where
   pub progress : Progress s (t .reading)
   pub field : f ≡ fieldAt s (t .reading .at)

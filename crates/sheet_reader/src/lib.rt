@@ -16,7 +16,7 @@ use sheet_decode::refuse;
 use sheet_decode::start;
 ghost use mathlib.Core.Path.{_≡_};
 ghost use Rattle.sheet.specs.Read.{readSheet};
-ghost use Rattle.sheet_reader.specs.Step.{StepAsked, firstStep, stepAt, sheetOf};
+ghost use Rattle.sheet_reader.specs.Step.{StepPre, firstStep, stepAt, sheetOf};
 
 // What a step of the reading leaves: whether a field is due next; if not, the number and place of the refusal, number 0 where there is none; and the reading.
 pub struct Step {
@@ -39,7 +39,7 @@ fn first_step() -> Step
 
 // The step that takes a field: it is refused, or the reading goes on behind it; the end of the sheet ends the last section.
 fn next_step(s: &[u8], step: Step, field: Field) -> Step
-    requires { ⌜ StepAsked (now s) step field ⌝ }
+    requires { ⌜ StepPre (now s) step field ⌝ }
     ensures { λ r. ⌜ r ≡ stepAt (now (s .entry)) (step .reading) field ⌝ }
 {
     let st = step.reading;

@@ -10,8 +10,9 @@ use Rattle.base.specs.Branch.{both, check}
 use Rattle.order.specs.Passes.{passAt, timeOf}
 use Rattle.sheet.specs.Limits.{tableLength, planLength}
 use Rattle.sheet.specs.Refusals.{orderImpossible}
-use Rattle.sheet.specs.Read.{readSheet, contentNumber, fieldNumber, endNumber, placeOf, refused, accepted, atEnd, readFrom}
+use Rattle.sheet.specs.Read.{readSheet, contentChecks, fieldChecks, fieldNumber, endChecks, endNumber, placeOf, refused, accepted, atEnd, readFrom}
 use Rattle.sheet.specs.declared.Sheet.{Sheet}
+use Rattle.plan_format.specs.Format.{numbersBytes, formBytes}
 use Rattle.rules.specs.Plan.{Plan, planBytes, PlanLawful, membersBytes, batchBytes, mosaicBytes, jobBytes, sortingBytes, passesBytes, flightBytes, ifPresent}
 use Rattle.rules.proofs.Tests.{isMosaic, mosaic-decided, isSorting, sorting-decided, isFlight, flight-decided, keepsOrder, keeps-decided, mayHaveOrder, order-decided, allBelow, batchTest, batchesTest, jobTest, turnTest, jobsTest, blockTest, clearTest, apartTest, startTest}
 use Rattle.planner.specs.Call.{chosenPlan, answer, answerOf, plannedBytes, sheetAnswer, sheetPlan}
@@ -19,7 +20,10 @@ use Rattle.planner.specs.Theorems.{figureOfMosaic, figureOfSorting, figureOfFli
 use Rattle.order.specs.Order.{seconds, firsts, neverMoreSeconds, isProper}
 use Rattle.field.specs.Bytes.{numberAt, bytesOf}
 use Rattle.field.specs.Field.{fieldAt, fieldBytes}
-use Rattle.sheet.specs.Checks.{endsSection, sectionFilled, fewBlocks, orderGiven, orderPermitted, permitted, lengthDue, between, mosaicHeadInRange, stationTimesInRange, mosaicStripInRange, sortingStripInRange, flightBlockInRange, inRange, hasRoom, stripsOfDesk, orderProper}
+use Rattle.sheet.specs.Sections.{stripsOfDesk}
+use Rattle.sheet.specs.FieldTable.{lengthDue, mosaicHeadValues, mosaicStripValues, stationTimes, sortingHeadValues, sortingStripValues, flightBlockValues, valuesOf}
+use Rattle.sheet.specs.Rows.{firstFailure}
+use Rattle.sheet.specs.Checks.{endsSection, sectionFilled, fewBlocks, orderGiven, orderPermitted, permitted, valueNumber, valueNumbers, rangeNumber, hasRoom, orderProper}
 use Rattle.sheet.specs.Decode.{zeros, noMosaic, noSorting, noFlight, withMosaicHead, withStationTimes, withMosaicStrip, withSortingHead, withStripAt, withSortingStrip, withBlock, withOrder, nextMosaic, nextSorting, nextFlight, nextSection, nextMembers, nextHead, nextReading, startReading}
 use Rattle.sheet.specs.Sound.{stripsInAll}
 use Rattle.base.specs.Sums.{sumOver, greatestOver}
@@ -96,7 +100,7 @@ all-say [] c = tt
 all-say (r ∷ rs) c = (says (r .sheet) (r .claim) (c .0), all-say rs (c .1))
 
 computed : All Computed table × FirstCase
-unfolding readyTimes isPlan figuresOf seconds firsts neverMoreSeconds isProper numberAt bytesOf fieldAt fieldBytes check endsSection sectionFilled fewBlocks orderGiven orderPermitted permitted lengthDue between mosaicHeadInRange stationTimesInRange mosaicStripInRange sortingStripInRange flightBlockInRange inRange hasRoom stripsOfDesk orderProper zeros noMosaic noSorting noFlight withMosaicHead withStationTimes withMosaicStrip withSortingHead withStripAt withSortingStrip withBlock withOrder nextMosaic nextSorting nextFlight nextSection nextMembers nextHead nextReading startReading contentNumber fieldNumber endNumber placeOf refused accepted atEnd readFrom readSheet stripsInAll sumOver greatestOver stationSum ready benchSum noBatch batchAt batchBefore finishDue completion ruleMosaicFigure stripsOf slot scanTime deskTime scanEnd deskFinish noJob jobAt jobsOf ruleSortingFigure noPasses passesAt passStart passTime timeOf passEnd secondDue clearAt passAt ruleFlightFigure allBelow batchTest batchesTest isMosaic jobTest turnTest jobsTest isSorting blockTest clearTest apartTest isFlight startTest keepsOrder mayHaveOrder membersBytes batchBytes mosaicBytes jobBytes sortingBytes passesBytes flightBytes ifPresent planBytes mountStart benchStart finishOf leastOpen leastFrom weightOf weightSum instanceOf batchOf chosenOpen chosenFrom chosenBatches sortingInstance listedDesk reached jobOf listed jobsOfList chosenJobs stepOf keep overDesks branch searchFrom startState firstBest relax relaxed rounds holds leastValues solvable constraintOf leastStarts possibleIn orderFigure passesWithStarts leastPasses improves tried searched ordersOf chosenOrder isPossible chosenPasses chosenPlan sheetAnswer sheetPlan answerOf plannedBytes figureOfMosaic figureOfSorting figureOfFlight
+unfolding readyTimes isPlan figuresOf seconds firsts neverMoreSeconds isProper numberAt bytesOf fieldAt fieldBytes check endsSection sectionFilled fewBlocks orderGiven orderPermitted permitted lengthDue mosaicHeadValues mosaicStripValues stationTimes sortingHeadValues sortingStripValues flightBlockValues valuesOf firstFailure valueNumber valueNumbers rangeNumber hasRoom stripsOfDesk orderProper zeros noMosaic noSorting noFlight withMosaicHead withStationTimes withMosaicStrip withSortingHead withStripAt withSortingStrip withBlock withOrder nextMosaic nextSorting nextFlight nextSection nextMembers nextHead nextReading startReading contentChecks fieldChecks fieldNumber endChecks endNumber placeOf refused accepted atEnd readFrom readSheet stripsInAll sumOver greatestOver stationSum ready benchSum noBatch batchAt batchBefore finishDue completion ruleMosaicFigure stripsOf slot scanTime deskTime scanEnd deskFinish noJob jobAt jobsOf ruleSortingFigure noPasses passesAt passStart passTime passEnd secondDue clearAt passAt ruleFlightFigure allBelow batchTest batchesTest isMosaic jobTest turnTest jobsTest isSorting blockTest clearTest apartTest isFlight startTest keepsOrder mayHaveOrder numbersBytes formBytes membersBytes batchBytes mosaicBytes jobBytes sortingBytes passesBytes flightBytes ifPresent planBytes mountStart benchStart finishOf leastOpen leastFrom weightOf weightSum instanceOf batchOf chosenOpen chosenFrom chosenBatches sortingInstance listedDesk reached jobOf listed jobsOfList chosenJobs stepOf keep overDesks branch searchFrom startState firstBest relax relaxed rounds holds leastValues solvable timeOf constraintOf leastStarts possibleIn orderFigure passesWithStarts leastPasses improves tried searched ordersOf chosenOrder isPossible chosenPasses chosenPlan sheetAnswer sheetPlan answerOf plannedBytes figureOfMosaic figureOfSorting figureOfFlight
 computed = ((refl, ((refl, refl, refl, refl, refl, refl), ((refl, refl, refl), ((refl, refl, refl), ((refl, refl, refl, refl, refl, refl), ((refl, refl, refl), ((refl, refl, refl, refl, refl, refl), ((refl, refl, refl, refl), ((refl, refl, refl, refl, refl, refl), ((refl, refl, refl, refl, refl, refl), ((refl, refl, refl), ((refl, refl, refl, refl, refl, refl), ((refl, refl, refl, refl, refl, refl), tt))))))))))))), (refl, refl))
 
 -- What 01 says of the sheets that it works through.

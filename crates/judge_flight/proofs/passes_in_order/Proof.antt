@@ -2,13 +2,13 @@
 use Prim.Native.Nat.{_-_, _*_}
 use mathlib.Core.Path.{_≡_, refl}
 use borrow.Author.Needs.{needs}
-use Rattle.judge_flight.specs.Starts.{passesOf}
+use Rattle.plan_read.specs.PlanRead.{blocksFrom}
 use Rattle.judge_flight.specs.Laws.{OrderedSoFar, ordered-none, ordered-more, ordered-wrong, ordered-all, this-position, next-position, next-start, this-end}
 use Rattle.judge_flight.proofs.passes_in_order.Statement.{statement}
 use Rattle.judge_flight.proofs.passes_in_order.Tie as tie
 
 abbrev Inv-loop : tie.InvT-loop
-Inv-loop f order plan at n k₀ k = (n ≡ f .blocks) × OrderedSoFar f order (passesOf plan at (f .blocks)) k
+Inv-loop f order plan at n k₀ k = (n ≡ f .blocks) × OrderedSoFar f order (blocksFrom plan at (f .blocks)) k
 
 abbrev μ-loop : tie.MeasureT-loop
 μ-loop f order plan at n k₀ k = 2 * f .blocks - k

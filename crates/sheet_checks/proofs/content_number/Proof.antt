@@ -1,5 +1,7 @@
--- `content_number` meets its contract: the first test that fails gives its number, in the order of the definition.
-use Rattle.sheet_checks.specs.NumberLaws.{length-fails, range-fails, room-fails, order-fails, content-passes}
+-- `content_number` meets its contract: the first test that fails gives its number, in the order of the rows.
+use Rattle.sheet.specs.Read.{contentChecks}
+use Rattle.sheet.specs.Rows.{firstFailure}
+use Rattle.sheet_checks.specs.NumberLaws.{rows}
 use borrow.Author.Needs.{needs}
 use Rattle.sheet_checks.proofs.content_number.Statement.{statement}
 use Rattle.sheet_checks.proofs.content_number.Tie as tie
@@ -11,13 +13,15 @@ length-due-requires : tie.Need-length-due-requires
 length-due-requires c κs = search needs
 
 returns : tie.Need-returns
-returns c = search length-fails
+unfolding contentChecks
+returns c = search rows depth 14
 
-is-in-range-requires : tie.Need-is-in-range-requires
-is-in-range-requires c κs = search needs
+range-number-requires : tie.Need-range-number-requires
+range-number-requires c κs = search needs
 
 returns-2 : tie.Need-returns-2
-returns-2 c = search range-fails
+unfolding contentChecks
+returns-2 c = search rows depth 14
 
 byte-requires : tie.Need-byte-requires
 byte-requires c κs = search needs
@@ -29,7 +33,8 @@ has-room-requires : tie.Need-has-room-requires
 has-room-requires c κs = search needs
 
 returns-3 : tie.Need-returns-3
-returns-3 c = search room-fails
+unfolding contentChecks
+returns-3 c = search rows depth 14
 
 number-requires : tie.Need-number-requires
 number-requires c κs = search needs
@@ -38,10 +43,12 @@ order-proper-requires : tie.Need-order-proper-requires
 order-proper-requires c κs = search needs
 
 returns-4 : tie.Need-returns-4
-returns-4 c = search order-fails
+unfolding contentChecks
+returns-4 c = search rows depth 14
 
 returns-5 : tie.Need-returns-5
-returns-5 c = search content-passes
+unfolding contentChecks firstFailure
+returns-5 c = search rows depth 14
 
 pub content-number-spec : {M : Type 1} → statement M
 content-number-spec =
@@ -50,7 +57,7 @@ content-number-spec =
     add-content
     length-due-requires
     returns
-    is-in-range-requires
+    range-number-requires
     returns-2
     byte-requires
     strips-of-desk-requires

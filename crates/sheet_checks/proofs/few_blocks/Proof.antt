@@ -4,7 +4,8 @@ use Prim.Native.Nat.{ℕ}
 use lib.Dec.{leb}
 use Rattle.base.specs.Branch.{branches}
 use Rattle.sheet.specs.Limits.{mostBlocksWithoutOrder}
-use Rattle.sheet.specs.Checks.{inFlight, fewBlocks}
+use Rattle.sheet.specs.Sections.{inFlight}
+use Rattle.sheet.specs.Checks.{fewBlocks}
 use Rattle.sheet_checks.proofs.few_blocks.Statement.{statement}
 use Rattle.sheet_checks.proofs.few_blocks.Tie as tie
 

@@ -1,5 +1,6 @@
--- `field_number` meets its contract: the first test that fails gives its number, in the order of the definition.
-use Rattle.sheet_checks.specs.NumberLaws.{filled-fails, given-fails, tag-fails, tag-passes}
+-- `field_number` meets its contract: the first test that fails gives its number, in the order of the rows.
+use Rattle.sheet.specs.Read.{fieldNumber, fieldChecks}
+use Rattle.sheet_checks.specs.NumberLaws.{rows}
 use borrow.Author.Needs.{needs}
 use Rattle.sheet_checks.proofs.field_number.Statement.{statement}
 use Rattle.sheet_checks.proofs.field_number.Tie as tie
@@ -8,25 +9,29 @@ section-filled-requires : tie.Need-section-filled-requires
 section-filled-requires c κs = search needs
 
 returns : tie.Need-returns
-returns c = search filled-fails
+unfolding fieldNumber fieldChecks
+returns c = search rows depth 14
 
 order-given-requires : tie.Need-order-given-requires
 order-given-requires c κs = search needs
 
 returns-2 : tie.Need-returns-2
-returns-2 c = search given-fails
+unfolding fieldNumber fieldChecks
+returns-2 c = search rows depth 14
 
 is-permitted-requires : tie.Need-is-permitted-requires
 is-permitted-requires c κs = search needs
 
 returns-3 : tie.Need-returns-3
-returns-3 c = search tag-fails
+unfolding fieldNumber fieldChecks
+returns-3 c = search rows depth 14
 
 content-number-requires : tie.Need-content-number-requires
 content-number-requires c κs = search needs
 
 returns-4 : tie.Need-returns-4
-returns-4 c = search tag-passes
+unfolding fieldNumber fieldChecks
+returns-4 c = search rows depth 14
 
 pub field-number-spec : {M : Type 1} → statement M
 field-number-spec =

@@ -4,7 +4,8 @@ use Prim.Native.Nat.{ℕ}
 use lib.Dec.{ltb}
 use Rattle.base.specs.Branch.{branches}
 use Rattle.sheet.specs.Tags.{sortingHeadTag}
-use Rattle.sheet.specs.Checks.{inSorting, permitted}
+use Rattle.sheet.specs.Sections.{inSorting}
+use Rattle.sheet.specs.Checks.{permitted}
 use borrow.Author.Needs.{needs}
 use Rattle.sheet_checks.proofs.is_permitted.Statement.{statement}
 use Rattle.sheet_checks.proofs.is_permitted.Tie as tie

@@ -1,6 +1,6 @@
 -- `length_due` meets its contract: each way through its tests is one through the definition.
 use Rattle.base.specs.Branch.{branches}
-use Rattle.sheet.specs.Checks.{lengthDue}
+use Rattle.sheet.specs.FieldTable.{lengthDue}
 use borrow.Author.Needs.{needs}
 use Rattle.sheet_checks.proofs.length_due.Statement.{statement}
 use Rattle.sheet_checks.proofs.length_due.Tie as tie

@@ -1,13 +1,13 @@
 -- `next_flight` meets its contract: one case a tag; there is room for another block.
 use Rattle.base.specs.Branch.{branches}
 use Rattle.sheet.specs.Decode.{nextFlight}
-use Rattle.sheet_decode.specs.Room.{block-room}
+use Rattle.sheet_decode.specs.Pre.{block-pre}
 use borrow.Author.Needs.{needs}
 use Rattle.sheet_decode.proofs.next_flight.Statement.{statement}
 use Rattle.sheet_decode.proofs.next_flight.Tie as tie
 
 with-block-requires : tie.Need-with-block-requires
-with-block-requires c κs = search block-room
+with-block-requires c κs = search block-pre
 
 returns : tie.Need-returns
 unfolding nextFlight

@@ -1,7 +1,7 @@
 -- `next_mosaic` meets its contract: one case a tag; there is room for another strip.
 use Rattle.base.specs.Branch.{branches}
 use Rattle.sheet.specs.Decode.{nextMosaic}
-use Rattle.sheet_decode.specs.Room.{strip-room}
+use Rattle.sheet_decode.specs.Pre.{strip-pre}
 use borrow.Author.Needs.{needs}
 use Rattle.sheet_decode.proofs.next_mosaic.Statement.{statement}
 use Rattle.sheet_decode.proofs.next_mosaic.Tie as tie
@@ -14,7 +14,7 @@ unfolding nextMosaic
 returns c = search branches depth 14
 
 with-mosaic-strip-requires : tie.Need-with-mosaic-strip-requires
-with-mosaic-strip-requires c κs = search strip-room
+with-mosaic-strip-requires c κs = search strip-pre
 
 returns-2 : tie.Need-returns-2
 unfolding nextMosaic

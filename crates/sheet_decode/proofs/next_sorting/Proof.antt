@@ -1,7 +1,7 @@
 -- `next_sorting` meets its contract: one case a tag; there is room for another strip at its desk.
 use Rattle.base.specs.Branch.{branches}
 use Rattle.sheet.specs.Decode.{nextSorting}
-use Rattle.sheet_decode.specs.Room.{desk-room}
+use Rattle.sheet_decode.specs.Pre.{desk-pre}
 use Rattle.sheet_decode.specs.DecodeLaws.{sorting-strip-is}
 use borrow.Author.Needs.{needs}
 use Rattle.sheet_decode.proofs.next_sorting.Statement.{statement}
@@ -24,7 +24,7 @@ strips-of-desk-requires : tie.Need-strips-of-desk-requires
 strips-of-desk-requires c κs = search needs
 
 with-strip-at-requires : tie.Need-with-strip-at-requires
-with-strip-at-requires c κs = search desk-room
+with-strip-at-requires c κs = search desk-pre
 
 returns-2 : tie.Need-returns-2
 returns-2 c = search sorting-strip-is

@@ -48,7 +48,7 @@ use Rattle.field.specs.declared.reader.Reader.{Reader}
 use Rattle.field.specs.declared.Field.{Field}
 use Rattle.sheet.specs.Read.{readSheet}
 use Rattle.sheet.specs.declared.Sheet.{Sheet}
-use Rattle.sheet_reader.specs.Step.{StepAsked, firstStep, stepAt, sheetOf}
+use Rattle.sheet_reader.specs.Step.{StepPre, firstStep, stepAt, sheetOf}
 use Rattle.sheet_reader.specs.Loop.{StepHolds, left, first-holds, first-at, next-holds, next-less, next-at, left-more}
 use Rattle.sheet_reader.specs.declared.Step.{Step}
 use Rattle.field.proofs.reader.Reader as T
@@ -195,7 +195,7 @@ module _ {M : Type 1} (𝓤 : URA M) (H : Heap 𝓤) (A : Atoms 𝓤) (W : Given
   abbrev to-step : Step → Field → Val → NextStep 𝓤 H A mem run .Ghost
   to-step t f u = (((κ, tt), (q, tt), tt, (s, (t, (f, tt))), (v ∷ [], (U′.lowered t ∷ [], (u ∷ [], tt)))), tt)
 
-  goes-step : (t : Step) (f : Field) (u : Val) → Is U.the-row t (U′.lowered t ∷ []) → StepAsked (now s) t f
+  goes-step : (t : Step) (f : Field) (u : Val) → Is U.the-row t (U′.lowered t ∷ []) → StepPre (now s) t f
       → ent 𝓤 (⋆ 𝓤 H A (‵ (S.the-row .own f (u ∷ [])) ∷ Token ∷ ‵ Own ∷ [])) (sep 𝓤 (NextStep 𝓤 H A mem run .pre (to-step t f u)) (sem 𝓤 H A Own))
   goes-step t f u is asked =
       qed W (‵ (S.the-row .own f (u ∷ [])) ∷ Token ∷ ‵ Own ∷ []) ∵ move ! (2 ∷ []) $ use1 W (‵ Own ⊛ ‵ Own) (shr-slice-copy 𝓤 H A W (named 0) κ u8 .twice s (v ∷ [])) $ split ! $ move ! (1 ∷ 2 ∷ 3 ∷ []) $
@@ -255,7 +255,7 @@ module _ {M : Type 1} (𝓤 : URA M) (H : Heap 𝓤) (A : Atoms 𝓤) (W : Given
     field-is : (f : Field) → f ≡ fieldAt (now (x .reader .sheet)) (x .reader .at) → f ≡ fieldAt (now s) (x .step .reading .at)
     field-is f e = e ∙ ap (λ (y : RefT (List ℕ)). fieldAt (now y) (x .reader .at)) (x .sheet) ∙ ap (fieldAt (now s)) (x .stands more)
 
-    asks : (f : Field) → f ≡ fieldAt (now (x .reader .sheet)) (x .reader .at) → StepAsked (now s) (x .step) f
+    asks : (f : Field) → f ≡ fieldAt (now (x .reader .sheet)) (x .reader .at) → StepPre (now s) (x .step) f
     asks f e = record { progress = x .holds .goes more; field = field-is f e }
 
     module _ (f : Field) (ef : f ≡ fieldAt (now (x .reader .sheet)) (x .reader .at)) (t : Step) (et : t ≡ stepAt (now s) (x .step .reading) f) (it : Is U.the-row t (U′.lowered t ∷ []))

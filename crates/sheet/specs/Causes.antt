@@ -1,0 +1,95 @@
+-- The causes of the table "Turned back", rows 3 to 10, in its words, where a reading stands; and the rows that the sheet is checked for there.
+-- The tests by which the reader finds them are in Checks.antt; Decided.antt shows that these tests decide the causes.
+use Prim.Native.Nat.{ℕ, _+_, _≤_, _<_}
+use mathlib.Core.Path.{_≡_}
+use mathlib.Core.List.{List, [], _∷_}
+use lib.ListN.{length}
+use Rattle.field.specs.Bytes.{numberAt}
+use Rattle.field.specs.declared.Field.{Field}
+use Rattle.field.specs.declared.Field.the-variants.{End, Cut, Whole}
+use Rattle.order.specs.Order.{Proper}
+use Rattle.sheet.specs.Limits.{mostStrips, mostStripsOfDesk, mostBlocks, mostBlocksWithoutOrder}
+use Rattle.sheet.specs.Tags.{mosaicHeadTag, mosaicStripTag, sortingHeadTag, sortingStripTag, flightHeadTag, flightBlockTag, flightOrderTag}
+use Rattle.sheet.specs.Refusals.{fieldCut, tagNotPermitted, lengthWrong, outOfRange, tooMany, noMembers, orderNotProper, orderMissing}
+use Rattle.sheet.specs.Sections.{noSection, inMosaic, inSorting, inFlight, stripsOfDesk}
+use Rattle.sheet.specs.FieldTable.{lengthDue, valuesOf, OutOfRange}
+use Rattle.sheet.specs.Rows.{Row, row}
+use Rattle.sheet.specs.declared.Reading.{Reading}
+
+-- 3: "under three bytes left, or content runs past the end"
+pub data FieldCut (s : List ℕ) (at : ℕ) : Type 0 where
+  under-three : length s < at + 3 → FieldCut s at
+  past-end : length s < at + 3 + numberAt s (at + 1) 2 → FieldCut s at
+
+-- "Only tags 10, 20, 30 and the end of the sheet end a section."
+pub data EndsSection (tag : ℕ) : Type 0 where
+  mosaic-head : tag ≡ mosaicHeadTag → EndsSection tag
+  sorting-head : tag ≡ sortingHeadTag → EndsSection tag
+  flight-head : tag ≡ flightHeadTag → EndsSection tag
+
+-- 8: "section without members", which the tag ends
+pub record NoMembers (tag section members : ℕ) : Type 0 where
+  pub ends : EndsSection tag
+  pub some-section : section ≡ noSection → ⊥
+  pub none : members < 1
+
+-- 10: "over 8 blocks and no order": the section is a flight in which no order field stands
+pub record ManyBlocks (section members : ℕ) : Type 0 where
+  pub flight : section ≡ inFlight
+  pub many : mostBlocksWithoutOrder < members
+
+pub record OrderMissing (tag section members : ℕ) : Type 0 where
+  pub ends : EndsSection tag
+  pub blocks : ManyBlocks section members
+
+-- 4: "tag not permitted next; order field with no block before it". Permitted are the seven ways to go on: "One to three sections stand in the order
+-- 10, 20, 30, each at most once"; in a section its members; behind a block "optionally one order field, which ends the sheet".
+pub data Permitted (tag section members : ℕ) : Type 0 where
+  mosaic-head : tag ≡ mosaicHeadTag → section ≡ noSection → Permitted tag section members
+  mosaic-strip : tag ≡ mosaicStripTag → section ≡ inMosaic → Permitted tag section members
+  sorting-head : tag ≡ sortingHeadTag → section < inSorting → Permitted tag section members
+  sorting-strip : tag ≡ sortingStripTag → section ≡ inSorting → Permitted tag section members
+  flight-head : tag ≡ flightHeadTag → section < inFlight → Permitted tag section members
+  flight-block : tag ≡ flightBlockTag → section ≡ inFlight → Permitted tag section members
+  flight-order : tag ≡ flightOrderTag → section ≡ inFlight → 1 ≤ members → Permitted tag section members
+
+-- 7: "41st mosaic strip, 7th for one desk, 33rd block"
+pub data TooMany (tag members ofDesk : ℕ) : Type 0 where
+  strip : tag ≡ mosaicStripTag → mostStrips ≤ members → TooMany tag members ofDesk
+  strip-of-desk : tag ≡ sortingStripTag → mostStripsOfDesk ≤ ofDesk → TooMany tag members ofDesk
+  block : tag ≡ flightBlockTag → mostBlocks ≤ members → TooMany tag members ofDesk
+
+-- 9: "order number not proper"
+pub record OrderNotProper (tag blocks order : ℕ) : Type 0 where
+  pub is-order : tag ≡ flightOrderTag
+  pub improper : Proper blocks order → ⊥
+
+-- The rows that a field of a tag and a content length is checked for, in the order of the checks: "each field for 3, then 8 or 10 if its tag ends the section
+-- before, then 4, 5, 6, 7, 9". "Place is the offset of the tag of the field named": the head of the section for 8 and 10, else the field.
+abbrev pub cutRow : List ℕ → Reading → Row
+cutRow s st = row fieldCut (st .at) (FieldCut s (st .at))
+
+unfoldable pub fieldRows : List ℕ → Reading → ℕ → ℕ → List Row
+fieldRows s st tag len =
+    cutRow s st
+    ∷ row noMembers (st .head) (NoMembers tag (st .section) (st .members))
+    ∷ row orderMissing (st .head) (OrderMissing tag (st .section) (st .members))
+    ∷ row tagNotPermitted (st .at) (Permitted tag (st .section) (st .members) → ⊥)
+    ∷ row lengthWrong (st .at) (len ≡ lengthDue tag (st .mosaic .stations) → ⊥)
+    ∷ row outOfRange (st .at) (OutOfRange (valuesOf s (st .at + 3) tag len (st .sorting .desks)))
+    ∷ row tooMany (st .at) (TooMany tag (st .members) (stripsOfDesk (st .sorting .counts) (numberAt s (st .at + 3) 1)))
+    ∷ row orderNotProper (st .at) (OrderNotProper tag (st .members) (numberAt s (st .at + 3) 8))
+    ∷ []
+
+-- the end of the sheet ends a section too; 8, "empty sheet": it has none, and its place is 0
+unfoldable pub endRows : Reading → List Row
+endRows st =
+    row noMembers (st .head) (st .members < 1)
+    ∷ row orderMissing (st .head) (ManyBlocks (st .section) (st .members))
+    ∷ []
+
+-- the rows by what stands where a reading is; a cut field has no tag and length to be checked
+unfoldable pub rowsAt : List ℕ → Reading → Field → List Row
+rowsAt s st End = endRows st
+rowsAt s st Cut = cutRow s st ∷ []
+rowsAt s st (Whole tag len) = fieldRows s st tag len

@@ -1,0 +1,38 @@
+-- `flight_block_number` meets its contract: the first value that gives a number decides, in the order of the field table.
+use Rattle.sheet.specs.FieldTable.{flightBlockValues}
+use Rattle.sheet_ranges.specs.RangeLaws.{value-fails, value-passes, value-last}
+use borrow.Author.Needs.{needs}
+use Rattle.sheet_ranges.proofs.flight_block_number.Statement.{statement}
+use Rattle.sheet_ranges.proofs.flight_block_number.Tie as tie
+
+value-number-requires : tie.Need-value-number-requires
+value-number-requires c κs = search needs
+
+returns : tie.Need-returns
+unfolding flightBlockValues
+returns c = search (value-fails, value-passes, value-last)
+
+value-number-requires-2 : tie.Need-value-number-requires-2
+value-number-requires-2 c κs = search needs
+
+returns-2 : tie.Need-returns-2
+unfolding flightBlockValues
+returns-2 c = search (value-fails, value-passes, value-last)
+
+value-number-requires-3 : tie.Need-value-number-requires-3
+value-number-requires-3 c κs = search needs
+
+returns-3 : tie.Need-returns-3
+unfolding flightBlockValues
+returns-3 c = search (value-fails, value-passes, value-last)
+
+pub flight-block-number-spec : {M : Type 1} → statement M
+flight-block-number-spec =
+    tie.close
+    (tie.spec
+    value-number-requires
+    returns
+    value-number-requires-2
+    returns-2
+    value-number-requires-3
+    returns-3)

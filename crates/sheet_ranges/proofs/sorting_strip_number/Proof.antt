@@ -1,0 +1,38 @@
+-- `sorting_strip_number` meets its contract: the first value that gives a number decides, in the order of the field table.
+use Rattle.sheet.specs.FieldTable.{sortingStripValues}
+use Rattle.sheet_ranges.specs.RangeLaws.{value-fails, value-passes, value-last}
+use borrow.Author.Needs.{needs}
+use Rattle.sheet_ranges.proofs.sorting_strip_number.Statement.{statement}
+use Rattle.sheet_ranges.proofs.sorting_strip_number.Tie as tie
+
+value-number-requires : tie.Need-value-number-requires
+value-number-requires c κs = search needs
+
+returns : tie.Need-returns
+unfolding sortingStripValues
+returns c = search (value-fails, value-passes, value-last)
+
+value-number-requires-2 : tie.Need-value-number-requires-2
+value-number-requires-2 c κs = search needs
+
+returns-2 : tie.Need-returns-2
+unfolding sortingStripValues
+returns-2 c = search (value-fails, value-passes, value-last)
+
+value-number-requires-3 : tie.Need-value-number-requires-3
+value-number-requires-3 c κs = search needs
+
+returns-3 : tie.Need-returns-3
+unfolding sortingStripValues
+returns-3 c = search (value-fails, value-passes, value-last)
+
+pub sorting-strip-number-spec : {M : Type 1} → statement M
+sorting-strip-number-spec =
+    tie.close
+    (tie.spec
+    value-number-requires
+    returns
+    value-number-requires-2
+    returns-2
+    value-number-requires-3
+    returns-3)
