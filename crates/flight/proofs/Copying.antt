@@ -6,7 +6,7 @@ use native.Mathlib.Decide.{ℕ-discrete}
 use native.Mathlib.Omega.{arith}
 use lib.ListN.{length, getD, set, replicate, length-set}
 use lib.Seq.{getD-set-same, getD-set-other}
-use Rattle.difference.specs.Round.{zeros-value}
+use Rattle.base.specs.Zeros.{zeros-at}
 use Rattle.flight.specs.Contracts.{CopyStartsPre, Copied}
 
 pub record Copying (starts : List ℕ) (from n : ℕ) (copy : List ℕ) (i : ℕ) : Type 0 where
@@ -18,7 +18,7 @@ pub copy-start : (starts : List ℕ) (from n : ℕ) → Copying starts from n (r
 copy-start starts from n = record {
   within = omega arith;
   long = refl;
-  done = record { copied = λ i l. absurd (omega arith); no-more = λ i l. zeros-value 32 i };
+  done = record { copied = λ i l. absurd (omega arith); no-more = λ i l. zeros-at 32 i };
 }
 
 module _ {starts : List ℕ} {from n : ℕ} {copy : List ℕ} {i : ℕ} (pre : CopyStartsPre starts from n) (c : Copying starts from n copy i) where

@@ -8,10 +8,10 @@ use native.Mathlib.Omega.{arith}
 use lib.ListN.{length, getD, take, replicate}
 use lib.Seq.{length-take-le}
 use borrow.Author.Tests.{ne-eqb}
+use Rattle.base.specs.Zeros.{zeros-at}
 use Rattle.base.specs.Listed.{listed-same}
 use Rattle.order.specs.Order.{Proper}
 use Rattle.difference.specs.System.{value}
-use Rattle.difference.specs.Round.{zeros-value}
 use Rattle.sheet.specs.Sound.{FlightSound}
 use Rattle.sheet.specs.declared.FlightSection.{FlightSection}
 use Rattle.rules.specs.declared.Passes.{Passes}
@@ -122,8 +122,8 @@ plan-none f sound e = record {
   figure = sym (figure-none f (chosenOrder f) sound proper (λ l. omega arith));
   order = zero-order;
   passes = listed-same (f .blocks) _ _ (λ i l. absurd (omega arith));
-  no-more-first = λ i l. zeros-value 32 i;
-  no-more-second = λ i l. zeros-value 32 i;
+  no-more-first = λ i l. zeros-at 32 i;
+  no-more-second = λ i l. zeros-at 32 i;
 }
   where
     proper : Proper (f .blocks) (chosenOrder f)

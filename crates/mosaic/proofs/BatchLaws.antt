@@ -4,11 +4,11 @@ use mathlib.Core.List.{List, [], _∷_, _++_, append-assoc, append-nil}
 use Prim.Native.Nat.{ℕ, _+_, _*_, _-_, _≤_, _<_, _^_, max}
 use native.Mathlib.Nat.{mul-le-mul}
 use native.Mathlib.Numerals.{add-one}
-use native.Mathlib.Decide.{decLt}
 use native.Mathlib.Omega.{arith}
-use lib.ListN.{length, getD, set, length-set, replicate, length-replicate, getD-replicate, List·getD-eq-default}
+use lib.ListN.{length, getD, set, length-set, replicate, length-replicate}
 use lib.Seq.{getD-set-same, getD-set-other}
 use Rattle.base.specs.Listed.{listed, listed-same}
+use Rattle.base.specs.Zeros.{zeros-at}
 use Rattle.batching.specs.Least.{mountStart, benchStart, finishOf}
 use Rattle.batching.specs.Chosen.{batchOf}
 use Rattle.batching.specs.Index.{leastAt, closedAt, chosenAt}
@@ -71,12 +71,6 @@ plan-added {plan} {count} {finish} P last start = record {
     finish = λ k h. getD-set-other (plan .finish) (plan .batches) k finish 0 (omega arith) ∙ N .finish k (omega arith);
   };
 }
-
-zeros-at : (n k : ℕ) → getD {A = ℕ} (replicate n 0) k 0 ≡ 0
-zeros-at n k = elim (decLt k n) [
-  | yes h ↦ getD-replicate n k 0 0 h
-  | no h ↦ List·getD-eq-default {A = ℕ} (replicate n 0) 0 {n = k} (omega (arith, length-replicate {A = ℕ} n 0))
-]
 
 module _ {rs sums late : List ℕ} {s n : ℕ} (P : ChooseBatchesPre rs sums late s n) where
   pub plan-start : PlanSoFar rs sums s n (record { figure = 0; batches = 0; last = replicate 40 0; start = replicate 40 0; finish = replicate 40 0 }) 0 0
