@@ -22,7 +22,8 @@ use Rattle.judge_layout.specs.declared.Verdict.{Verdict}
 use Rattle.judge_members.specs.Members.{present, headForm, memberForm, memberPlace, begun, memberFollows, afterMember, headNumber}
 use Rattle.judge_members.specs.Laws.{Kept, PlaceAsked, MemberAsked, AfterAsked, HeadAsked, begun-kept, member-kept}
 use Rattle.judge_members.specs.declared.Progress.{Progress}
-use Rattle.judge.specs.Judged.{pickPart, partAt, sectionFrom, sectionVerdict, sectionsFrom, statedFigure, turnedBack, found, concluded, judgedPlan, judged}
+use Rattle.judge.specs.Judged.{pickPart, partAt, sectionFrom, sectionVerdict, sectionsFrom, statedFigure, turnedBack, found, concluded, judgedPlan}
+use Rattle.judge.specs.Judged.{judged}
 use Rattle.judge.specs.declared.Judged.{Judged}
 
 pub record PartsAsked (s : Sheet) (plan : List ℕ) (mosaic sorting flight : Part) : Type 0 where
@@ -109,7 +110,12 @@ module _ (s : Sheet) (plan : List ℕ) (section : ℕ) (o : Outer s plan section
     outer-next : sectionVerdict s plan section .number ≡ 0 → Outer s plan (section + 1)
     outer-next e =
         let l = o .low in
-        record { low = omega arith; high = omega arith; same = ap (λ n. sectionsFrom n s plan (section + 1)) fewer ∙ sym (sections-next (3 - section) s plan section e) ∙ opened }
+        record {
+          low = omega arith;
+          high = omega arith;
+          same = ap (λ n. sectionsFrom n s plan (section + 1)) fewer ∙ sym
+              (sections-next (3 - section) s plan section e) ∙ opened;
+        }
       where
         fewer : 4 - (section + 1) ≡ 3 - section
         fewer = omega arith
@@ -142,7 +148,8 @@ section-here s plan section part e h = rw (h, e)
 
 pub member-next : (left : ℕ) (s : Sheet) (plan : List ℕ) (section : ℕ) (part : Part) (k : ℕ) (p : Progress)
     → memberFollows s plan section k (memberPlace section (part .head) k) p ≡ true
-    → sectionFrom (suc left) s plan section part k p ≡ sectionFrom left s plan section part (k + 1) (afterMember s plan section (memberPlace section (part .head) k) p)
+    → sectionFrom (suc left) s plan section part k p
+    ≡ sectionFrom left s plan section part (k + 1) (afterMember s plan section (memberPlace section (part .head) k) p)
 unfolding sectionFrom
 member-next left s plan section part k p e = rw (e, sectionFrom)
 
@@ -188,7 +195,8 @@ module _ (s : Sheet) (plan : List ℕ) (section : ℕ) (part : Part) (k : ℕ) (
     opened-member = ap (λ n. sectionFrom n s plan section part k p) (sym left-over) ∙ i .same
 
     before-end : part .head + sizeOf (memberForm section) * k < 2 ^ 63
-    before-end = let l : k ≤ part .members = omega arith in omega (arith, i .small, fits .within, fits .members, mul-le-mul-left (sizeOf (memberForm section)) l)
+    before-end =
+        let l : k ≤ part .members = omega arith in omega (arith, i .small, fits .within, fits .members, mul-le-mul-left (sizeOf (memberForm section)) l)
 
     pub place-asked : PlaceAsked section (part .head) k
     place-asked = record { room = place-small section (part .head) k before-end }
@@ -211,10 +219,13 @@ module _ (s : Sheet) (plan : List ℕ) (section : ℕ) (part : Part) (k : ℕ) (
 
         pub inner-wrong : not x ≡ true → _≡_ {A = Verdict} (record { number = ruleBroken; place = place }) (sectionsFrom 3 s plan 1)
         unfolding verdict
-        inner-wrong h = ap (λ n. verdict ruleBroken n) ep ∙ sym fault ∙ outer-wrong s plan section (i .outer) (i .below) (λ z. broken (sym (ap (λ v. v .number) fault) ∙ z))
+        inner-wrong h =
+            ap (λ n. verdict ruleBroken n) ep ∙ sym fault ∙ outer-wrong s plan section (i .outer) (i .below) (λ z. broken (sym (ap (λ v. v .number) fault) ∙ z))
           where
             fault : sectionVerdict s plan section ≡ verdict ruleBroken (memberPlace section (part .head) k)
-            fault = sym opened-member ∙ member-wrong (part .members - (k + 1)) s plan section part k p (ap (λ n. memberFollows s plan section k n p) (sym ep) ∙ sym ex ∙ not-true x h)
+            fault =
+                sym opened-member
+                ∙ member-wrong (part .members - (k + 1)) s plan section part k p (ap (λ n. memberFollows s plan section k n p) (sym ep) ∙ sym ex ∙ not-true x h)
 
             broken : _≡_ {A = ℕ} ruleBroken 0 → ⊥
             broken z = omega arith
@@ -240,7 +251,11 @@ module _ (s : Sheet) (plan : List ℕ) (section : ℕ) (part : Part) (k : ℕ) (
 
   module _ (all : part .members ≤ k) (number : ℕ) (en : number ≡ headNumber s plan section part p) where
     judged-head : sectionVerdict s plan section ≡ verdict number (part .head)
-    judged-head = sym (i .same) ∙ ap (λ n. sectionFrom n s plan section part k p) none ∙ members-judged s plan section part k p ∙ ap (λ n. verdict n (part .head)) (sym en)
+    judged-head =
+        sym (i .same)
+        ∙ ap (λ n. sectionFrom n s plan section part k p) none
+        ∙ members-judged s plan section part k p
+        ∙ ap (λ n. verdict n (part .head)) (sym en)
       where
         none : part .members - k ≡ 0
         none = omega arith

@@ -61,7 +61,8 @@ pub record OrderedSoFar (f : FlightSection) (order : ℕ) (ps : List Passes) (k 
   pub so-far : passesInOrder f order ps k ≡ true
 
 order-suc : (f : FlightSection) (order : ℕ) (ps : List Passes) (k : ℕ)
-    → passesInOrder f order ps (suc k) ≡ (passesInOrder f order ps k && leb (clearAt f ps (passAt (f .blocks) order k)) (passStart f ps (passAt (f .blocks) order (k + 1))))
+    → passesInOrder f order ps (suc k)
+    ≡ (passesInOrder f order ps k && leb (clearAt f ps (passAt (f .blocks) order k)) (passStart f ps (passAt (f .blocks) order (k + 1))))
 unfolding passesInOrder
 order-suc f order ps k = refl
 
@@ -97,11 +98,16 @@ module _ (f : FlightSection) (order : ℕ) (plan : List ℕ) (at k : ℕ) (a : O
   ordered-more h =
       record {
         within = omega arith;
-        so-far = ap (passesInOrder f order (blocksFrom plan at (f .blocks))) (add-one k) ∙ order-suc f order (blocksFrom plan at (f .blocks)) k ∙ rw (t .so-far, ← end-there, ← start-there, le-leb _ _ h);
+        so-far =
+            ap (passesInOrder f order (blocksFrom plan at (f .blocks))) (add-one k)
+            ∙ order-suc f order (blocksFrom plan at (f .blocks)) k
+            ∙ rw (t .so-far, ← end-there, ← start-there, le-leb _ _ h);
       }
 
   pub ordered-wrong : start < end → false ≡ passesInOrder f order (blocksFrom plan at (f .blocks)) (2 * f .blocks - 1)
-  ordered-wrong h = sym (ap (passesInOrder f order (blocksFrom plan at (f .blocks))) all ∙ order-stays f order (blocksFrom plan at (f .blocks)) (suc k) (2 * f .blocks - 1 - suc k) here)
+  ordered-wrong h =
+      sym
+      (ap (passesInOrder f order (blocksFrom plan at (f .blocks))) all ∙ order-stays f order (blocksFrom plan at (f .blocks)) (suc k) (2 * f .blocks - 1 - suc k) here)
     where
       all : 2 * f .blocks - 1 ≡ suc k + (2 * f .blocks - 1 - suc k)
       all = omega arith
@@ -199,9 +205,13 @@ module _ (f : FlightSection) (members order : ℕ) (plan : List ℕ) (at : ℕ) 
       pub head-given : (r : Bool) → f .ordered ≡ true → order ≡ f .order → r ≡ passesInOrder f order (blocksFrom plan at (f .blocks)) (2 * f .blocks - 1)
           → r ≡ flightHead f members order (blocksFrom plan at members)
       unfolding flightHead
-      head-given r g h e = all-right _ _ _ _ r (eq-eqb _ _ em) (sym ex ∙ not-false x hx) (given-right (f .ordered) (eqb order (f .order)) g (eq-eqb _ _ h)) (e ∙ ap (λ n. passesInOrder f order (blocksFrom plan at n) (2 * f .blocks - 1)) (sym em))
+      head-given r g h e =
+          all-right _ _ _ _ r (eq-eqb _ _ em) (sym ex ∙ not-false x hx) (given-right (f .ordered) (eqb order (f .order)) g (eq-eqb _ _ h))
+          (e ∙ ap (λ n. passesInOrder f order (blocksFrom plan at n) (2 * f .blocks - 1)) (sym em))
 
       pub head-free : (r : Bool) → f .ordered ≡ false → r ≡ passesInOrder f order (blocksFrom plan at (f .blocks)) (2 * f .blocks - 1)
           → r ≡ flightHead f members order (blocksFrom plan at members)
       unfolding flightHead
-      head-free r g e = all-right _ _ _ _ r (eq-eqb _ _ em) (sym ex ∙ not-false x hx) (none-given (f .ordered) (eqb order (f .order)) g) (e ∙ ap (λ n. passesInOrder f order (blocksFrom plan at n) (2 * f .blocks - 1)) (sym em))
+      head-free r g e =
+          all-right _ _ _ _ r (eq-eqb _ _ em) (sym ex ∙ not-false x hx) (none-given (f .ordered) (eqb order (f .order)) g)
+          (e ∙ ap (λ n. passesInOrder f order (blocksFrom plan at n) (2 * f .blocks - 1)) (sym em))

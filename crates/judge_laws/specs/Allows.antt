@@ -102,7 +102,8 @@ module _ (s : Sheet) (plan : List ℕ) where
 
   sorting-none : ltb 0 (stripsInAll (s .sorting)) ≡ false → statedJobs s plan ≡ []
   unfolding statedJobs sortingPart
-  sorting-none h = none-read jobFrom (sizeOf jobForm) plan _ _ (absent-part (ltb 0 (stripsInAll (s .sorting))) plan (mosaicPart s plan .end) sortingHeadForm jobForm h)
+  sorting-none h =
+      none-read jobFrom (sizeOf jobForm) plan _ _ (absent-part (ltb 0 (stripsInAll (s .sorting))) plan (mosaicPart s plan .end) sortingHeadForm jobForm h)
 
 no-strips : (counts : List ℕ) (i : ℕ) → i < 3 → getD counts 0 0 + getD counts 1 0 + getD counts 2 0 ≤ 0 → getD counts i 0 ≡ 0
 no-strips counts zero l h = omega arith
@@ -149,7 +150,8 @@ module _ (s : Sheet) (plan : List ℕ) (sound : SheetSound s) where
 
   flight-none : ltb 0 (s .flight .blocks) ≡ false → statedPasses s plan ≡ []
   unfolding statedPasses flightPart
-  flight-none h = none-read passesFrom (sizeOf passesForm) plan _ _ (absent-part (ltb 0 (s .flight .blocks)) plan (sortingPart s plan .end) flightHeadForm passesForm h)
+  flight-none h =
+      none-read passesFrom (sizeOf passesForm) plan _ _ (absent-part (ltb 0 (s .flight .blocks)) plan (sortingPart s plan .end) flightHeadForm passesForm h)
 
   no-blocks : ltb 0 (s .flight .blocks) ≡ false → FlightRuns (s .flight) (cond (s .flight .ordered) (s .flight .order) 0) []
   no-blocks h =
@@ -184,7 +186,8 @@ unfolding partOf partFrom
 part-head true plan at head member = go (isField (fieldAt plan at) (head .tag) (contentLength head))
   where
     go : (b : Bool)
-        → cond b (partFrom plan at (contentLength head) (member .tag) (contentLength member)) (record { right = false; head = at; members = 0; end = at }) .head ≡ at
+        → cond b (partFrom plan at (contentLength head) (member .tag) (contentLength member)) (record { right = false; head = at; members = 0; end = at }) .head
+        ≡ at
     go true = refl
     go false = refl
 part-head false plan at head member = refl
@@ -225,15 +228,20 @@ module _ (s : Sheet) (plan : List ℕ) (bytes : AreBytes plan) (sound : SheetSou
   sorting-raw : drop (mosaicPart s plan .end) plan
       ≡ cond (ltb 0 (stripsInAll (s .sorting))) (sortingAt s plan (mosaicPart s plan .end)) [] ++ drop (sortingPart s plan .end) plan
   unfolding jobKind sortingPart
-  sorting-raw = part-stands jobKind plan bytes (mosaicPart s plan .end) sortingHeadForm _ (sorting-head-stands plan bytes (mosaicPart s plan .end)) (ltb 0 (stripsInAll (s .sorting))) (r .layout .sorting)
+  sorting-raw =
+      part-stands jobKind plan bytes (mosaicPart s plan .end) sortingHeadForm _ (sorting-head-stands plan bytes (mosaicPart s plan .end))
+      (ltb 0 (stripsInAll (s .sorting))) (r .layout .sorting)
 
   flight-raw : drop (sortingPart s plan .end) plan
       ≡ cond (ltb 0 (s .flight .blocks)) (flightAt s plan (sortingPart s plan .end)) [] ++ drop (flightPart s plan .end) plan
   unfolding passesKind flightPart
-  flight-raw = part-stands passesKind plan bytes (sortingPart s plan .end) flightHeadForm _ (flight-head-stands plan bytes (sortingPart s plan .end)) (ltb 0 (s .flight .blocks)) (r .layout .flight)
+  flight-raw =
+      part-stands passesKind plan bytes (sortingPart s plan .end) flightHeadForm _ (flight-head-stands plan bytes (sortingPart s plan .end))
+      (ltb 0 (s .flight .blocks)) (r .layout .flight)
 
   mosaic-stands : drop 0 plan
-      ≡ ifPresent (s .mosaic .strips) (mosaicBytes (mosaicFigure (s .mosaic) (statedBatches s plan)) (statedBatches s plan)) ++ drop (mosaicPart s plan .end) plan
+      ≡ ifPresent (s .mosaic .strips) (mosaicBytes (mosaicFigure (s .mosaic) (statedBatches s plan)) (statedBatches s plan))
+      ++ drop (mosaicPart s plan .end) plan
   unfolding ifPresent mosaicBytes statedBatches
   mosaic-stands =
       mosaic-raw
@@ -242,7 +250,8 @@ module _ (s : Sheet) (plan : List ℕ) (bytes : AreBytes plan) (sound : SheetSou
       (same-bytes (λ (figure : ℕ). mosaicBytes figure (statedBatches s plan)) (ltb 0 (s .mosaic .strips)) _ _ (mosaic-figure-read s plan (r .sections .mosaic)))
 
   sorting-stands : drop (mosaicPart s plan .end) plan
-      ≡ ifPresent (stripsInAll (s .sorting)) (sortingBytes (sortingFigure (s .sorting) (statedJobs s plan)) (statedJobs s plan)) ++ drop (sortingPart s plan .end) plan
+      ≡ ifPresent (stripsInAll (s .sorting)) (sortingBytes (sortingFigure (s .sorting) (statedJobs s plan)) (statedJobs s plan))
+      ++ drop (sortingPart s plan .end) plan
   unfolding ifPresent sortingBytes statedJobs
   sorting-stands =
       sorting-raw
@@ -255,7 +264,8 @@ module _ (s : Sheet) (plan : List ℕ) (bytes : AreBytes plan) (sound : SheetSou
   order-read h = rw h
 
   flight-stands : drop (sortingPart s plan .end) plan
-      ≡ ifPresent (s .flight .blocks) (flightBytes (flightFigure (s .flight) (statedPasses s plan)) (statedOrder s plan) (statedPasses s plan)) ++ drop (flightPart s plan .end) plan
+      ≡ ifPresent (s .flight .blocks) (flightBytes (flightFigure (s .flight) (statedPasses s plan)) (statedOrder s plan) (statedPasses s plan))
+      ++ drop (flightPart s plan .end) plan
   unfolding ifPresent flightBytes statedPasses
   flight-stands =
       flight-raw

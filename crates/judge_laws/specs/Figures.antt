@@ -33,7 +33,8 @@ module _ (s : Sheet) (plan : List ℕ) (section head : ℕ) where
 
   unfoldable AllFollow : ℕ → ℕ → Progress → Type 0
   AllFollow zero k st = Unit
-  AllFollow (suc n) k st = MemberFollows s plan section k (memberPlace section head k) st × AllFollow n (k + 1) (afterMember s plan section (memberPlace section head k) st)
+  AllFollow (suc n) k st =
+      MemberFollows s plan section k (memberPlace section head k) st × AllFollow n (k + 1) (afterMember s plan section (memberPlace section head k) st)
 
   -- one member more
   advanced-last : (n k : ℕ) (st : Progress) → advanced (suc n) k st ≡ afterMember s plan section (memberPlace section head (k + n)) (advanced n k st)
@@ -83,7 +84,9 @@ module _ (s : Sheet) (plan : List ℕ) (part : Part) where
   mosaic-runs (suc n) k st a e =
       let b = batchFrom plan (memberPlace 1 (part .head) k) in
       let r = mosaic-runs n (k + 1) (afterBatch st b) (a .1) e in
-      subst (λ (bs : List Batch). MosaicRuns (s .mosaic) (st .before) bs × (advanced s plan 1 (part .head) n (k + 1) (afterBatch st b) .figure ≡ st .figure + runningFigure (st .before) bs)) (sym (batches-more s plan part n k))
+      subst
+      (λ (bs : List Batch). MosaicRuns (s .mosaic) (st .before) bs × (advanced s plan 1 (part .head) n (k + 1) (afterBatch st b) .figure ≡ st .figure + runningFigure (st .before) bs))
+      (sym (batches-more s plan part n k))
       (MosaicRuns.more (a .0) (r .0), r .1 ∙ regroup _ _ _)
 
   sorting-sum : (n k : ℕ) (st : Progress)
@@ -92,7 +95,9 @@ module _ (s : Sheet) (plan : List ℕ) (part : Part) where
   sorting-sum zero k st = omega arith
   sorting-sum (suc n) k st =
       let j = jobFrom plan (memberPlace 2 (part .head) k) in
-      sorting-sum n (k + 1) (afterStrip s st j) ∙ regroup _ _ _ ∙ ap (λ (js : List Job). st .figure + runningFinishes (s .sorting) js) (sym (jobs-more s plan part n k))
+      sorting-sum n (k + 1) (afterStrip s st j)
+      ∙ regroup _ _ _
+      ∙ ap (λ (js : List Job). st .figure + runningFinishes (s .sorting) js) (sym (jobs-more s plan part n k))
 
 first-place : (section head : ℕ) → memberPlace section head 0 ≡ head + sizeOf (headForm section)
 unfolding memberPlace
@@ -109,7 +114,10 @@ module _ (s : Sheet) (plan : List ℕ) where
       let part = partAt s plan 1 in
       let a = reached-all s plan 1 r in
       let m = mosaic-runs s plan part (part .members) 0 begun (a .0) (ap (λ (x : Progress). x .before .last) (sym (a .1)) ∙ h) in
-      ap (λ (x : Progress). x .figure) (a .1) ∙ m .1 ∙ from-none (runningFigure noBatch (batchesFrom plan (memberPlace 1 (part .head) 0) (part .members))) ∙ sym (mosaic-figure (s .mosaic) (batchesFrom plan (memberPlace 1 (part .head) 0) (part .members)) (m .0))
+      ap (λ (x : Progress). x .figure) (a .1)
+      ∙ m .1
+      ∙ from-none (runningFigure noBatch (batchesFrom plan (memberPlace 1 (part .head) 0) (part .members)))
+      ∙ sym (mosaic-figure (s .mosaic) (batchesFrom plan (memberPlace 1 (part .head) 0) (part .members)) (m .0))
       ∙ ap (λ (at : ℕ). mosaicFigure (s .mosaic) (batchesFrom plan at (part .members))) (first-place 1 (part .head))
 
   sorting-true : (st : Progress) → Reached s plan 2 (partAt s plan 2 .members) st
@@ -118,7 +126,10 @@ module _ (s : Sheet) (plan : List ℕ) where
   sorting-true st r =
       let part = partAt s plan 2 in
       let a = reached-all s plan 2 r in
-      ap (λ (x : Progress). x .figure) (a .1) ∙ sorting-sum s plan part (part .members) 0 begun ∙ from-none (runningFinishes (s .sorting) (jobsFrom plan (memberPlace 2 (part .head) 0) (part .members))) ∙ sym (sorting-figure (s .sorting) (jobsFrom plan (memberPlace 2 (part .head) 0) (part .members)))
+      ap (λ (x : Progress). x .figure) (a .1)
+      ∙ sorting-sum s plan part (part .members) 0 begun
+      ∙ from-none (runningFinishes (s .sorting) (jobsFrom plan (memberPlace 2 (part .head) 0) (part .members)))
+      ∙ sym (sorting-figure (s .sorting) (jobsFrom plan (memberPlace 2 (part .head) 0) (part .members)))
       ∙ ap (λ (at : ℕ). sortingFigure (s .sorting) (jobsFrom plan at (part .members))) (first-place 2 (part .head))
 
   pub reached-figure : (section : ℕ) (st : Progress) → Reached s plan section (partAt s plan section .members) st
@@ -128,7 +139,8 @@ module _ (s : Sheet) (plan : List ℕ) where
   reached-figure section st = go (ℕ-discrete 1 section) (ℕ-discrete 2 section)
     where
       Same : ℕ → Type 0
-      Same n = Reached s plan n (partAt s plan n .members) st → HeadFollows s plan n (partAt s plan n) st → figureOf s plan n (partAt s plan n) st ≡ ruleFigure s plan n (partAt s plan n)
+      Same n =
+          Reached s plan n (partAt s plan n .members) st → HeadFollows s plan n (partAt s plan n) st → figureOf s plan n (partAt s plan n) st ≡ ruleFigure s plan n (partAt s plan n)
 
       go : Dec (1 ≡ section) → Dec (2 ≡ section) → Same section
       go (yes e) d = subst Same e (mosaic-true st)

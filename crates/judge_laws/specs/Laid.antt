@@ -78,7 +78,9 @@ cut-at plan at n = sym (take-append-drop n (drop at plan)) ∙ ap (λ (l : List 
 module _ {A : Type 0} (kind : Kind A) (plan : List ℕ) (bytes : AreBytes plan) (at : ℕ) (head : Form) (front : List ℕ)
     (stands : fieldAt plan at ≡ Whole (head .tag) (contentLength head) → take (sizeOf head) (drop at plan) ≡ front) where
   members-then : (n : ℕ) → n ≡ run (length plan) plan (at + sizeOf head) (kind .form .tag) (contentLength (kind .form))
-      → drop (at + sizeOf head) plan ≡ membersBytes (kind .bytes) (membersFrom (kind .read) (sizeOf (kind .form)) plan (at + sizeOf head) n) ++ drop (at + sizeOf head + n * sizeOf (kind .form)) plan
+      → drop (at + sizeOf head) plan
+      ≡ membersBytes (kind .bytes) (membersFrom (kind .read) (sizeOf (kind .form)) plan (at + sizeOf head) n)
+      ++ drop (at + sizeOf head + n * sizeOf (kind .form)) plan
   members-then n e =
       cut-at plan (at + sizeOf head) (sizeOf (kind .form) * n)
       ∙ ap₂ (λ (l : List ℕ) (k : ℕ). l ++ drop (at + sizeOf head + k) plan)
@@ -94,14 +96,17 @@ module _ {A : Type 0} (kind : Kind A) (plan : List ℕ) (bytes : AreBytes plan) 
   part-stands true e = go (isField (fieldAt plan at) (head .tag) (contentLength head)) refl e
     where
       found : isField (fieldAt plan at) (head .tag) (contentLength head) ≡ true
-          → drop at plan ≡ front ++ membersBytes (kind .bytes) (membersFrom (kind .read) (sizeOf (kind .form)) plan (at + sizeOf head) (partFrom plan at (contentLength head) (kind .form .tag) (contentLength (kind .form)) .members)) ++ drop (partFrom plan at (contentLength head) (kind .form .tag) (contentLength (kind .form)) .end) plan
+          → drop at plan
+          ≡ front ++ membersBytes (kind .bytes) (membersFrom (kind .read) (sizeOf (kind .form)) plan (at + sizeOf head) (partFrom plan at (contentLength head) (kind .form .tag) (contentLength (kind .form)) .members)) ++ drop (partFrom plan at (contentLength head) (kind .form .tag) (contentLength (kind .form)) .end) plan
       found h =
           cut-at plan at (sizeOf head)
           ∙ ap₂ _++_ (stands (is-field-true (fieldAt plan at) (head .tag) (contentLength head) h)) (members-then (run (length plan) plan (at + sizeOf head) (kind .form .tag) (contentLength (kind .form))) refl)
           ∙ sym (append-assoc front _ _)
 
       go : (b : Bool) → isField (fieldAt plan at) (head .tag) (contentLength head) ≡ b
-          → cond b (partFrom plan at (contentLength head) (kind .form .tag) (contentLength (kind .form))) (record { right = false; head = at; members = 0; end = at }) .right ≡ true
+          → cond b (partFrom plan at (contentLength head) (kind .form .tag) (contentLength (kind .form)))
+          (record { right = false; head = at; members = 0; end = at }) .right
+          ≡ true
           → drop at plan
           ≡ front ++ membersBytes (kind .bytes) (membersFrom (kind .read) (sizeOf (kind .form)) plan (at + sizeOf head) (cond b (partFrom plan at (contentLength head) (kind .form .tag) (contentLength (kind .form))) (record { right = false; head = at; members = 0; end = at }) .members))
           ++ drop (cond b (partFrom plan at (contentLength head) (kind .form .tag) (contentLength (kind .form))) (record { right = false; head = at; members = 0; end = at }) .end) plan

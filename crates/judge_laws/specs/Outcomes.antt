@@ -109,7 +109,8 @@ module _ (s : Sheet) (plan : List ℕ) where
   right-plan : PlanRight s plan → judgedPlan s plan ≡ found s plan
   unfolding found
   right-plan r =
-      sym (all-right s plan (layoutVerdict s plan) refl (right-layout s plan (r .layout)) (sectionsFrom 3 s plan 1) refl (statedFigure s plan 1) (statedFigure s plan 2) (statedFigure s plan 3) (right-sections s plan (r .sections)) refl refl refl)
+      sym
+      (all-right s plan (layoutVerdict s plan) refl (right-layout s plan (r .layout)) (sectionsFrom 3 s plan 1) refl (statedFigure s plan 1) (statedFigure s plan 2) (statedFigure s plan 3) (right-sections s plan (r .sections)) refl refl refl)
 
 module _ (sheet plan : List ℕ) where
   pub judged-right : judged sheet plan .number ≡ 0 → (readSheet sheet .number ≡ 0) × PlanRight (readSheet sheet) plan

@@ -26,7 +26,8 @@ use Rattle.rules_laws.specs.SortingRunning.{runningFinishes}
 use Rattle.judge_rules.specs.Follows.{flightHead}
 use Rattle.judge_layout.specs.Layout.{verdict}
 use Rattle.judge_layout.specs.declared.Part.{Part}
-use Rattle.judge_members.specs.Members.{headForm, memberForm, memberPlace, memberFollows, afterBatch, afterStrip, afterMember, headFollows, figureOf, headNumber}
+use Rattle.judge_members.specs.Members.{headForm, memberForm, memberPlace, memberFollows, afterBatch, afterStrip, afterMember, headFollows, figureOf}
+use Rattle.judge_members.specs.Members.{headNumber}
 use Rattle.judge_members.specs.declared.Progress.{Progress}
 use Rattle.judge.specs.Judged.{sectionFrom}
 use Rattle.judge.specs.Loops.{member-next, member-wrong}
@@ -99,7 +100,8 @@ module _ (s : Sheet) (plan : List ℕ) (part : Part) where
     pub figure : figureFrom mosaicHeadForm plan (part .head) ≡ st .figure + runningFigure (st .before) bs
 
   pub batches-more : (n k : ℕ)
-      → batchesFrom plan (memberPlace 1 (part .head) k) (suc n) ≡ batchFrom plan (memberPlace 1 (part .head) k) ∷ batchesFrom plan (memberPlace 1 (part .head) (k + 1)) n
+      → batchesFrom plan (memberPlace 1 (part .head) k) (suc n)
+      ≡ batchFrom plan (memberPlace 1 (part .head) k) ∷ batchesFrom plan (memberPlace 1 (part .head) (k + 1)) n
   unfolding membersFrom memberForm
   batches-more n k = ap (λ at. batchFrom plan (memberPlace 1 (part .head) k) ∷ batchesFrom plan at n) (sym (next-place 1 (part .head) k))
 
@@ -134,7 +136,8 @@ module _ (s : Sheet) (plan : List ℕ) (part : Part) where
     pub figure : figureFrom sortingHeadForm plan (part .head) ≡ st .figure + runningFinishes (s .sorting) js
 
   pub jobs-more : (n k : ℕ)
-      → jobsFrom plan (memberPlace 2 (part .head) k) (suc n) ≡ jobFrom plan (memberPlace 2 (part .head) k) ∷ jobsFrom plan (memberPlace 2 (part .head) (k + 1)) n
+      → jobsFrom plan (memberPlace 2 (part .head) k) (suc n)
+      ≡ jobFrom plan (memberPlace 2 (part .head) k) ∷ jobsFrom plan (memberPlace 2 (part .head) (k + 1)) n
   unfolding membersFrom memberForm
   jobs-more n k = ap (λ at. jobFrom plan (memberPlace 2 (part .head) k) ∷ jobsFrom plan at n) (sym (next-place 2 (part .head) k))
 
@@ -201,7 +204,8 @@ module _ (s : Sheet) (plan : List ℕ) (part : Part) where
   pass-is : (i : ℕ) → i < part .members
       → passesAt (blocksFrom plan (part .head + sizeOf flightHeadForm) (part .members)) i ≡ passesFrom plan (memberPlace 3 (part .head) i)
   unfolding passesAt memberPlace headForm memberForm
-  pass-is i h = member-at passesFrom (sizeOf passesForm) plan (part .head + sizeOf flightHeadForm) (part .members) i noPasses h ∙ ap (passesFrom plan) (omega arith)
+  pass-is i h =
+      member-at passesFrom (sizeOf passesForm) plan (part .head + sizeOf flightHeadForm) (part .members) i noPasses h ∙ ap (passesFrom plan) (omega arith)
 
   passes-length : length (blocksFrom plan (part .head + sizeOf flightHeadForm) (part .members)) ≡ part .members
   passes-length = length-from passesFrom (sizeOf passesForm) plan (part .head + sizeOf flightHeadForm) (part .members)
@@ -212,8 +216,11 @@ module _ (s : Sheet) (plan : List ℕ) (part : Part) where
       record {
         runs =
             record {
-              members = λ i l. let h : i < part .members = omega (arith, passes-length) in subst (BlockFollows (s .flight) i) (sym (pass-is i h)) (t .blocks i (omega arith) (omega arith));
-              head = true-head (s .flight) (orderFrom plan (part .head)) (blocksFrom plan (part .head + sizeOf flightHeadForm) (part .members)) (part .members) (sym passes-length) (t .head);
+              members =
+                  λ i l. let h : i < part .members = omega (arith, passes-length) in subst (BlockFollows (s .flight) i) (sym (pass-is i h)) (t .blocks i (omega arith) (omega arith));
+              head =
+                  true-head (s .flight) (orderFrom plan (part .head)) (blocksFrom plan (part .head + sizeOf flightHeadForm) (part .members)) (part .members)
+                  (sym passes-length) (t .head);
             };
         figure = t .figure;
       }
@@ -223,6 +230,8 @@ module _ (s : Sheet) (plan : List ℕ) (part : Part) where
       judged-blocks (part .members) 0 st
       (record {
         blocks = λ i l u. subst (BlockFollows (s .flight) i) (pass-is i (omega arith)) (t .runs .members i (omega (arith, passes-length)));
-        head = head-true (s .flight) (orderFrom plan (part .head)) (blocksFrom plan (part .head + sizeOf flightHeadForm) (part .members)) (part .members) (sym passes-length) (t .runs .head);
+        head =
+            head-true (s .flight) (orderFrom plan (part .head)) (blocksFrom plan (part .head + sizeOf flightHeadForm) (part .members)) (part .members)
+            (sym passes-length) (t .runs .head);
         figure = t .figure;
       })

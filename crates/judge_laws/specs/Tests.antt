@@ -22,7 +22,8 @@ use Rattle.rules.specs.declared.Batch.{Batch}
 use Rattle.rules.specs.declared.Job.{Job}
 use Rattle.rules.specs.declared.Passes.{Passes}
 use Rattle.running.specs.declared.Desks.{Desks}
-use Rattle.judge_rules.specs.Follows.{batchInRun, batchInTime, batchFollows, jobInTurn, jobInTime, jobFollows, blockInTime, blockFollows, allDone, passesInOrder, flightHead}
+use Rattle.judge_rules.specs.Follows.{batchInRun, batchInTime, batchFollows, jobInTurn, jobInTime, jobFollows, blockInTime, blockFollows, allDone}
+use Rattle.judge_rules.specs.Follows.{passesInOrder, flightHead}
 
 -- a conjunction of two that hold
 all-of : (a b : Bool) → a ≡ true → b ≡ true → (a && b) ≡ true

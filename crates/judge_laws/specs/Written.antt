@@ -94,11 +94,13 @@ module _ (s : Sheet) (p : Plan) (plan : List ℕ) (sound : SheetSound s) (L : Pl
   sorting-next = flight-last ∙ append-assoc (mosaicPiece s p) (sortingPiece s p) (flightPiece s p ++ [])
 
   flight-other : (tag : ℕ) → 0 < tag → (flightHeadForm .tag ≡ tag → ⊥) → getD (flightPiece s p ++ []) 0 0 ≡ tag → ⊥
-  flight-other tag h k = follows-other (ltb 0 (s .flight .blocks)) flightHeadForm (flightHeadValues s p) (membersBytes passesBytes (p .passes)) [] tag k (λ z. omega arith)
+  flight-other tag h k =
+      follows-other (ltb 0 (s .flight .blocks)) flightHeadForm (flightHeadValues s p) (membersBytes passesBytes (p .passes)) [] tag k (λ z. omega arith)
 
   batch-other : getD (sortingPiece s p ++ (flightPiece s p ++ [])) 0 0 ≡ planBatchTag → ⊥
   batch-other =
-      follows-other (ltb 0 (stripsInAll (s .sorting))) sortingHeadForm (sortingHeadValues s p) (membersBytes jobBytes (p .jobs)) (flightPiece s p ++ []) planBatchTag (λ z. omega arith)
+      follows-other (ltb 0 (stripsInAll (s .sorting))) sortingHeadForm (sortingHeadValues s p) (membersBytes jobBytes (p .jobs)) (flightPiece s p ++ [])
+      planBatchTag (λ z. omega arith)
       (flight-other planBatchTag (omega arith) (λ z. omega arith))
 
   strip-other : getD (flightPiece s p ++ []) 0 0 ≡ planStripTag → ⊥
@@ -112,7 +114,8 @@ module _ (s : Sheet) (p : Plan) (plan : List ℕ) (sound : SheetSound s) (L : Pl
       ≡ record { right = true; head = 0; members = cond (ltb 0 (s .mosaic .strips)) (length (p .batches)) 0; end = length (mosaicPiece s p) }
   unfolding mosaicPart batchKind
   mosaic-part =
-      part-written batchKind plan [] mosaicHeadForm (mosaicHeadValues s p) (p .batches) (sortingPiece s p ++ (flightPiece s p ++ [])) refl (omega arith) batch-other
+      part-written batchKind plan [] mosaicHeadForm (mosaicHeadValues s p) (p .batches) (sortingPiece s p ++ (flightPiece s p ++ [])) refl (omega arith)
+      batch-other
       (ltb 0 (s .mosaic .strips)) sorting-next
 
   sorting-part : sortingPart s plan
@@ -200,7 +203,11 @@ module _ (s : Sheet) (p : Plan) (plan : List ℕ) (sound : SheetSound s) (L : Pl
     sorting-written : SortingTrue s plan (sortingPart s plan) begun (p .jobs)
     unfolding begun
     sorting-written =
-        record { runs = sorting-runs (s .sorting) (p .jobs) (sound .sorting) (L .sorting); figure = sorting-stated ∙ omega (arith, sorting-figure (s .sorting) (p .jobs)) }
+        record {
+          runs = sorting-runs (s .sorting) (p .jobs) (sound .sorting) (L .sorting);
+          figure = sorting-stated ∙ omega
+              (arith, sorting-figure (s .sorting) (p .jobs));
+        }
 
   sorting-right : sectionVerdict s plan 2 .number ≡ 0
   unfolding present partAt pickPart
@@ -258,7 +265,8 @@ module _ (s : Sheet) (p : Plan) (plan : List ℕ) (sound : SheetSound s) (L : Pl
   -- the figures stated are the rules' figures
   pub mosaic-figure-stated : statedFigure s plan 1 ≡ mosaicFigure (s .mosaic) (p .batches)
   unfolding statedFigure present headForm partAt pickPart mosaicFigure
-  mosaic-figure-stated = by-presence (ltb 0 (s .mosaic .strips)) _ _ mosaic-stated (λ h. no-sum (s .mosaic .strips) _ (omega (arith, ltb-false 0 (s .mosaic .strips) h)))
+  mosaic-figure-stated =
+      by-presence (ltb 0 (s .mosaic .strips)) _ _ mosaic-stated (λ h. no-sum (s .mosaic .strips) _ (omega (arith, ltb-false 0 (s .mosaic .strips) h)))
 
   pub sorting-figure-stated : statedFigure s plan 2 ≡ sortingFigure (s .sorting) (p .jobs)
   unfolding statedFigure present headForm partAt pickPart sortingFigure
@@ -268,4 +276,5 @@ module _ (s : Sheet) (p : Plan) (plan : List ℕ) (sound : SheetSound s) (L : Pl
 
   pub flight-figure-stated : statedFigure s plan 3 ≡ flightFigure (s .flight) (p .passes)
   unfolding statedFigure present headForm partAt pickPart flightFigure
-  flight-figure-stated = by-presence (ltb 0 (s .flight .blocks)) _ _ flight-stated (λ h. no-greatest (2 * s .flight .blocks) _ (omega (arith, ltb-false 0 (s .flight .blocks) h)))
+  flight-figure-stated =
+      by-presence (ltb 0 (s .flight .blocks)) _ _ flight-stated (λ h. no-greatest (2 * s .flight .blocks) _ (omega (arith, ltb-false 0 (s .flight .blocks) h)))

@@ -229,11 +229,16 @@ module _ (s : Sheet) (plan : List ℕ) (mosaic sorting flight : Part) (a : Verdi
       module _ (hg : not (flight .right) ≡ false) where
         pub more-behind : (flight .end ≡ length plan → ⊥) → _≡_ {A = Verdict} (record { number = 12; place = flight .end }) (layoutVerdict s plan)
         unfolding layoutVerdict verdict
-        more-behind h = rw (m true (not-false _ hm), o true (not-false _ ho), g true (not-false _ hg), ne-eqb (flightPart s plan .end) (length plan) (λ q. h (ap (λ x. x .end) (a .flight-is) ∙ q))) (ap (λ x. verdict 12 (x .end)) (a .flight-is))
+        more-behind h =
+            rw
+            (m true (not-false _ hm), o true (not-false _ ho), g true (not-false _ hg), ne-eqb (flightPart s plan .end) (length plan) (λ q. h (ap (λ x. x .end) (a .flight-is) ∙ q)))
+            (ap (λ x. verdict 12 (x .end)) (a .flight-is))
 
         pub layout-right : flight .end ≡ length plan → _≡_ {A = Verdict} (record { number = 0; place = 0 }) (layoutVerdict s plan)
         unfolding layoutVerdict verdict
-        layout-right h = rw (m true (not-false _ hm), o true (not-false _ ho), g true (not-false _ hg), eq-eqb (flightPart s plan .end) (length plan) (sym (ap (λ x. x .end) (a .flight-is)) ∙ h))
+        layout-right h =
+            rw
+            (m true (not-false _ hm), o true (not-false _ ho), g true (not-false _ hg), eq-eqb (flightPart s plan .end) (length plan) (sym (ap (λ x. x .end) (a .flight-is)) ∙ h))
 
 pub mosaic-part-is : (s : Sheet) (plan : List ℕ) (r : Part) → r ≡ partByForms (ltb 0 (s .mosaic .strips)) plan 0 mosaicHeadForm batchForm
     → r ≡ mosaicPart s plan
@@ -255,7 +260,8 @@ by-forms : (present : Bool) (plan : List ℕ) (at : ℕ) (head member : Form) �
 by-forms present plan at head member h = part-fits present plan at (head .tag) (contentLength head) (member .tag) (contentLength member) h
 
 pub parts-fit : (s : Sheet) (plan : List ℕ)
-    → (PartFits plan (sizeOf batchForm) (mosaicPart s plan)) × (PartFits plan (sizeOf jobForm) (sortingPart s plan)) × (PartFits plan (sizeOf passesForm) (flightPart s plan))
+    → (PartFits plan (sizeOf batchForm) (mosaicPart s plan)) × (PartFits plan (sizeOf jobForm) (sortingPart s plan))
+    × (PartFits plan (sizeOf passesForm) (flightPart s plan))
 unfolding mosaicPart sortingPart flightPart
 parts-fit s plan =
     let p = by-forms (ltb 0 (s .mosaic .strips)) plan 0 mosaicHeadForm batchForm (omega arith) in

@@ -29,7 +29,8 @@ use Rattle.judge_rules.specs.Follows.{batchInRun, batchInTime, batchFollows, jo
 use Rattle.judge_rules.specs.Asked.{DesksFit, BatchAsked, JobAsked, JobTaken, BlockAsked}
 use Rattle.judge_flight.specs.Starts.{FigureTold}
 use Rattle.judge_layout.specs.declared.Part.{Part}
-use Rattle.judge_members.specs.Members.{present, headForm, memberForm, memberPlace, begun, memberFollows, afterBatch, afterStrip, afterMember, headFollows, figureOf, headNumber}
+use Rattle.judge_members.specs.Members.{present, headForm, memberForm, memberPlace, begun, memberFollows, afterBatch, afterStrip, afterMember}
+use Rattle.judge_members.specs.Members.{headFollows, figureOf, headNumber}
 use Rattle.judge_members.specs.declared.Progress.{Progress}
 
 -- what holds as members are judged: the figure so far is within the ceiling for each strip judged
@@ -191,7 +192,8 @@ batch-facts s p b e =
     (ltb-true _ _ (y .0), leb-true _ _ (y .1), batch-within _ _ _ _ _ (x .1))
 
 job-facts : (s : Sheet) (p : Progress) (j : Job) → jobFollows (s .sorting) (p .desks) j ≡ true
-    → (1 ≤ j .desk) × (j .desk ≤ s .sorting .desks) × (j .number ≡ getD (p .desks .done) (j .desk - 1) 0 + 1) × (j .number ≤ stripsOf (s .sorting) (j .desk)) × (deskFinish (s .sorting) j ≤ ceiling)
+    → (1 ≤ j .desk) × (j .desk ≤ s .sorting .desks) × (j .number ≡ getD (p .desks .done) (j .desk - 1) 0 + 1) × (j .number ≤ stripsOf (s .sorting) (j .desk))
+    × (deskFinish (s .sorting) j ≤ ceiling)
 unfolding jobFollows jobInTurn
 job-facts s p j e =
     let x = both _ _ e in
@@ -254,7 +256,8 @@ module _ (p : Progress) (b : Batch) (a : AfterBatchAsked p b) where
   pub figure-fits : p .figure + (b .last - p .before .last) * b .finish < 2 ^ 64
   figure-fits = let l = a .most-last in let m = a .kept .most-last in omega (arith, most, a .kept .most-figure, sums-few (p .desks) (a .kept .desks))
 
-  pub after-batch-is : _≡_ {A = Progress} (record { before = b; desks = p .desks; figure = p .figure + (b .last - p .before .last) * b .finish }) (afterBatch p b)
+  pub after-batch-is : _≡_ {A = Progress} (record { before = b; desks = p .desks; figure = p .figure + (b .last - p .before .last) * b .finish })
+      (afterBatch p b)
   unfolding afterBatch
   after-batch-is = refl
 
@@ -316,13 +319,18 @@ unfolding memberFollows afterMember
 member-kept s plan section k place p sound kept e = by-section (eqb section 1) (eqb section 2) e
   where
     by-section : (x y : Bool)
-        → cond x (batchFollows (s .mosaic) (p .before) (batchFrom plan place)) (cond y (jobFollows (s .sorting) (p .desks) (jobFrom plan place)) (blockFollows (s .flight) k (passesFrom plan place))) ≡ true → Kept (cond x (afterBatch p (batchFrom plan place)) (cond y (afterStrip s p (jobFrom plan place)) p))
+        → cond x (batchFollows (s .mosaic) (p .before) (batchFrom plan place))
+        (cond y (jobFollows (s .sorting) (p .desks) (jobFrom plan place)) (blockFollows (s .flight) k (passesFrom plan place)))
+        ≡ true
+        → Kept (cond x (afterBatch p (batchFrom plan place)) (cond y (afterStrip s p (jobFrom plan place)) p))
     by-section true y h =
         let f = batch-facts s p (batchFrom plan place) h in
-        batch-kept p (batchFrom plan place) (record { kept = kept; rises = omega (arith, f .0); most-last = omega (arith, f .1, sound .mosaic .most-strips); within = f .2 })
+        batch-kept p (batchFrom plan place)
+        (record { kept = kept; rises = omega (arith, f .0); most-last = omega (arith, f .1, sound .mosaic .most-strips); within = f .2 })
     by-section false true h =
         let f = job-facts s p (jobFrom plan place) h in
-        strip-kept s p (jobFrom plan place) kept (f .0) (omega (arith, f .1, sound .sorting .most-desks)) (f .2) (omega (arith, f .3, strips-within s (jobFrom plan place .desk) sound)) (f .4)
+        strip-kept s p (jobFrom plan place) kept (f .0) (omega (arith, f .1, sound .sorting .most-desks)) (f .2)
+        (omega (arith, f .3, strips-within s (jobFrom plan place .desk) sound)) (f .4)
     by-section false false h = kept
 
 pub begun-kept : Kept begun
@@ -365,7 +373,8 @@ module _ (s : Sheet) (plan : List ℕ) (section : ℕ) (part : Part) (p : Progre
   unfolding figureOf headFollows flightHead
   figure-flight r a h₁ h₂ t =
       let q = both _ _ (rw (ne-eqb _ _ h₁, ne-eqb _ _ h₂) at (a .follows)) in
-      t .is ∙ rw (ne-eqb _ _ h₁, ne-eqb _ _ h₂) (ap (λ n. flightFigure (s .flight) (blocksFrom plan (part .head + sizeOf flightHeadForm) n)) (sym (eqb-true _ _ (q .0))))
+      t .is
+      ∙ rw (ne-eqb _ _ h₁, ne-eqb _ _ h₂) (ap (λ n. flightFigure (s .flight) (blocksFrom plan (part .head + sizeOf flightHeadForm) n)) (sym (eqb-true _ _ (q .0))))
 
   module _ (x : Bool) (ex : x ≡ headFollows s plan section part p) where
     pub head-wrong : not x ≡ true → ruleBroken ≡ headNumber s plan section part p

@@ -9,7 +9,8 @@ use lib.Seq.{take-all, take-suc}
 use Rattle.field.specs.Bytes.{bytesOf}
 use Rattle.field.specs.Field.{fieldBytes}
 use Rattle.field.specs.Put.{put, put-whole, holding, put-one, put-more}
-use Rattle.plan_format.specs.Format.{Form, contentLength, sizeOf, widthOf, offsetOf, numbersBytes, formBytes, mosaicHeadForm, batchForm, sortingHeadForm, jobForm, flightHeadForm, passesForm, refusalForm}
+use Rattle.plan_format.specs.Format.{Form, contentLength, sizeOf, widthOf, offsetOf, numbersBytes, formBytes, mosaicHeadForm, batchForm, sortingHeadForm}
+use Rattle.plan_format.specs.Format.{jobForm, flightHeadForm, passesForm, refusalForm}
 use Rattle.plan_format.specs.FormLaws.{length-numbers, length-form}
 use Rattle.rules.specs.Plan.{batchBytes, jobBytes, passesBytes, refusalBytes}
 use Rattle.plan_fields.specs.Stored.{tagBytes, partBytes, stripBytes, batch, job, passes}

@@ -62,7 +62,8 @@ module _ {A : Type 0} (bytes : A → List ℕ) (member : ℕ → A) where
         within = omega arith;
         long = ap length e ∙ length-put d (at + size * i) (bytes (member i)) ∙ s .long;
         stored =
-            joined d₀ d d₁ at (at + size * i) (membersTo bytes member i) (bytes (member i)) (s .stored) e (omega (arith, length-members bytes size each member i))
+            joined d₀ d d₁ at (at + size * i) (membersTo bytes member i) (bytes (member i)) (s .stored) e
+            (omega (arith, length-members bytes size each member i))
             ∙ ap (put d₀ at) (members-next i);
       }
 

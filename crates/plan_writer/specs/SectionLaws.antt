@@ -80,21 +80,24 @@ module _ (d d₁ d₂ : List ℕ) (at n : ℕ) where
       → Written d d₂ at (ifPresent n (mosaicBytes (p .figure) (batchesOf p))) (at + sizeOf mosaicHeadForm + sizeOf batchForm * p .batches)
   unfolding mosaicBytes
   mosaic-written p h e₁ e₂ =
-      section d d₁ d₂ at n (sizeOf mosaicHeadForm) (sizeOf batchForm * p .batches) (formBytes mosaicHeadForm (p .figure ∷ [])) (membersBytes batchBytes (batchesOf p)) h (length-form mosaicHeadForm (p .figure ∷ []) refl) (batches-long p) e₁ e₂
+      section d d₁ d₂ at n (sizeOf mosaicHeadForm) (sizeOf batchForm * p .batches) (formBytes mosaicHeadForm (p .figure ∷ []))
+      (membersBytes batchBytes (batchesOf p)) h (length-form mosaicHeadForm (p .figure ∷ []) refl) (batches-long p) e₁ e₂
 
   pub sorting-written : (p : SortingPlan) → 1 ≤ n → d₁ ≡ put d at (formBytes sortingHeadForm (p .figure ∷ []))
       → d₂ ≡ put d₁ (at + sizeOf sortingHeadForm) (membersBytes jobBytes (jobsOfPlan p))
       → Written d d₂ at (ifPresent n (sortingBytes (p .figure) (jobsOfPlan p))) (at + sizeOf sortingHeadForm + sizeOf jobForm * p .jobs)
   unfolding sortingBytes
   sorting-written p h e₁ e₂ =
-      section d d₁ d₂ at n (sizeOf sortingHeadForm) (sizeOf jobForm * p .jobs) (formBytes sortingHeadForm (p .figure ∷ [])) (membersBytes jobBytes (jobsOfPlan p)) h (length-form sortingHeadForm (p .figure ∷ []) refl) (jobs-long p) e₁ e₂
+      section d d₁ d₂ at n (sizeOf sortingHeadForm) (sizeOf jobForm * p .jobs) (formBytes sortingHeadForm (p .figure ∷ []))
+      (membersBytes jobBytes (jobsOfPlan p)) h (length-form sortingHeadForm (p .figure ∷ []) refl) (jobs-long p) e₁ e₂
 
   pub flight-written : (p : FlightPlan) → 1 ≤ n → d₁ ≡ put d at (formBytes flightHeadForm (p .figure ∷ p .order ∷ []))
       → d₂ ≡ put d₁ (at + sizeOf flightHeadForm) (membersBytes passesBytes (passesOfPlan n p))
       → Written d d₂ at (ifPresent n (flightBytes (p .figure) (p .order) (passesOfPlan n p))) (at + sizeOf flightHeadForm + sizeOf passesForm * n)
   unfolding flightBytes
   flight-written p h e₁ e₂ =
-      section d d₁ d₂ at n (sizeOf flightHeadForm) (sizeOf passesForm * n) (formBytes flightHeadForm (p .figure ∷ p .order ∷ [])) (membersBytes passesBytes (passesOfPlan n p)) h (length-form flightHeadForm (p .figure ∷ p .order ∷ []) refl) (blocks-long n p) e₁ e₂
+      section d d₁ d₂ at n (sizeOf flightHeadForm) (sizeOf passesForm * n) (formBytes flightHeadForm (p .figure ∷ p .order ∷ []))
+      (membersBytes passesBytes (passesOfPlan n p)) h (length-form flightHeadForm (p .figure ∷ p .order ∷ []) refl) (blocks-long n p) e₁ e₂
 
 -- How long a section is at most.
 present-long : (n most : ℕ) (bytes : List ℕ) → length bytes ≤ most → length (ifPresent n bytes) ≤ most
@@ -120,5 +123,6 @@ pub flight-long : (n : ℕ) (p : FlightPlan)
     → length (ifPresent n (flightBytes (p .figure) (p .order) (passesOfPlan n p))) ≤ sizeOf flightHeadForm + sizeOf passesForm * n
 unfolding flightBytes
 flight-long n p =
-    present-long n (sizeOf flightHeadForm + sizeOf passesForm * n) (formBytes flightHeadForm (p .figure ∷ p .order ∷ []) ++ membersBytes passesBytes (passesOfPlan n p))
+    present-long n (sizeOf flightHeadForm + sizeOf passesForm * n)
+    (formBytes flightHeadForm (p .figure ∷ p .order ∷ []) ++ membersBytes passesBytes (passesOfPlan n p))
     (omega (arith, length-append (formBytes flightHeadForm (p .figure ∷ p .order ∷ [])) (membersBytes passesBytes (passesOfPlan n p)), length-form flightHeadForm (p .figure ∷ p .order ∷ []) refl, blocks-long n p))

@@ -1,5 +1,6 @@
 -- A test of the rules by samples: timetables with idle time that are lawful, with their figures, and timetables that a rule refuses, one for each rule.
--- Each is tested by computing, and a test that holds says the sample in the words of the rules (tested). The sheets that 01 works through are crate worked_sheets.
+-- Each is tested by computing, and a test that holds says the sample in the words of the rules (tested). The sheets that 01 works through are crate
+-- worked_sheets.
 use Prim.{Unit, tt}
 use Prim.Native.Nat.{ℕ, _-_}
 use mathlib.Core.Path.{_≡_, refl, sym}
@@ -17,7 +18,8 @@ use Rattle.rules.specs.Mosaic.{ready, MosaicLawful, mosaicFigure}
 use Rattle.rules.specs.Sorting.{SortingLawful, sortingFigure}
 use Rattle.rules.specs.Flight.{FlightLawful, Keeps, OrderAllowed, flightFigure}
 use Rattle.rules.proofs.Computes.{rulesCompute}
-use Rattle.rules.proofs.Tests.{isMosaic, mosaic-decided, isSorting, sorting-decided, isFlight, flight-decided, keepsOrder, keeps-decided, mayHaveOrder, order-decided}
+use Rattle.rules.proofs.Tests.{isMosaic, mosaic-decided, isSorting, sorting-decided, isFlight, flight-decided, keepsOrder, keeps-decided, mayHaveOrder}
+use Rattle.rules.proofs.Tests.{order-decided}
 use Rattle.rules.specs.declared.Batch.{Batch}
 use Rattle.rules.specs.declared.Job.{Job}
 use Rattle.rules.specs.declared.Passes.{Passes}

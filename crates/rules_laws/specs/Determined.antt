@@ -66,7 +66,8 @@ module _ (s : Sheet) (sound : SheetSound s) where
   -- how each section of a lawful plan is read from its bytes
   module _ (p : Plan) (L : PlanLawful s p) where
     pub plan-length : length (planBytes s p) ≡ length (mosaicOf s p) + length (sortingOf s p) + length (flightOf s p)
-    plan-length = omega (arith, ap length (plan-is s p), length-append (mosaicOf s p ++ sortingOf s p) (flightOf s p), length-append (mosaicOf s p) (sortingOf s p))
+    plan-length =
+        omega (arith, ap length (plan-is s p), length-append (mosaicOf s p ++ sortingOf s p) (flightOf s p), length-append (mosaicOf s p) (sortingOf s p))
 
     -- a lawful plan has room in a buffer of 1,095 bytes
     pub plan-most : length (planBytes s p) ≤ planLength
@@ -104,7 +105,9 @@ module _ (s : Sheet) (sound : SheetSound s) where
         (length-flight (flightFigure (s .flight) (p .passes)) (p .order) (p .passes) ∙ ap (λ (k : ℕ). sizeOf flightHeadForm + sizeOf passesForm * k) (L .flight .every-block))
 
     pub mosaic-size : 0 < s .mosaic .strips → length (mosaicOf s p) ≡ sizeOf mosaicHeadForm + sizeOf batchForm * length (p .batches)
-    mosaic-size h = ap length (present-some (s .mosaic .strips) (mosaicBytes (mosaicFigure (s .mosaic) (p .batches)) (p .batches)) h) ∙ length-mosaic (mosaicFigure (s .mosaic) (p .batches)) (p .batches)
+    mosaic-size h =
+        ap length (present-some (s .mosaic .strips) (mosaicBytes (mosaicFigure (s .mosaic) (p .batches)) (p .batches)) h)
+        ∙ length-mosaic (mosaicFigure (s .mosaic) (p .batches)) (p .batches)
 
     pub batches-read : 0 < s .mosaic .strips → batchesFrom (planBytes s p) (sizeOf mosaicHeadForm) (length (p .batches)) ≡ p .batches
     batches-read h =

@@ -45,7 +45,8 @@ module _ {A : Type 0} (kind : Kind A) where
   member-found : (pre : List ℕ) (x : A) (post : List ℕ)
       → fieldAt (pre ++ (kind .bytes x ++ post)) (length pre) ≡ Whole (kind .form .tag) (contentLength (kind .form))
   member-found pre x post =
-      ap (λ (l : List ℕ). fieldAt (pre ++ (l ++ post)) (length pre)) (kind .is-written x) ∙ form-found (kind .form) (kind .values x) pre post (kind .count x) (kind .small)
+      ap (λ (l : List ℕ). fieldAt (pre ++ (l ++ post)) (length pre)) (kind .is-written x)
+      ∙ form-found (kind .form) (kind .values x) pre post (kind .count x) (kind .small)
 
   member-stands : (s : List ℕ) → AreBytes s → (at : ℕ) → fieldAt s at ≡ Whole (kind .form .tag) (contentLength (kind .form))
       → take (sizeOf (kind .form)) (drop at s) ≡ kind .bytes (kind .read s at)
@@ -91,7 +92,8 @@ module _ {A : Type 0} (kind : Kind A) where
       let here : length pre + sizeOf (kind .form) * 0 ≡ length pre = omega arith in
       ap₂ fieldAt (first-apart pre x (membersBytes (kind .bytes) xs) post) here ∙ member-found pre x (membersBytes (kind .bytes) xs ++ post)
   found-from (x ∷ xs) pre post (suc i) l =
-      let there : length pre + sizeOf (kind .form) * suc i ≡ length (pre ++ kind .bytes x) + sizeOf (kind .form) * i = omega (arith, next-place pre x, mul-suc (sizeOf (kind .form)) i) in
+      let there : length pre + sizeOf (kind .form) * suc i ≡ length (pre ++ kind .bytes x) + sizeOf (kind .form) * i
+      = omega (arith, next-place pre x, mul-suc (sizeOf (kind .form)) i) in
       ap₂ fieldAt (regroup pre x (membersBytes (kind .bytes) xs) post) there ∙ found-from xs (pre ++ kind .bytes x) post i (omega arith)
 
   -- the same of a row that is joined from the left

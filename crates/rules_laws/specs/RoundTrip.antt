@@ -8,13 +8,15 @@ use lib.ListN.{length, getD, take, drop}
 use Rattle.field.specs.Field.{fieldAt}
 use Rattle.field.specs.declared.Field.the-variants.{Whole}
 use Rattle.plan_format.specs.ByteLaws.{AreBytes}
-use Rattle.plan_format.specs.Format.{Form, contentLength, sizeOf, formBytes, valuesFrom, EachFits, mosaicHeadForm, batchForm, sortingHeadForm, jobForm, flightHeadForm, passesForm}
+use Rattle.plan_format.specs.Format.{Form, contentLength, sizeOf, formBytes, valuesFrom, EachFits, mosaicHeadForm, batchForm, sortingHeadForm, jobForm}
+use Rattle.plan_format.specs.Format.{flightHeadForm, passesForm}
 use Rattle.plan_format.specs.FormLaws.{form-back, form-stands}
 use Rattle.rules.specs.Plan.{batchValues, batchBytes, jobValues, jobBytes, passesValues, passesBytes}
 use Rattle.rules.specs.declared.Batch.{Batch}
 use Rattle.rules.specs.declared.Job.{Job}
 use Rattle.rules.specs.declared.Passes.{Passes}
-use Rattle.plan_read.specs.PlanRead.{figureFrom, orderFrom, batchOfValues, batchFrom, jobOfValues, jobFrom, passesOfValues, passesFrom, BatchFits, JobFits, PassesFits}
+use Rattle.plan_read.specs.PlanRead.{figureFrom, orderFrom, batchOfValues, batchFrom, jobOfValues, jobFrom, passesOfValues, passesFrom, BatchFits, JobFits}
+use Rattle.plan_read.specs.PlanRead.{PassesFits}
 use Rattle.plan_read.specs.Laws.{batch-each, job-each, passes-each}
 use Rattle.rules_laws.specs.Members.{Kind}
 

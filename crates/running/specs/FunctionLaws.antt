@@ -93,7 +93,8 @@ sum-all f n i sum s h = s .is ∙ ap (λ k. sumOver k f) all
     all = let w = s .within in omega arith
 
 module _ (m : MosaicSection) (k j : ℕ) (a : StationPre m k j) where
-  pub station-more : (i sum : ℕ) → Summed (λ i. getD (m .station) (4 * i + k) 0) mostTime j i sum → i < j → Summed (λ i. getD (m .station) (4 * i + k) 0) mostTime j (i + 1) (sum + getD (m .station) (4 * i + k) 0)
+  pub station-more : (i sum : ℕ) → Summed (λ i. getD (m .station) (4 * i + k) 0) mostTime j i sum → i < j
+      → Summed (λ i. getD (m .station) (4 * i + k) 0) mostTime j (i + 1) (sum + getD (m .station) (4 * i + k) 0)
   station-more i sum s h = sum-more (λ i. getD (m .station) (4 * i + k) 0) j i sum _ s h refl (a .sound .most-station (4 * i + k))
 
   pub station-fits : (i sum : ℕ) → Summed (λ i. getD (m .station) (4 * i + k) 0) mostTime j i sum → i < j → sum + getD (m .station) (4 * i + k) 0 < 2 ^ 64
@@ -108,7 +109,8 @@ module _ (m : MosaicSection) (k j : ℕ) (a : StationPre m k j) where
       record { is = sum-all (λ i. getD (m .station) (4 * i + k) 0) j i sum s h; fits = omega arith }
 
 module _ (m : MosaicSection) (i count : ℕ) (a : BenchPre m i count) where
-  pub bench-more : (k sum : ℕ) → Summed (λ k. getD (m .bench) (i + k) 0) mostTime count k sum → k < count → Summed (λ k. getD (m .bench) (i + k) 0) mostTime count (k + 1) (sum + getD (m .bench) (i + k) 0)
+  pub bench-more : (k sum : ℕ) → Summed (λ k. getD (m .bench) (i + k) 0) mostTime count k sum → k < count
+      → Summed (λ k. getD (m .bench) (i + k) 0) mostTime count (k + 1) (sum + getD (m .bench) (i + k) 0)
   bench-more k sum s h = sum-more (λ k. getD (m .bench) (i + k) 0) count k sum _ s h refl (a .sound .most-bench (i + k))
 
   pub bench-fits : (k sum : ℕ) → Summed (λ k. getD (m .bench) (i + k) 0) mostTime count k sum → k < count → sum + getD (m .bench) (i + k) 0 < 2 ^ 64
@@ -153,7 +155,8 @@ module _ (m : MosaicSection) (j : ℕ) where
   unfolding greatestOver
   greatest-none = record { within = omega arith; is = refl; fits = omega arith }
 
-  pub greatest-more : (k value next sum : ℕ) → Greatest m j k value → k < m .stations → SumTold (stationSum m k j) sum → next ≡ max value sum → Greatest m j (k + 1) next
+  pub greatest-more : (k value next sum : ℕ) → Greatest m j k value → k < m .stations → SumTold (stationSum m k j) sum → next ≡ max value sum
+      → Greatest m j (k + 1) next
   greatest-more k value next sum g h t e =
       let b = g .fits in
       let l = t .fits in

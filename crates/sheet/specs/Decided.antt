@@ -23,7 +23,8 @@ use Rattle.sheet.specs.FieldTable.{lengthDue, Value, valuesOf, OutOfRang
 use Rattle.sheet.specs.Rows.{firstFailure}
 use Rattle.sheet.specs.RowLaws.{Gives, Answers, gives-check, answers-none, answers-behind, answers-row, neither}
 use Rattle.sheet.specs.Causes.{FieldCut, EndsSection, NoMembers, ManyBlocks, OrderMissing, Permitted, TooMany, OrderNotProper, cutRow, fieldRows, endRows}
-use Rattle.sheet.specs.Checks.{endsSection, sectionFilled, fewBlocks, orderGiven, orderPermitted, permitted, valueNumber, valueNumbers, rangeNumber, hasRoom, orderProper}
+use Rattle.sheet.specs.Checks.{endsSection, sectionFilled, fewBlocks, orderGiven, orderPermitted, permitted, valueNumber, valueNumbers, rangeNumber}
+use Rattle.sheet.specs.Checks.{hasRoom, orderProper}
 use Rattle.sheet.specs.Read.{contentChecks, fieldChecks, fieldNumber, endChecks, endNumber, placeOf}
 use Rattle.sheet.specs.declared.Reading.{Reading}
 

@@ -13,25 +13,31 @@ use Rattle.sheet.specs.Computes.{sheetComputes}
 use Rattle.sheet.specs.declared.Sheet.{Sheet}
 use Rattle.rules.specs.Plan.{Plan, planBytes, PlanLawful}
 use Rattle.rules.proofs.Computes.{rulesCompute}
-use Rattle.rules.proofs.Tests.{isMosaic, mosaic-decided, isSorting, sorting-decided, isFlight, flight-decided, keepsOrder, keeps-decided, mayHaveOrder, order-decided}
+use Rattle.rules.proofs.Tests.{isMosaic, mosaic-decided, isSorting, sorting-decided, isFlight, flight-decided, keepsOrder, keeps-decided, mayHaveOrder}
+use Rattle.rules.proofs.Tests.{order-decided}
 use Rattle.planner.specs.Call.{chosenPlan, answer, answerOf, plannedBytes}
 use Rattle.planner.specs.Computes.{plannerComputes}
 use Rattle.planner.specs.Theorems.{Least, impossible-exactly, plan-lawful, plan-least-mosaic, plan-least-sorting, plan-least-flight}
 use Rattle.flight.specs.Choice.{isPossible}
-use Rattle.worked_sheets.specs.Table.{Figures, figuresOf, Claim, IsAllowed, NoneBelow, Says, Row, table, readyTimes, All, FirstCase, ready-at, planned, best, allowed, impossible}
+use Rattle.worked_sheets.specs.Table.{Figures, figuresOf, Claim, IsAllowed, NoneBelow, Says, Row, table, readyTimes, All, FirstCase, ready-at, planned}
+use Rattle.worked_sheets.specs.Table.{best, allowed, impossible}
 
 -- What is computed of a row.
 isPlan : Sheet → Plan → Bool
-isPlan s p = isMosaic (s .mosaic) (p .batches) && (isSorting (s .sorting) (p .jobs) && (isFlight (s .flight) (p .passes) && (keepsOrder (s .flight) (p .order) (p .passes) && mayHaveOrder (s .flight) (p .order))))
+isPlan s p =
+    isMosaic (s .mosaic) (p .batches) &&
+    (isSorting (s .sorting) (p .jobs) && (isFlight (s .flight) (p .passes) && (keepsOrder (s .flight) (p .order) (p .passes) && mayHaveOrder (s .flight) (p .order))))
 
 abbrev Computed : List ℕ → Claim → Type 0
 Computed sheet (ready-at times) = Says sheet (ready-at times)
 Computed sheet (planned p figures) =
     (isPossible (readSheet sheet .flight) ≡ true) × (chosenPlan (readSheet sheet) ≡ p) × (figuresOf (readSheet sheet) p ≡ figures)
     × (answerOf sheet planLength tableLength ≡ answer 0 0 (length (planBytes (readSheet sheet) p))) × (plannedBytes sheet planLength tableLength ≡ planBytes (readSheet sheet) p) × (readSheet sheet .number ≡ 0)
-Computed sheet (best p figures) = (isPlan (readSheet sheet) p ≡ true) × (figuresOf (readSheet sheet) p ≡ figures) × (figuresOf (readSheet sheet) (chosenPlan (readSheet sheet)) ≡ figures) × (readSheet sheet .number ≡ 0)
+Computed sheet (best p figures) =
+    (isPlan (readSheet sheet) p ≡ true) × (figuresOf (readSheet sheet) p ≡ figures) × (figuresOf (readSheet sheet) (chosenPlan (readSheet sheet)) ≡ figures) × (readSheet sheet .number ≡ 0)
 Computed sheet (allowed p figures) = (isPlan (readSheet sheet) p ≡ true) × (figuresOf (readSheet sheet) p ≡ figures) × (readSheet sheet .number ≡ 0)
-Computed sheet (impossible place) = (answerOf sheet planLength tableLength ≡ answer orderImpossible place 0) × (isPossible (readSheet sheet .flight) ≡ false) × (readSheet sheet .number ≡ 0)
+Computed sheet (impossible place) =
+    (answerOf sheet planLength tableLength ≡ answer orderImpossible place 0) × (isPossible (readSheet sheet .flight) ≡ false) × (readSheet sheet .number ≡ 0)
 
 plan-true : (s : Sheet) (p : Plan) → isPlan s p ≡ true → PlanLawful s p
 unfolding isPlan
@@ -48,7 +54,8 @@ plan-true s p e =
       order = order-decided (s .flight) (p .order) .holds (k .1);
     }
 
-is-allowed : (sheet : List ℕ) (p : Plan) (figures : Figures) → isPlan (readSheet sheet) p ≡ true → figuresOf (readSheet sheet) p ≡ figures → readSheet sheet .number ≡ 0 → IsAllowed sheet p figures
+is-allowed : (sheet : List ℕ) (p : Plan) (figures : Figures) → isPlan (readSheet sheet) p ≡ true → figuresOf (readSheet sheet) p ≡ figures
+    → readSheet sheet .number ≡ 0 → IsAllowed sheet p figures
 is-allowed sheet p figures e f z =
     record { allows = record { sound = z; allowed = record { plan = p; lawful = plan-true (readSheet sheet) p e; layout = refl } }; has = f }
 
@@ -60,13 +67,19 @@ none-below sheet figures e = subst (NoneBelow sheet) e (record {
   flight = λ q a. plan-least-flight sheet (a .sound) (a .allowed .plan) (a .allowed .lawful);
 })
 
-ours-allowed : (sheet : List ℕ) (p : Plan) (figures : Figures) → isPossible (readSheet sheet .flight) ≡ true → chosenPlan (readSheet sheet) ≡ p → figuresOf (readSheet sheet) p ≡ figures → readSheet sheet .number ≡ 0 → IsAllowed sheet p figures
+ours-allowed : (sheet : List ℕ) (p : Plan) (figures : Figures) → isPossible (readSheet sheet .flight) ≡ true → chosenPlan (readSheet sheet) ≡ p
+    → figuresOf (readSheet sheet) p ≡ figures → readSheet sheet .number ≡ 0 → IsAllowed sheet p figures
 ours-allowed sheet p figures e c f z =
-    record { allows = record { sound = z; allowed = record { plan = p; lawful = subst (PlanLawful (readSheet sheet)) c (plan-lawful sheet z e); layout = refl } }; has = f }
+    record {
+      allows = record
+          { sound = z; allowed = record { plan = p; lawful = subst (PlanLawful (readSheet sheet)) c (plan-lawful sheet z e); layout = refl } };
+      has = f;
+    }
 
 says : (sheet : List ℕ) (c : Claim) → Computed sheet c → Says sheet c
 says sheet (ready-at times) c = c
-says sheet (planned p figures) c = (ours-allowed sheet p figures (c .0) (c .1) (c .2) (c .5), none-below sheet figures (ap (figuresOf (readSheet sheet)) (c .1) ∙ c .2), c .3, c .4)
+says sheet (planned p figures) c =
+    (ours-allowed sheet p figures (c .0) (c .1) (c .2) (c .5), none-below sheet figures (ap (figuresOf (readSheet sheet)) (c .1) ∙ c .2), c .3, c .4)
 says sheet (best p figures) c = (is-allowed sheet p figures (c .0) (c .1) (c .3), none-below sheet figures (c .2))
 says sheet (allowed p figures) c = is-allowed sheet p figures (c .0) (c .1) (c .2)
 says sheet (impossible place) c = (c .0, impossible-exactly sheet (c .2) .0 (c .1))
@@ -77,7 +90,46 @@ all-say (r ∷ rs) c = (says (r .sheet) (r .claim) (c .0), all-say rs (c .1))
 
 computed : All Computed table × FirstCase
 unfolding readyTimes isPlan figuresOf sheetComputes rulesCompute plannerComputes
-computed = ((refl, ((refl, refl, refl, refl, refl, refl), ((refl, refl, refl), ((refl, refl, refl), ((refl, refl, refl, refl, refl, refl), ((refl, refl, refl), ((refl, refl, refl, refl, refl, refl), ((refl, refl, refl, refl), ((refl, refl, refl, refl, refl, refl), ((refl, refl, refl, refl, refl, refl), ((refl, refl, refl), ((refl, refl, refl, refl, refl, refl), ((refl, refl, refl, refl, refl, refl), tt))))))))))))), (refl, refl))
+computed = (
+  (
+    refl,
+    (
+      (refl, refl, refl, refl, refl, refl),
+      (
+        (refl, refl, refl),
+        (
+          (refl, refl, refl),
+          (
+            (refl, refl, refl, refl, refl, refl),
+            (
+              (refl, refl, refl),
+              (
+                (refl, refl, refl, refl, refl, refl),
+                (
+                  (refl, refl, refl, refl),
+                  (
+                    (refl, refl, refl, refl, refl, refl),
+                    (
+                      (refl, refl, refl, refl, refl, refl),
+                      (
+                        (refl, refl, refl),
+                        (
+                          (refl, refl, refl, refl, refl, refl),
+                          ((refl, refl, refl, refl, refl, refl), tt),
+                        ),
+                      ),
+                    ),
+                  ),
+                ),
+              ),
+            ),
+          ),
+        ),
+      ),
+    ),
+  ),
+  (refl, refl),
+)
 
 -- What 01 says of the sheets that it works through.
 pub worked : All Says table

@@ -76,7 +76,8 @@ module _ {m : MosaicSection} (S : MosaicSound m) where
       }
 
     -- to close the open batch at strip q
-    close : Attains m q (finishOf (instanceOf m) free i q) (leastAt (instanceOf m) q (finishOf (instanceOf m) free i q)) (chosenAt (instanceOf m) q (finishOf (instanceOf m) free i q))
+    close : Attains m q (finishOf (instanceOf m) free i q) (leastAt (instanceOf m) q (finishOf (instanceOf m) free i q))
+        (chosenAt (instanceOf m) q (finishOf (instanceOf m) free i q))
         → Attains m i free (closedAt (instanceOf m) (benchStart (setupTime m) free (ready m q)) i q)
         (batchOf (instanceOf m) free i q ∷ chosenAt (instanceOf m) q (finishOf (instanceOf m) free i q))
     unfolding closedAt instanceOf finishOf
