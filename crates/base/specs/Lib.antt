@@ -3,3 +3,4 @@ pub mod Branch
 pub mod Sums
 pub mod SumLaws
 pub mod Listed
+pub mod Zeros

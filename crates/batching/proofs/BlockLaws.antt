@@ -6,7 +6,7 @@ use native.Mathlib.Nat.{mul-le-mul}
 use native.Mathlib.Omega.{arith}
 use lib.ListN.{length, getD, set, length-set}
 use lib.Seq.{getD-set-same, getD-set-other}
-use Rattle.batching.specs.Tables.{instanceIn, RowIs, RowPre, RowFilled, BlockPre}
+use Rattle.batching.specs.Tables.{instanceIn, RowIs, FillRowPre, RowFilled, FillBlockPre}
 use Rattle.batching.specs.Recursion.{least-end}
 
 -- the row from p on is done; `at` is its time
@@ -20,7 +20,7 @@ pub record BlockSoFar (rs sums row₀ row : List ℕ) (s n begin i lo p at : ℕ
   pub from : lo ≤ p
   pub to : p ≤ n
 
-module _ {rs sums late entry : List ℕ} {s n begin i lo : ℕ} (P : BlockPre rs sums late entry s n begin i lo) where
+module _ {rs sums late entry : List ℕ} {s n begin i lo : ℕ} (P : FillBlockPre rs sums late entry s n begin i lo) where
   mounts-most : (p : ℕ) → p ≤ n → (p - lo) * s ≤ 2 ^ 38
   mounts-most p h = omega (arith, mul-le-mul {n₁ = p - lo} {m₁ = s} {n₂ = 40} {m₂ = 2 ^ 32} (omega (arith, P .input .most-strips)) (P .input .most-mount))
 
@@ -55,7 +55,7 @@ module _ {rs sums late entry : List ℕ} {s n begin i lo : ℕ} (P : BlockPre rs
     pub block-sub : s ≤ at
     block-sub = omega (arith, mount, M .at-is)
 
-    pub block-row : RowPre rs sums late row s n (at - s) i (p - 1)
+    pub block-row : FillRowPre rs sums late row s n (at - s) i (p - 1)
     block-row =
         let e : at - s + s ≡ at = omega (arith, block-sub) in
         let f : p - 1 + 1 ≡ p = omega arith in record {

@@ -8,7 +8,7 @@ use native.Mathlib.Omega.{arith}
 use lib.ListN.{getD}
 use Rattle.batching.specs.Least.{benchStart}
 use Rattle.batching.specs.Index.{leastAt, openAt, closedAt}
-use Rattle.batching.specs.Tables.{width, instanceIn, InTime, FromPre, CandidatePre}
+use Rattle.batching.specs.Tables.{width, instanceIn, InTime, ChooseBatchPre, CandidatePre}
 use Rattle.batching.specs.Recursion.{least-open, open-last, open-more}
 use Rattle.batching.specs.Bounds.{least-most}
 
@@ -50,11 +50,12 @@ pub record LeastSoFar (rs sums : List ℕ) (s n free i q least : ℕ) : Type 0 w
   pub to : q ≤ n
   pub least-is : least ≡ openAt (instanceIn rs sums s n) i q free
 
-module _ {rs sums late row : List ℕ} {s n free i : ℕ} (P : FromPre rs sums late row s n free i) where
+module _ {rs sums late row : List ℕ} {s n free i : ℕ} (P : ChooseBatchPre rs sums late row s n free i) where
   pub from-candidate : {q : ℕ} → i < q → q ≤ n → CandidatePre rs sums late row s n free i q
   from-candidate h k = record { from = P; first = h; last = k }
 
-  pub least-start : {figure : ℕ} → figure ≡ closedAt (instanceIn rs sums s n) (benchStart s free (getD rs (n - 1) 0)) i n → LeastSoFar rs sums s n free i n figure
+  pub least-start : {figure : ℕ} → figure ≡ closedAt (instanceIn rs sums s n) (benchStart s free (getD rs (n - 1) 0)) i n
+      → LeastSoFar rs sums s n free i n figure
   least-start e = record { from = P .inside; to = omega arith; least-is = e ∙ sym (open-last (instanceIn rs sums s n) i n free refl) }
 
   module _ {q least : ℕ} (M : LeastSoFar rs sums s n free i q least) (h : i + 1 < q) where

@@ -7,7 +7,7 @@ use lib.ListN.{getD}
 use Rattle.batching.specs.Least.{benchStart, finishOf}
 use Rattle.batching.specs.Chosen.{batchOf}
 use Rattle.batching.specs.Index.{closedAt, chosenAt, chosenOpenAt}
-use Rattle.batching.specs.Tables.{instanceIn, FromPre, First}
+use Rattle.batching.specs.Tables.{instanceIn, ChooseBatchPre, First}
 use Rattle.batching.specs.Recursion.{chosen-open, chosen-last, chosen-close, chosen-extend}
 use Rattle.batching.proofs.CandidateLaws.{LeastSoFar, least-start, least-less, least-more, least-end-is}
 
@@ -20,8 +20,9 @@ pub record TakenSoFar (rs sums : List ℕ) (s n free i q taken least : ℕ) : Ty
   pub batches : chosenOpenAt (instanceIn rs sums s n) i q free
       ≡ batchOf (instanceIn rs sums s n) free i taken ∷ chosenAt (instanceIn rs sums s n) taken (finishOf (instanceIn rs sums s n) free i taken)
 
-module _ {rs sums late row : List ℕ} {s n free i : ℕ} (P : FromPre rs sums late row s n free i) where
-  pub taken-start : {figure : ℕ} → figure ≡ closedAt (instanceIn rs sums s n) (benchStart s free (getD rs (n - 1) 0)) i n → TakenSoFar rs sums s n free i n n figure
+module _ {rs sums late row : List ℕ} {s n free i : ℕ} (P : ChooseBatchPre rs sums late row s n free i) where
+  pub taken-start : {figure : ℕ} → figure ≡ closedAt (instanceIn rs sums s n) (benchStart s free (getD rs (n - 1) 0)) i n
+      → TakenSoFar rs sums s n free i n n figure
   taken-start e = record {
     so-far = least-start P e;
     first = P .inside;

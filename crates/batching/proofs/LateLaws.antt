@@ -9,7 +9,7 @@ use native.Mathlib.Omega.{arith}
 use lib.ListN.{length, getD, set, length-set}
 use lib.Seq.{getD-set-same, getD-set-other}
 use Rattle.batching.specs.Index.{lateStart, leastAt, closedAt}
-use Rattle.batching.specs.Tables.{width, instanceIn, RowFilled, LateFrom, BlockPre, AfterPre, LateAfter, LatePre, LateFilled}
+use Rattle.batching.specs.Tables.{width, instanceIn, RowFilled, LateFrom, FillBlockPre, FillLateAfterPre, LateAfter, FillLatePre, LateFilled}
 use Rattle.batching.specs.Recursion.{late-max}
 use Rattle.batching.specs.Bounds.{least-most}
 
@@ -22,7 +22,7 @@ pub record LateSoFar (rs sums late₀ row₀ late row : List ℕ) (s n i q : ℕ
   pub late-len : length late ≡ length late₀
   pub row-len : length row ≡ length row₀
 
-module _ {rs sums late₀ row₀ : List ℕ} {s n i : ℕ} (P : AfterPre rs sums late₀ row₀ s n i) where
+module _ {rs sums late₀ row₀ : List ℕ} {s n i : ℕ} (P : FillLateAfterPre rs sums late₀ row₀ s n i) where
   pub after-start : LateSoFar rs sums late₀ row₀ late₀ row₀ s n i i
   after-start = record {
     kept = λ k h. refl;
@@ -48,7 +48,7 @@ module _ {rs sums late₀ row₀ : List ℕ} {s n i : ℕ} (P : AfterPre rs sums
       later-at : (j p : ℕ) → i < j → j < p → p ≤ n → getD late (width * j + p) 0 ≡ closedAt (instanceIn rs sums s n) (lateStart s (getD rs (p - 1) 0)) j p
       later-at j p g k l = M .kept (width * j + p) (λ r a b e. omega (arith, P .input .most-strips)) ∙ P .later .at j p (omega arith) k l
 
-      pub after-block : BlockPre rs sums late row s n begin i (q + 1)
+      pub after-block : FillBlockPre rs sums late row s n begin i (q + 1)
       after-block = record {
         input = P .input;
         later = record { at = λ j p g k l. later-at j p (omega (arith, M .from)) k l };
@@ -109,7 +109,7 @@ pub record AllSoFar (rs sums late₀ late row : List ℕ) (s n i : ℕ) : Type 0
   pub late-len : length late ≡ length late₀
   pub row-len : length row ≡ width
 
-module _ {rs sums late₀ : List ℕ} {s n : ℕ} (P : LatePre rs sums late₀ s n) where
+module _ {rs sums late₀ : List ℕ} {s n : ℕ} (P : FillLatePre rs sums late₀ s n) where
   pub all-start : {row : List ℕ} → length row ≡ width → AllSoFar rs sums late₀ late₀ row s n n
   all-start l = record {
     later = record { at = λ i q g k l. absurd (omega arith) };
@@ -120,7 +120,7 @@ module _ {rs sums late₀ : List ℕ} {s n : ℕ} (P : LatePre rs sums late₀ s
   }
 
   module _ {late row : List ℕ} {i : ℕ} (M : AllSoFar rs sums late₀ late row s n i) (h : 0 < i) where
-    pub all-after : AfterPre rs sums late row s n (i - 1)
+    pub all-after : FillLateAfterPre rs sums late row s n (i - 1)
     all-after =
         let e : i - 1 + 1 ≡ i = omega arith in record {
           input = P .input;

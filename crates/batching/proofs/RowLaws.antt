@@ -7,7 +7,7 @@ use native.Mathlib.Omega.{arith}
 use lib.ListN.{length, getD, set, length-set}
 use lib.Seq.{getD-set-same, getD-set-other}
 use Rattle.batching.specs.Index.{leastAt}
-use Rattle.batching.specs.Tables.{instanceIn, FromPre, First, RowPre, RowFilled}
+use Rattle.batching.specs.Tables.{instanceIn, ChooseBatchPre, First, FillRowPre, RowFilled}
 use Rattle.batching.specs.Recursion.{least-end}
 
 -- the entries lo .. p - 1 are done, those from p on are as they were
@@ -19,7 +19,7 @@ pub record RowSoFar (rs sums row₀ row : List ℕ) (s n begin i lo p : ℕ) : T
   pub below : (k : ℕ) → k < lo → getD row k 0 ≡ getD row₀ k 0
   pub above : (k : ℕ) → p ≤ k → getD row k 0 ≡ getD row₀ k 0
 
-module _ {rs sums late row₀ : List ℕ} {s n begin i lo : ℕ} (P : RowPre rs sums late row₀ s n begin i lo) where
+module _ {rs sums late row₀ : List ℕ} {s n begin i lo : ℕ} (P : FillRowPre rs sums late row₀ s n begin i lo) where
   pub row-start : RowSoFar rs sums row₀ row₀ s n begin i lo lo
   row-start = record {
     from = omega arith;
@@ -40,10 +40,11 @@ module _ {rs sums late row₀ : List ℕ} {s n begin i lo : ℕ} (P : RowPre rs 
     pub row-free : begin + (getD sums p 0 - getD sums i 0) < 2 ^ 64
     row-free = omega (arith, free-most)
 
-    later-free : (k : ℕ) → p < k → k ≤ n → begin + s + (getD sums k 0 - getD sums i 0) ≡ begin + (getD sums p 0 - getD sums i 0) + s + (getD sums k 0 - getD sums p 0)
+    later-free : (k : ℕ) → p < k → k ≤ n
+        → begin + s + (getD sums k 0 - getD sums i 0) ≡ begin + (getD sums p 0 - getD sums i 0) + s + (getD sums k 0 - getD sums p 0)
     later-free k l e = omega (arith, row-sub, P .input .rise p k (omega arith) e)
 
-    pub row-from : FromPre rs sums late row s n (begin + (getD sums p 0 - getD sums i 0)) p
+    pub row-from : ChooseBatchPre rs sums late row s n (begin + (getD sums p 0 - getD sums i 0)) p
     row-from = record {
       input = P .input;
       ahead = record {

@@ -1,8 +1,10 @@
--- The least figure of all batchings, by recursion: at each strip the open batch is closed or extended.
+-- The least figure of all batchings, by recursion: at each strip the open batch is closed or extended (in the literature: batching on one machine with a
+-- setup time for each batch and release dates, for the least sum of weighted completion times).
 -- Strips are numbered from 1. A batch is the strips after strip i, up to and with strip q.
 use Prim.Native.Nat.{ℕ, zero, suc, _+_, _*_, min, max}
 
--- what the recursion reads: the number of strips, the mount time, when strip q is ready, the bench times and the weights of the strips after i up to q
+-- what the recursion reads: the number of strips, the mount time (in the literature: setup time), when strip q is ready (release date), the bench times
+-- and the weights of the strips after i up to q
 pub record Instance : Type 0 where
   pub strips : ℕ
   pub mount : ℕ

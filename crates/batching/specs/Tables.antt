@@ -49,7 +49,7 @@ pub record Ahead (rs sums late row : List ℕ) (s n free i : ℕ) : Type 0 where
   pub late-at : (q : ℕ) → i < q → q ≤ n → getD late (width * i + q) 0 ≡ closedAt (instanceIn rs sums s n) (lateStart s (getD rs (q - 1) 0)) i q
 
 -- what `choose_batch` asks
-pub record FromPre (rs sums late row : List ℕ) (s n free i : ℕ) : Type 0 where
+pub record ChooseBatchPre (rs sums late row : List ℕ) (s n free i : ℕ) : Type 0 where
   pub input : Input rs sums s n
   pub ahead : Ahead rs sums late row s n free i
   pub late-long : lateLength ≤ length late
@@ -59,7 +59,7 @@ pub record FromPre (rs sums late row : List ℕ) (s n free i : ℕ) : Type 0 whe
 
 -- what `candidate` asks
 pub record CandidatePre (rs sums late row : List ℕ) (s n free i q : ℕ) : Type 0 where
-  pub from : FromPre rs sums late row s n free i
+  pub from : ChooseBatchPre rs sums late row s n free i
   pub first : i < q
   pub last : q ≤ n
 
@@ -72,7 +72,7 @@ pub record LateFrom (rs sums late : List ℕ) (s n lo : ℕ) : Type 0 where
   pub at : (i q : ℕ) → lo ≤ i → i < q → q ≤ n → getD late (width * i + q) 0 ≡ closedAt (instanceIn rs sums s n) (lateStart s (getD rs (q - 1) 0)) i q
 
 -- what `fill_row` asks
-pub record RowPre (rs sums late row : List ℕ) (s n begin i lo : ℕ) : Type 0 where
+pub record FillRowPre (rs sums late row : List ℕ) (s n begin i lo : ℕ) : Type 0 where
   pub input : Input rs sums s n
   pub later : LateFrom rs sums late s n lo
   pub next : RowIs rs sums row s n (begin + s) i (lo + 1)
@@ -90,7 +90,7 @@ pub record RowFilled (rs sums row₀ row₁ : List ℕ) (s n begin i lo : ℕ) :
   pub above : (p : ℕ) → n < p → getD row₁ p 0 ≡ getD row₀ p 0
 
 -- what `fill_block` asks
-pub record BlockPre (rs sums late row : List ℕ) (s n begin i lo : ℕ) : Type 0 where
+pub record FillBlockPre (rs sums late row : List ℕ) (s n begin i lo : ℕ) : Type 0 where
   pub input : Input rs sums s n
   pub later : LateFrom rs sums late s n lo
   pub late-long : lateLength ≤ length late
@@ -100,7 +100,7 @@ pub record BlockPre (rs sums late row : List ℕ) (s n begin i lo : ℕ) : Type 
   pub most-begin : begin ≤ 2 ^ 41
 
 -- what `fill_late_after` asks, and does: the entries of the batches of the strips after i are written, the others are as they were
-pub record AfterPre (rs sums late row : List ℕ) (s n i : ℕ) : Type 0 where
+pub record FillLateAfterPre (rs sums late row : List ℕ) (s n i : ℕ) : Type 0 where
   pub input : Input rs sums s n
   pub later : LateFrom rs sums late s n (i + 1)
   pub late-long : lateLength ≤ length late
@@ -112,7 +112,7 @@ pub record LateAfter (rs sums late₀ late₁ : List ℕ) (s n i : ℕ) : Type 0
   pub kept : (k : ℕ) → ((q : ℕ) → i < q → q ≤ n → k ≡ width * i + q → ⊥) → getD late₁ k 0 ≡ getD late₀ k 0
 
 -- what `fill_late` asks, and does: the entries of all batches are written, the others are as they were
-pub record LatePre (rs sums late : List ℕ) (s n : ℕ) : Type 0 where
+pub record FillLatePre (rs sums late : List ℕ) (s n : ℕ) : Type 0 where
   pub input : Input rs sums s n
   pub late-long : lateLength ≤ length late
 
@@ -122,7 +122,7 @@ pub record LateFilled (rs sums late₀ late₁ : List ℕ) (s n : ℕ) : Type 0 
   pub kept : (k : ℕ) → ((i q : ℕ) → i < q → q ≤ n → k ≡ width * i + q → ⊥) → getD late₁ k 0 ≡ getD late₀ k 0
 
 -- what `first_batch` asks
-pub record FirstPre (rs sums late : List ℕ) (s n free i : ℕ) : Type 0 where
+pub record FirstBatchPre (rs sums late : List ℕ) (s n free i : ℕ) : Type 0 where
   pub input : Input rs sums s n
   pub later : LateFrom rs sums late s n i
   pub late-long : lateLength ≤ length late

@@ -1,11 +1,12 @@
-// Batches of neighbouring strips at one bench: the tables of least figures. A block is a run of batches with no pause: its first batch waits for its last
+// Batches of neighbouring strips at one bench: the tables of least figures (in the literature: batching on one machine with a setup time for each batch,
+// release dates, and the sum of completion times). A block is a run of batches with no pause: its first batch waits for its last
 // strip, and none of the others waits. `row` holds the least figures after each strip for one block; `late` those that begin with a batch that waits.
 ghost use mathlib.Core.Path.{_≡_};
 ghost use Prim.Native.Nat.{_+_, _-_, _<_, _^_};
 ghost use lib.ListN.{getD};
 ghost use Rattle.batching.specs.Least.{benchStart};
 ghost use Rattle.batching.specs.Index.{lateStart, closedAt};
-ghost use Rattle.batching.specs.Tables.{instanceIn, InTime, CandidatePre, FromPre, First, RowPre, RowFilled, BlockPre, AfterPre, LateAfter, LatePre, LateFilled, FirstPre};
+ghost use Rattle.batching.specs.Tables.{instanceIn, InTime, CandidatePre, ChooseBatchPre, First, FillRowPre, RowFilled, FillBlockPre, FillLateAfterPre, LateAfter, FillLatePre, LateFilled, FirstBatchPre};
 
 // The entries of a row, for the strips from 0 to 40, and of `late`, which has a row for each strip from 0 to 39.
 const WIDTH: usize = 41;
@@ -68,7 +69,7 @@ fn choose_batch(
     free: u64,
     i: usize,
 ) -> Choice
-    requires { ⌜ FromPre (now rs) (now sums) (now late) (now row) s n free i ⌝ }
+    requires { ⌜ ChooseBatchPre (now rs) (now sums) (now late) (now row) s n free i ⌝ }
     ensures { λ choice. ⌜ First (now (rs .entry)) (now (sums .entry)) s n free i (choice .last) (choice .figure) ⌝ }
 {
     let mut q = n;
@@ -100,7 +101,7 @@ fn fill_row(
     i: usize,
     lo: usize,
 )
-    requires { ⌜ RowPre (now rs) (now sums) (now late) (now row) s n begin i lo ⌝ }
+    requires { ⌜ FillRowPre (now rs) (now sums) (now late) (now row) s n begin i lo ⌝ }
     ensures { λ _. ⌜ RowFilled (now (rs .entry)) (now (sums .entry)) (now (row .entry)) (now (row .exit)) s n begin i lo ⌝ }
 {
     let mut p = lo;
@@ -124,7 +125,7 @@ fn fill_block(
     i: usize,
     lo: usize,
 )
-    requires { ⌜ BlockPre (now rs) (now sums) (now late) (now row) s n begin i lo ⌝ }
+    requires { ⌜ FillBlockPre (now rs) (now sums) (now late) (now row) s n begin i lo ⌝ }
     ensures { λ _. ⌜ RowFilled (now (rs .entry)) (now (sums .entry)) (now (row .entry)) (now (row .exit)) s n begin i lo ⌝ }
 {
     let mut p = n;
@@ -147,7 +148,7 @@ fn fill_late_after(
     n: usize,
     i: usize,
 )
-    requires { ⌜ AfterPre (now rs) (now sums) (now late) (now row) s n i ⌝ }
+    requires { ⌜ FillLateAfterPre (now rs) (now sums) (now late) (now row) s n i ⌝ }
     ensures { λ _. ⌜ LateAfter (now (rs .entry)) (now (sums .entry)) (now (late .entry)) (now (late .exit)) s n i ⌝ }
 {
     let mut q = i;
@@ -163,7 +164,7 @@ fn fill_late_after(
 
 // The entries of `late` for all batches.
 pub fn fill_late(rs: &[u64], sums: &[u64], late: &mut [u64], s: u64, n: usize)
-    requires { ⌜ LatePre (now rs) (now sums) (now late) s n ⌝ }
+    requires { ⌜ FillLatePre (now rs) (now sums) (now late) s n ⌝ }
     ensures { λ _. ⌜ LateFilled (now (rs .entry)) (now (sums .entry)) (now (late .entry)) (now (late .exit)) s n ⌝ }
 {
     let mut row = [0u64; WIDTH];
@@ -184,7 +185,7 @@ pub fn first_batch(
     free: u64,
     i: usize,
 ) -> Choice
-    requires { ⌜ FirstPre (now rs) (now sums) (now late) s n free i ⌝ }
+    requires { ⌜ FirstBatchPre (now rs) (now sums) (now late) s n free i ⌝ }
     ensures { λ choice. ⌜ First (now (rs .entry)) (now (sums .entry)) s n free i (choice .last) (choice .figure) ⌝ }
 {
     let mut row = [0u64; WIDTH];

@@ -21,7 +21,7 @@ use Rattle.rules.specs.Mosaic.{batchAt}
 use Rattle.rules.specs.Sorting.{jobAt}
 use Rattle.rules.specs.Flight.{passesAt}
 use Rattle.rules.specs.Plan.{Plan, AllowedFor}
-use Rattle.rules_laws.specs.ByteLaws.{AreBytes}
+use Rattle.plan_format.specs.ByteLaws.{AreBytes}
 use Rattle.rules_laws.specs.Determined.{plan-most, plan-determined}
 use Rattle.judge.specs.Judged.{turnedBack, found, judged}
 use Rattle.judge.specs.declared.Judged.{Judged}

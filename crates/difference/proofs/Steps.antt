@@ -13,7 +13,7 @@ use lib.ListN.{length, set, replicate, length-set}
 use Rattle.difference.specs.System.{System, Solves, Inside, value, raised, relax, relaxed, rounds, holds, leastValues, solvable}
 use Rattle.difference.specs.Round.{relax-still, relaxed-bound, relaxed-still, relaxed-length, rounds-length, rounds-bound, rounds-solve}
 use Rattle.difference.specs.Least.{holds-true, true-holds, false-holds, rounds-still}
-use Rattle.difference.specs.Rows.{systemOf, Fit, Ready, RoundDone, SolveDone, InRound, RoundTurn, InRounds}
+use Rattle.difference.specs.Rows.{systemOf, SolvePre, RoundPre, RoundDone, SolveDone, InRound, RoundTurn, InRounds}
 
 pub round-start : (S : System) (t : List ℕ) → InRound S t t true 0
 unfolding relaxed holds
@@ -70,7 +70,7 @@ pub record Row (rows t : List ℕ) (k : ℕ) : Type 0 where
   pub up-low : value rows (4 * k + 2) ≤ 2 ^ 32
   pub down-low : value rows (4 * k + 3) ≤ 2 ^ 32
 
-pub row : {rows t₀ t : List ℕ} {held : Bool} {k : ℕ} → Ready t₀ rows → InRound (systemOf (length t₀) rows) t₀ t held k
+pub row : {rows t₀ t : List ℕ} {held : Bool} {k : ℕ} → RoundPre t₀ rows → InRound (systemOf (length t₀) rows) t₀ t held k
     → k < length rows / 4 → Row rows t k
 row {rows} {t₀} {t} {held} {k} ready inv l = record {
   from-in = omega (arith, ready .fit .from-in k l);
@@ -94,7 +94,8 @@ pub rounds-start : {S : System} {t : List ℕ} → t ≡ replicate (S .variables
 unfolding rounds
 rounds-start e = record { within = omega arith; values = e; unsolved = λ q l. absurd (omega arith) }
 
-pub rounds-more : {S : System} {t t′ : List ℕ} {held : Bool} {r : ℕ} → InRounds S t r → r < S .variables → RoundDone S t t′ held → held ≡ false → InRounds S t′ (r + 1)
+pub rounds-more : {S : System} {t t′ : List ℕ} {held : Bool} {r : ℕ} → InRounds S t r → r < S .variables → RoundDone S t t′ held → held ≡ false
+    → InRounds S t′ (r + 1)
 unfolding rounds
 rounds-more {S} {t} {t′} {held} {r} inv l d m = record {
   within = omega arith;
@@ -146,14 +147,14 @@ module _ {S : System} {t : List ℕ} {r : ℕ} (inside : Inside S) (inv : InRoun
           (sym (true-holds S (rounds S (S .variables - 1)) (S .count) (rounds-solve S inside (value (rounds S (S .variables))) s))
           ∙ inv .unsolved (S .variables - 1) (omega (arith, inside .some)))
 
-pub fit-inside : {n : ℕ} {rows : List ℕ} → Fit n rows → Inside (systemOf n rows)
+pub fit-inside : {n : ℕ} {rows : List ℕ} → SolvePre n rows → Inside (systemOf n rows)
 fit-inside f = record { some = f .some; from-in = f .from-in; to-in = f .to-in }
 
-module _ {n : ℕ} {rows t : List ℕ} {r : ℕ} (fit : Fit n rows) (inv : InRounds (systemOf n rows) t r) where
+module _ {n : ℕ} {rows t : List ℕ} {r : ℕ} (fit : SolvePre n rows) (inv : InRounds (systemOf n rows) t r) where
   pub rounds-same-length : length t ≡ n
   rounds-same-length = ap length (inv .values) ∙ rounds-length (systemOf n rows) r
 
-  pub round-ready : Ready t rows
+  pub round-ready : RoundPre t rows
   round-ready = record { fit = rw rounds-same-length fit; low = low }
     where
       low : (j : ℕ) → value t j ≤ 2 ^ 60
@@ -173,7 +174,7 @@ module _ {n : ℕ} {rows t : List ℕ} {r : ℕ} (fit : Fit n rows) (inv : InRou
   give-up l = none-found (fit-inside fit) inv l
 
 -- The same for the code's own indices i and j.
-module _ {rows t₀ t : List ℕ} {held : Bool} {k count : ℕ} (ready : Ready t₀ rows)
+module _ {rows t₀ t : List ℕ} {held : Bool} {k count : ℕ} (ready : RoundPre t₀ rows)
     (turn : RoundTurn rows t₀ t held k count) (l : k < count) where
   at-row : Row rows t k
   at-row = row ready (turn .done) (omega (arith, turn .counted))

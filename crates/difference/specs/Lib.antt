@@ -1,4 +1,4 @@
--- Difference constraints: their rounds, and that these reach the least solution or show that there is none.
+-- Difference constraints: their rounds (Bellman-Ford), and that these reach the least solution or show that there is none.
 pub mod System
 pub mod Bounded
 pub mod Gap

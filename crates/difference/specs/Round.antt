@@ -5,8 +5,9 @@ use Prim.Native.Nat.{ℕ, zero, suc, _+_, _-_, _*_, _≤_, _<_}
 use native.Mathlib.Nat.{suc-mul}
 use native.Mathlib.Omega.{arith}
 use native.Mathlib.Decide.{decLt, ℕ-discrete}
-use lib.ListN.{length, set, replicate, length-set, length-replicate}
+use lib.ListN.{length, set, length-set, length-replicate}
 use lib.Seq.{getD-set-same, getD-set-other, set-getD, set-out}
+use Rattle.base.specs.Zeros.{zeros-at}
 use Rattle.difference.specs.System.{System, Solves, Inside, value, raised, relax, relaxed, rounds}
 use Rattle.difference.specs.Gap.{gap}
 
@@ -18,11 +19,6 @@ value-set P t i v j new old = go (ℕ-discrete j i) (decLt i (length t))
     go (no ne) d = rw (getD-set-other t i j v 0 ne) old
     go (yes e) (yes l) = rw (e, getD-set-same t i v 0 l) (new e l)
     go (yes e) (no h) = rw (set-out t i v (omega arith)) old
-
-pub zeros-value : (n j : ℕ) → value (replicate n 0) j ≡ 0
-zeros-value zero j = refl
-zeros-value (suc n) zero = refl
-zeros-value (suc n) (suc j) = zeros-value n j
 
 module _ (S : System) where
   relax-length : (k : ℕ) (t : List ℕ) → length (relax S k t) ≡ length t
@@ -102,7 +98,7 @@ module _ (S : System) where
 
   pub rounds-below : (y : ℕ → ℕ) → Solves S y → (r j : ℕ) → value (rounds S r) j ≤ y j
   unfolding rounds
-  rounds-below y s zero j = omega (arith, zeros-value (S .variables) j)
+  rounds-below y s zero j = omega (arith, zeros-at (S .variables) j)
   rounds-below y s (suc r) j = relaxed-below (S .count) (rounds S r) y (omega arith) s (rounds-below y s r) j
 
   rounds-rise : (r j : ℕ) → value (rounds S r) j ≤ value (rounds S (suc r)) j
@@ -119,6 +115,6 @@ module _ (S : System) where
 
   pub rounds-bound : S .count ≤ 256 → ((k : ℕ) → k < S .count → S .up k ≤ 4294967296) → (r j : ℕ) → value (rounds S r) j ≤ r * 1099511627776
   unfolding rounds
-  rounds-bound few u zero j = omega (arith, zeros-value (S .variables) j)
+  rounds-bound few u zero j = omega (arith, zeros-at (S .variables) j)
   rounds-bound few u (suc r) j =
       omega (arith, relaxed-bound (S .count) (rounds S r) (r * 1099511627776) 4294967296 u (rounds-bound few u r) j)

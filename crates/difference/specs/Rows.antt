@@ -17,7 +17,7 @@ systemOf n rows = record {
 }
 
 -- What the code asks: few variables and constraints and small numbers, so that no sum passes 64 bits.
-pub record Fit (n : ℕ) (rows : List ℕ) : Type 0 where
+pub record SolvePre (n : ℕ) (rows : List ℕ) : Type 0 where
   pub some : 0 < n
   pub few : n ≤ 64
   pub short : length rows / 4 ≤ 256
@@ -26,8 +26,8 @@ pub record Fit (n : ℕ) (rows : List ℕ) : Type 0 where
   pub up-low : (k : ℕ) → k < length rows / 4 → value rows (4 * k + 2) ≤ 2 ^ 32
   pub down-low : (k : ℕ) → k < length rows / 4 → value rows (4 * k + 3) ≤ 2 ^ 32
 
-pub record Ready (t rows : List ℕ) : Type 0 where
-  pub fit : Fit (length t) rows
+pub record RoundPre (t rows : List ℕ) : Type 0 where
+  pub fit : SolvePre (length t) rows
   pub low : (j : ℕ) → value t j ≤ 2 ^ 60
 
 -- One round: the values after it, and whether they were a solution before it.

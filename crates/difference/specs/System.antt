@@ -1,4 +1,4 @@
--- A numbered family of difference constraints, its solutions, and rounds of raising values from 0.
+-- A numbered family of difference constraints, its solutions, and rounds of raising values from 0 (in the literature: Bellman-Ford rounds, for longest paths).
 use mathlib.Core.Bool.{Bool, true, _&&_}
 use mathlib.Core.List.{List}
 use Prim.Native.Nat.{ℕ, zero, suc, _+_, _-_, _≤_, _<_, max}
@@ -39,7 +39,7 @@ unfoldable pub relaxed : System → ℕ → List ℕ → List ℕ
 relaxed S zero t = t
 relaxed S (suc k) t = relax S k (relaxed S k t)
 
--- r rounds, each over all constraints, from zeros.
+-- r rounds, each over all constraints, from zeros: Bellman-Ford rounds.
 unfoldable pub rounds : System → ℕ → List ℕ
 rounds S zero = replicate (S .variables) 0
 rounds S (suc r) = relaxed S (S .count) (rounds S r)

@@ -1,8 +1,9 @@
-// Difference constraints over slices: rounds that raise values from 0 to the least solution.
+// Difference constraints over slices: rounds that raise values from 0 to the least solution (in the literature: the rounds of Bellman and Ford for longest
+// paths).
 // Constraint k stands in `rows` at 4 k: from, to, up, down. It says: value[from] + up <= value[to] + down.
 ghost use mathlib.Core.Path.{_≡_};
 ghost use lib.ListN.{length};
-ghost use Rattle.difference.specs.Rows.{systemOf, Fit, Ready, RoundDone, SolveDone};
+ghost use Rattle.difference.specs.Rows.{systemOf, SolvePre, RoundPre, RoundDone, SolveDone};
 
 // The numbers of a row.
 pub const ROW: usize = 4;
@@ -15,7 +16,7 @@ fn index(x: u64) -> usize
 
 // One round over all constraints; true where the values were a solution, and stay as they were.
 fn round(rows: &[u64], values: &mut [u64]) -> bool
-    requires { ⌜ Ready (now values) (now rows) ⌝ }
+    requires { ⌜ RoundPre (now values) (now rows) ⌝ }
     ensures { λ r. ⌜ RoundDone (systemOf (length (now (values .entry))) (now (rows .entry))) (now (values .entry)) (now (values .exit)) r ⌝ }
 {
     let count = rows.len() / ROW;
@@ -38,7 +39,7 @@ fn round(rows: &[u64], values: &mut [u64]) -> bool
 
 // The least solution, or false where there is none.
 pub fn solve(rows: &[u64], values: &mut [u64]) -> bool
-    requires { ⌜ Fit (length (now values)) (now rows) ⌝ }
+    requires { ⌜ SolvePre (length (now values)) (now rows) ⌝ }
     ensures { λ r. ⌜ SolveDone (systemOf (length (now (values .entry))) (now (rows .entry))) (now (values .exit)) r ⌝ }
 {
     let variables = values.len();

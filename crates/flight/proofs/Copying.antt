@@ -6,8 +6,8 @@ use native.Mathlib.Decide.{ℕ-discrete}
 use native.Mathlib.Omega.{arith}
 use lib.ListN.{length, getD, set, replicate, length-set}
 use lib.Seq.{getD-set-same, getD-set-other}
-use Rattle.difference.specs.Round.{zeros-value}
-use Rattle.flight.specs.Contracts.{CopyAsked, Copied}
+use Rattle.base.specs.Zeros.{zeros-at}
+use Rattle.flight.specs.Contracts.{CopyStartsPre, Copied}
 
 pub record Copying (starts : List ℕ) (from n : ℕ) (copy : List ℕ) (i : ℕ) : Type 0 where
   pub within : i ≤ n
@@ -18,10 +18,10 @@ pub copy-start : (starts : List ℕ) (from n : ℕ) → Copying starts from n (r
 copy-start starts from n = record {
   within = omega arith;
   long = refl;
-  done = record { copied = λ i l. absurd (omega arith); no-more = λ i l. zeros-value 32 i };
+  done = record { copied = λ i l. absurd (omega arith); no-more = λ i l. zeros-at 32 i };
 }
 
-module _ {starts : List ℕ} {from n : ℕ} {copy : List ℕ} {i : ℕ} (asked : CopyAsked starts from n) (c : Copying starts from n copy i) where
+module _ {starts : List ℕ} {from n : ℕ} {copy : List ℕ} {i : ℕ} (pre : CopyStartsPre starts from n) (c : Copying starts from n copy i) where
   pub copy-more : i < n → Copying starts from n (set copy i (getD starts (from + i) 0)) (i + 1)
   copy-more l = record {
     within = omega arith;
@@ -33,7 +33,7 @@ module _ {starts : List ℕ} {from n : ℕ} {copy : List ℕ} {i : ℕ} (asked :
       copied j q = go (ℕ-discrete j i)
         where
           go : Dec (j ≡ i) → getD (set copy i (getD starts (from + i) 0)) j 0 ≡ getD starts (from + j) 0
-          go (yes e) = rw e (getD-set-same copy i (getD starts (from + i) 0) 0 (omega (arith, c .long, asked .few)))
+          go (yes e) = rw e (getD-set-same copy i (getD starts (from + i) 0) 0 (omega (arith, c .long, pre .few)))
           go (no e) = getD-set-other copy i j (getD starts (from + i) 0) 0 e ∙ c .done .copied j (omega arith)
 
       no-more : (j : ℕ) → i + 1 ≤ j → getD (set copy i (getD starts (from + i) 0)) j 0 ≡ 0

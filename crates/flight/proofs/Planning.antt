@@ -2,16 +2,16 @@
 use mathlib.Core.Path.{_≡_, refl, sym, ap, ap₂, subst, _∙_}
 use mathlib.Core.Bool.{Bool, true, false}
 use mathlib.Core.List.{List}
-use Prim.Native.Nat.{ℕ, zero, suc, _+_, _-_, _*_, _^_, _<_}
+use Prim.Native.Nat.{ℕ, _+_, _-_, _*_, _^_, _<_}
 use native.Mathlib.Nat.{zero-add}
 use native.Mathlib.Omega.{arith}
 use lib.ListN.{length, getD, take, replicate}
 use lib.Seq.{length-take-le}
 use borrow.Author.Tests.{ne-eqb}
+use Rattle.base.specs.Zeros.{zeros-at}
 use Rattle.base.specs.Listed.{listed-same}
 use Rattle.order.specs.Order.{Proper}
 use Rattle.difference.specs.System.{value}
-use Rattle.difference.specs.Round.{zeros-value}
 use Rattle.sheet.specs.Sound.{FlightSound}
 use Rattle.sheet.specs.declared.FlightSection.{FlightSection}
 use Rattle.rules.specs.declared.Passes.{Passes}
@@ -20,21 +20,21 @@ use Rattle.flight_order.specs.Timetable.{passesWithStarts, leastPasses}
 use Rattle.flight_order.specs.Good.{least-low}
 use Rattle.flight_order.specs.Ceiling.{sound-good}
 use Rattle.flight_order.specs.Planned.{empty-possible, figure-none}
-use Rattle.flight_order.specs.Contracts.{Rooms, Least}
+use Rattle.flight_order.specs.Contracts.{LeastStartsPre, Least}
 use Rattle.flight_search.specs.Search.{noIncumbent, searched}
 use Rattle.flight_search.specs.Orders.{ordersOf, freeSection}
 use Rattle.flight_search.specs.Contracts.{BlockTimes}
-use Rattle.flight.specs.Choice.{chosenOrder, isPossible, leastFigure, chosenPasses, passesOf, PlannedIn, Planned}
+use Rattle.flight.specs.Choice.{chosenOrder, isPossible, leastFigure, chosenPasses, passesOfPlan, PlannedIn, Planned}
 use Rattle.flight.specs.Chosen.{chosen-given, chosen-free, chosen-proper}
-use Rattle.flight.specs.Contracts.{SomeBlocks, PlanAsked, OrderAsked, BlocksAsked, Copied}
+use Rattle.flight.specs.Contracts.{SomeBlocks, PlanChosenPre, PlanInOrderPre, PlanBlocksPre, Copied}
 use Rattle.flight_search.specs.declared.Incumbent.{Incumbent}
 use Rattle.flight.specs.declared.FlightPlan.{FlightPlan}
 
-module _ (f : FlightSection) (w : ℕ) {rows₀ starts₀ : List ℕ} (asked : OrderAsked f w rows₀ starts₀) where
-  pub order-rooms : Rooms (orderedFlight (f .blocks) w 0 (f .first) (f .second) (f .delay) (f .delay)) rows₀ starts₀
-  order-rooms = record {
-    room = record { good = sound-good f w (asked .plan .blocks .sound) (asked .plan .blocks .some) (asked .proper); rows-length = asked .plan .rows-length };
-    starts-length = asked .plan .starts-length;
+module _ (f : FlightSection) (w : ℕ) {rows₀ starts₀ : List ℕ} (pre : PlanInOrderPre f w rows₀ starts₀) where
+  pub least-starts-pre : LeastStartsPre (orderedFlight (f .blocks) w 0 (f .first) (f .second) (f .delay) (f .delay)) rows₀ starts₀
+  least-starts-pre = record {
+    room = record { good = sound-good f w (pre .plan .blocks .sound) (pre .plan .blocks .some) (pre .proper); rows-length = pre .plan .rows-length };
+    starts-length = pre .plan .starts-length;
   }
 
   module _ {rows starts : List ℕ} {found : Bool}
@@ -44,17 +44,17 @@ module _ (f : FlightSection) (w : ℕ) {rows₀ starts₀ : List ℕ} (asked : O
         rw (least .starts)
         (omega (
           arith,
-          least-low (orderedFlight (f .blocks) w 0 (f .first) (f .second) (f .delay) (f .delay)) (order-rooms .room .good) (2 * f .blocks - 1),
-          asked .plan .blocks .sound .most-second (f .blocks - 1),
+          least-low (orderedFlight (f .blocks) w 0 (f .first) (f .second) (f .delay) (f .delay)) (least-starts-pre .room .good) (2 * f .blocks - 1),
+          pre .plan .blocks .sound .most-second (f .blocks - 1),
         ))
 
     pub plan-made : (firsts seconds : List ℕ) → Copied starts 0 (f .blocks) firsts → Copied starts (f .blocks) (f .blocks) seconds
         → PlannedIn f w
         (record { possible = found; figure = getD starts (2 * f .blocks - 1) 0 + getD (f .second) (f .blocks - 1) 0; order = w; first = firsts; second = seconds })
-    unfolding possibleIn orderFigure leastStarts passesOf leastPasses passesWithStarts
+    unfolding possibleIn orderFigure leastStarts passesOfPlan leastPasses passesWithStarts
     plan-made firsts seconds a b = record {
       possible = least .result;
-      figure = rw (ne-eqb (f .blocks) 0 (λ e. omega (arith, asked .plan .blocks .some)), least .starts);
+      figure = rw (ne-eqb (f .blocks) 0 (λ e. omega (arith, pre .plan .blocks .some)), least .starts);
       order = refl;
       passes =
           listed-same (f .blocks) (λ i. record { first = getD firsts i 0; second = getD seconds i 0 })
@@ -83,47 +83,47 @@ module _ (f : FlightSection) where
   searched-order best e q = ap (λ (b : Incumbent). b .order) q ∙ sym (chosen-free f e)
 
   pub block-times : SomeBlocks f → BlockTimes (f .blocks) (f .first) (f .second) (f .delay)
-  block-times asked = record {
-    some = asked .some;
-    few = asked .sound .most-blocks;
-    first-long = omega (arith, asked .sound .first-length, asked .sound .most-blocks);
-    second-long = omega (arith, asked .sound .second-length, asked .sound .most-blocks);
-    delay-long = omega (arith, asked .sound .delay-length, asked .sound .most-blocks);
-    first-low = λ i. omega (arith, asked .sound .most-first i);
-    second-low = λ i. omega (arith, asked .sound .most-second i);
-    delay-low = λ i. omega (arith, asked .sound .most-delay i);
+  block-times pre = record {
+    some = pre .some;
+    few = pre .sound .most-blocks;
+    first-long = omega (arith, pre .sound .first-length, pre .sound .most-blocks);
+    second-long = omega (arith, pre .sound .second-length, pre .sound .most-blocks);
+    delay-long = omega (arith, pre .sound .delay-length, pre .sound .most-blocks);
+    first-low = λ i. omega (arith, pre .sound .most-first i);
+    second-low = λ i. omega (arith, pre .sound .most-second i);
+    delay-low = λ i. omega (arith, pre .sound .most-delay i);
   }
 
 -- The plan in the chosen order is the plan.
 module _ (f : FlightSection) (w : ℕ) (chosen : w ≡ chosenOrder f) where
-  pub chosen-asked : {rows starts : List ℕ} → PlanAsked f rows starts → OrderAsked f w rows starts
-  chosen-asked asked = record { plan = asked; proper = rw chosen (chosen-proper f (asked .blocks .sound)) }
+  pub plan-in-order-pre : {rows starts : List ℕ} → PlanChosenPre f rows starts → PlanInOrderPre f w rows starts
+  plan-in-order-pre pre = record { plan = pre; proper = rw chosen (chosen-proper f (pre .blocks .sound)) }
 
   pub plan-chosen : (r : FlightPlan) → PlannedIn f w r → Planned f r
   unfolding isPossible leastFigure chosenPasses
   plan-chosen r p = subst (λ (z : ℕ). PlannedIn f z r) chosen p
 
-module _ (f : FlightSection) (rows starts : List ℕ) (asked : BlocksAsked f rows starts) where
+module _ (f : FlightSection) (rows starts : List ℕ) (pre : PlanBlocksPre f rows starts) where
   pub rows-part : 4 * (4 * f .blocks - 1) ≡ length (take (4 * (4 * f .blocks - 1)) rows)
-  rows-part = sym (length-take-le (4 * (4 * f .blocks - 1)) rows (omega (arith, asked .rows-long, asked .blocks .sound .most-blocks)))
+  rows-part = sym (length-take-le (4 * (4 * f .blocks - 1)) rows (omega (arith, pre .rows-long, pre .blocks .sound .most-blocks)))
 
   pub starts-part : 2 * f .blocks ≡ length (take (2 * f .blocks) starts)
-  starts-part = sym (length-take-le (2 * f .blocks) starts (omega (arith, asked .starts-long, asked .blocks .sound .most-blocks)))
+  starts-part = sym (length-take-le (2 * f .blocks) starts (omega (arith, pre .starts-long, pre .blocks .sound .most-blocks)))
 
-  pub parts-asked : PlanAsked f (take (4 * (4 * f .blocks - 1)) rows) (take (2 * f .blocks) starts)
-  parts-asked = record { blocks = asked .blocks; rows-length = sym rows-part; starts-length = sym starts-part }
+  pub plan-chosen-pre : PlanChosenPre f (take (4 * (4 * f .blocks - 1)) rows) (take (2 * f .blocks) starts)
+  plan-chosen-pre = record { blocks = pre .blocks; rows-length = sym rows-part; starts-length = sym starts-part }
 
 -- No block, no passes.
 pub plan-none : (f : FlightSection) → FlightSound f → f .blocks ≡ 0
     → Planned f (record { possible = true; figure = 0; order = 0; first = replicate 32 0; second = replicate 32 0 })
-unfolding isPossible leastFigure chosenPasses passesOf leastPasses passesWithStarts
+unfolding isPossible leastFigure chosenPasses passesOfPlan leastPasses passesWithStarts
 plan-none f sound e = record {
   possible = sym (empty-possible f (chosenOrder f) sound proper (λ l. omega arith));
   figure = sym (figure-none f (chosenOrder f) sound proper (λ l. omega arith));
   order = zero-order;
   passes = listed-same (f .blocks) _ _ (λ i l. absurd (omega arith));
-  no-more-first = λ i l. zeros-value 32 i;
-  no-more-second = λ i l. zeros-value 32 i;
+  no-more-first = λ i l. zeros-at 32 i;
+  no-more-second = λ i l. zeros-at 32 i;
 }
   where
     proper : Proper (f .blocks) (chosenOrder f)

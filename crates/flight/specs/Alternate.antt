@@ -13,12 +13,13 @@ use Rattle.order.specs.Order.{bit, seconds, firsts, Proper}
 use Rattle.order.specs.Seconds.{bit-first, bit-second, seconds-more, firsts-seconds, seconds-first, firsts-first, seconds-second, firsts-second}
 use Rattle.order.specs.Beginning.{Beginning, Extends}
 use Rattle.order.specs.Children.{beginning-empty, first-child, second-child, whole-proper, extends-bit, extends-seconds, extends-firsts, extends-itself, first-parent, second-parent}
+use Rattle.order.specs.Passes.{passAt, timeOf}
+use Rattle.order.specs.PassLaws.{pass-first, pass-second}
 use Rattle.sheet.specs.Sound.{FlightSound}
 use Rattle.sheet.specs.declared.FlightSection.{FlightSection}
 use Rattle.base.specs.Sums.{sumOver}
-use Rattle.flight_order.specs.Constraints.{passOf, timeOf, exactFlight, possibleIn}
+use Rattle.flight_order.specs.Constraints.{exactFlight, possibleIn}
 use Rattle.flight_order.specs.Schedule.{Schedule}
-use Rattle.flight_order.specs.Good.{pass-first, pass-second}
 use Rattle.flight_order.specs.Timetable.{time-is}
 use Rattle.rules_laws.specs.FlightRunning.{time-first, second-time}
 use Rattle.flight_order.specs.Planned.{schedule-possible, empty-possible}
@@ -108,13 +109,13 @@ module _ (n : ℕ) where
     odd-bit : bit (alternate n) (2 * i + 1) ≡ 1
     odd-bit = extends-bit after (2 * i + 1) (omega arith) ∙ bit-second (alternate i) (2 * i + 1) (low-more i l)
 
-    even-pass : passOf n (alternate n) (2 * i) ≡ i
+    even-pass : passAt n (alternate n) (2 * i) ≡ i
     even-pass =
         pass-first n (alternate n) (2 * i) (λ e. omega (arith, even-bit))
         ∙ extends-firsts here (2 * i) (omega arith)
         ∙ half n i (omega arith) .first-count
 
-    odd-pass : passOf n (alternate n) (2 * i + 1) ≡ n + i
+    odd-pass : passAt n (alternate n) (2 * i + 1) ≡ n + i
     odd-pass =
         pass-second n (alternate n) (2 * i + 1) odd-bit
         ∙ omega (
@@ -157,9 +158,9 @@ module _ (f : FlightSection) where
   time-after i = sym (time-is f (f .blocks + i)) ∙ second-time f i
 
   order-step : (j : ℕ) → j + 1 < 2 * f .blocks
-      → starts (passOf (f .blocks) (alternate (f .blocks)) j)
-      + (timeOf (f .blocks) (f .first) (f .second) (passOf (f .blocks) (alternate (f .blocks)) j) + 0)
-      ≤ starts (passOf (f .blocks) (alternate (f .blocks)) (j + 1))
+      → starts (passAt (f .blocks) (alternate (f .blocks)) j)
+      + (timeOf (f .blocks) (f .first) (f .second) (passAt (f .blocks) (alternate (f .blocks)) j) + 0)
+      ≤ starts (passAt (f .blocks) (alternate (f .blocks)) (j + 1))
   order-step j l = go (ℕ-discrete (j % 2) 0)
     where
       i : ℕ
@@ -167,9 +168,9 @@ module _ (f : FlightSection) where
 
       goal : ℕ → Type 0
       goal j =
-          starts (passOf (f .blocks) (alternate (f .blocks)) j)
-          + (timeOf (f .blocks) (f .first) (f .second) (passOf (f .blocks) (alternate (f .blocks)) j) + 0)
-          ≤ starts (passOf (f .blocks) (alternate (f .blocks)) (j + 1))
+          starts (passAt (f .blocks) (alternate (f .blocks)) j)
+          + (timeOf (f .blocks) (f .first) (f .second) (passAt (f .blocks) (alternate (f .blocks)) j) + 0)
+          ≤ starts (passAt (f .blocks) (alternate (f .blocks)) (j + 1))
 
       even : (i : ℕ) → i < f .blocks → goal (2 * i)
       even i q =

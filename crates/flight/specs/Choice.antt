@@ -20,6 +20,7 @@ chosenOrder f = elim (f .ordered) [ true ↦ f .order | false ↦ searched (orde
 unfoldable pub isPossible : FlightSection → Bool
 isPossible f = possibleIn f (chosenOrder f)
 
+-- The figure in that order (in the literature: the least makespan).
 unfoldable pub leastFigure : FlightSection → ℕ
 leastFigure f = orderFigure f (chosenOrder f)
 
@@ -30,15 +31,15 @@ chosenPasses f = leastPasses f (chosenOrder f)
 abbrev pub planPasses : FlightPlan → ℕ → Passes
 planPasses r i = record { first = getD (r .first) i 0; second = getD (r .second) i 0 }
 
-unfoldable pub passesOf : ℕ → FlightPlan → List Passes
-passesOf n r = listed n (planPasses r)
+unfoldable pub passesOfPlan : ℕ → FlightPlan → List Passes
+passesOfPlan n r = listed n (planPasses r)
 
 -- A plan r of the flight f says this: whether it is possible, its figure, its order, and its passes, with zeros after them.
 pub record PlanSays (f : FlightSection) (p : Bool) (v w : ℕ) (ps : List Passes) (r : FlightPlan) : Type 0 where
   pub possible : r .possible ≡ p
   pub figure : r .figure ≡ v
   pub order : r .order ≡ w
-  pub passes : passesOf (f .blocks) r ≡ ps
+  pub passes : passesOfPlan (f .blocks) r ≡ ps
   pub no-more-first : (i : ℕ) → f .blocks ≤ i → getD (r .first) i 0 ≡ 0
   pub no-more-second : (i : ℕ) → f .blocks ≤ i → getD (r .second) i 0 ≡ 0
 

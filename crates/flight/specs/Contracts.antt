@@ -11,21 +11,21 @@ pub record SomeBlocks (f : FlightSection) : Type 0 where
   pub sound : FlightSound f
   pub some : 0 < f .blocks
 
-pub record PlanAsked (f : FlightSection) (rows starts : List ℕ) : Type 0 where
+pub record PlanChosenPre (f : FlightSection) (rows starts : List ℕ) : Type 0 where
   pub blocks : SomeBlocks f
   pub rows-length : length rows ≡ 4 * (4 * f .blocks - 1)
   pub starts-length : length starts ≡ 2 * f .blocks
 
-pub record OrderAsked (f : FlightSection) (order : ℕ) (rows starts : List ℕ) : Type 0 where
-  pub plan : PlanAsked f rows starts
+pub record PlanInOrderPre (f : FlightSection) (order : ℕ) (rows starts : List ℕ) : Type 0 where
+  pub plan : PlanChosenPre f rows starts
   pub proper : Proper (f .blocks) order
 
-pub record BlocksAsked (f : FlightSection) (rows starts : List ℕ) : Type 0 where
+pub record PlanBlocksPre (f : FlightSection) (rows starts : List ℕ) : Type 0 where
   pub blocks : SomeBlocks f
   pub rows-long : 508 ≤ length rows
   pub starts-long : 64 ≤ length starts
 
-pub record CopyAsked (starts : List ℕ) (from n : ℕ) : Type 0 where
+pub record CopyStartsPre (starts : List ℕ) (from n : ℕ) : Type 0 where
   pub few : n ≤ 32
   pub within : from + n ≤ length starts
   pub short : length starts ≤ 64

@@ -1,8 +1,9 @@
-// The flight planner: the given order or the best of all proper orders, and the least start of every pass in it.
+// The flight planner: the given order or the best of all proper orders, and the least start of every pass in it. In the literature: coupled tasks with exact
+// delays on one machine, for the least makespan.
 ghost use mathlib.Core.Path.{_≡_};
 ghost use Rattle.sheet.specs.Sound.{FlightSound};
 ghost use Rattle.flight.specs.Choice.{chosenOrder, Planned, PlannedIn};
-ghost use Rattle.flight.specs.Contracts.{SomeBlocks, PlanAsked, OrderAsked, BlocksAsked, CopyAsked, Copied};
+ghost use Rattle.flight.specs.Contracts.{SomeBlocks, PlanChosenPre, PlanInOrderPre, PlanBlocksPre, CopyStartsPre, Copied};
 use sheet::FlightSection;
 
 // A plan: whether its order is possible, its figure and order number, and the starts of the first and second pass of each block.
@@ -16,7 +17,7 @@ pub struct FlightPlan {
 
 // n starts from `from` on, and zeros after them.
 fn copy_starts(starts: &[u64], from: usize, n: usize) -> [u64; 32]
-    requires { ⌜ CopyAsked (now starts) from n ⌝ }
+    requires { ⌜ CopyStartsPre (now starts) from n ⌝ }
     ensures { λ r. ⌜ Copied (now (starts .entry)) from n r ⌝ }
 {
     let mut copy = [0; 32];
@@ -30,7 +31,7 @@ fn copy_starts(starts: &[u64], from: usize, n: usize) -> [u64; 32]
 
 // The plan in one order, with room for its constraints and starts.
 fn plan_in_order(f: FlightSection, order: u64, rows: &mut [u64], starts: &mut [u64]) -> FlightPlan
-    requires { ⌜ OrderAsked f order (now rows) (now starts) ⌝ }
+    requires { ⌜ PlanInOrderPre f order (now rows) (now starts) ⌝ }
     ensures { λ r. ⌜ PlannedIn f order r ⌝ }
 {
     let n = f.blocks;
@@ -80,7 +81,7 @@ fn choose_order(f: FlightSection) -> u64
 
 // The plan in the chosen order.
 fn plan_chosen(f: FlightSection, rows: &mut [u64], starts: &mut [u64]) -> FlightPlan
-    requires { ⌜ PlanAsked f (now rows) (now starts) ⌝ }
+    requires { ⌜ PlanChosenPre f (now rows) (now starts) ⌝ }
     ensures { λ r. ⌜ Planned f r ⌝ }
 {
     let order = choose_order(f);
@@ -89,7 +90,7 @@ fn plan_chosen(f: FlightSection, rows: &mut [u64], starts: &mut [u64]) -> Flight
 
 // The plan of at least one block, with room for the constraints and starts of 32.
 fn plan_blocks(f: FlightSection, rows: &mut [u64], starts: &mut [u64]) -> FlightPlan
-    requires { ⌜ BlocksAsked f (now rows) (now starts) ⌝ }
+    requires { ⌜ PlanBlocksPre f (now rows) (now starts) ⌝ }
     ensures { λ r. ⌜ Planned f r ⌝ }
 {
     let n = f.blocks;

@@ -8,10 +8,10 @@ use native.Mathlib.Omega.{arith}
 use lib.ListN.{length, getD, set, length-set}
 use lib.Seq.{getD-set-same, getD-set-other}
 use Rattle.difference.specs.Agree.{Agree, agree-values, agree-solvable}
-use Rattle.difference.specs.Rows.{systemOf, Fit, SolveDone}
+use Rattle.difference.specs.Rows.{systemOf, SolvePre, SolveDone}
 use Rattle.flight_order.specs.Constraints.{OrderedFlight, constraintOf, systemFor}
 use Rattle.flight_order.specs.Good.{constraint-small}
-use Rattle.flight_order.specs.Contracts.{Rows, Room, Rooms, Least}
+use Rattle.flight_order.specs.Contracts.{Rows, WriteConstraintsPre, LeastStartsPre, Least}
 use Rattle.flight_order.specs.declared.Constraint.{Constraint}
 
 abbrev four : List ℕ → ℕ → ℕ → ℕ → ℕ → ℕ → List ℕ
@@ -78,7 +78,7 @@ write-start F rows = record {
   };
 }
 
-module _ {F : OrderedFlight} {rows₀ rows : List ℕ} {k count : ℕ} (room : Room F rows₀) (w : Writing F rows₀ rows k count) where
+module _ {F : OrderedFlight} {rows₀ rows : List ℕ} {k count : ℕ} (room : WriteConstraintsPre F rows₀) (w : Writing F rows₀ rows k count) where
   row-fits : k < count → 4 * k + 3 < length rows
   row-fits l = omega (arith, w .same-length, w .counted, room .rows-length)
 
@@ -132,13 +132,14 @@ write-end {F} {rows₀} {rows} {k} {count} w l = rw e at (w .written)
     e = omega (arith, w .counted, w .within)
 
 -- The rows that were written are the constraints, so solving them gives the least starts.
-module _ {F : OrderedFlight} {rows₀ rows t : List ℕ} (rooms : Rooms F rows₀ t) (same : length rows ≡ length rows₀) (w : Rows F rows (4 * F .blocks - 1)) where
+module _ {F : OrderedFlight} {rows₀ rows t : List ℕ} (pre : LeastStartsPre F rows₀ t) (same : length rows ≡ length rows₀)
+    (w : Rows F rows (4 * F .blocks - 1)) where
   count : length rows / 4 ≡ 4 * F .blocks - 1
-  count = omega (arith, rooms .room .rows-length)
+  count = omega (arith, pre .room .rows-length)
 
   agree : Agree (systemOf (length t) rows) (systemFor F)
   agree = record {
-    variables = rooms .starts-length;
+    variables = pre .starts-length;
     count = count;
     from = λ k l. w .from k (omega (arith, count));
     to = λ k l. w .to k (omega (arith, count));
@@ -146,15 +147,15 @@ module _ {F : OrderedFlight} {rows₀ rows t : List ℕ} (rooms : Rooms F rows�
     down = λ k l. w .down k (omega (arith, count));
   }
 
-  pub rows-fit : Fit (length t) rows
+  pub rows-fit : SolvePre (length t) rows
   rows-fit = record {
-    some = omega (arith, rooms .starts-length, rooms .room .good .some);
-    few = omega (arith, rooms .starts-length, rooms .room .good .few);
-    short = omega (arith, count, rooms .room .good .few);
-    from-in = λ k l. rw (w .from k (omega (arith, count)), rooms .starts-length) (constraint-small F (rooms .room .good) k (omega (arith, count)) .from-in);
-    to-in = λ k l. rw (w .to k (omega (arith, count)), rooms .starts-length) (constraint-small F (rooms .room .good) k (omega (arith, count)) .to-in);
-    up-low = λ k l. rw (w .up k (omega (arith, count))) (constraint-small F (rooms .room .good) k (omega (arith, count)) .up-low);
-    down-low = λ k l. rw (w .down k (omega (arith, count))) (constraint-small F (rooms .room .good) k (omega (arith, count)) .down-low);
+    some = omega (arith, pre .starts-length, pre .room .good .some);
+    few = omega (arith, pre .starts-length, pre .room .good .few);
+    short = omega (arith, count, pre .room .good .few);
+    from-in = λ k l. rw (w .from k (omega (arith, count)), pre .starts-length) (constraint-small F (pre .room .good) k (omega (arith, count)) .from-in);
+    to-in = λ k l. rw (w .to k (omega (arith, count)), pre .starts-length) (constraint-small F (pre .room .good) k (omega (arith, count)) .to-in);
+    up-low = λ k l. rw (w .up k (omega (arith, count))) (constraint-small F (pre .room .good) k (omega (arith, count)) .up-low);
+    down-low = λ k l. rw (w .down k (omega (arith, count))) (constraint-small F (pre .room .good) k (omega (arith, count)) .down-low);
   }
 
   pub rows-least : {t′ : List ℕ} {found : Bool} → SolveDone (systemOf (length t) rows) t′ found → Least F rows t′ found

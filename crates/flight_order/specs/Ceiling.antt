@@ -11,6 +11,7 @@ use lib.ListN.{getD}
 use borrow.Author.Tests.{lt-ltb, le-ltb}
 use Rattle.base.specs.Sums.{sumOver}
 use Rattle.order.specs.Order.{Proper}
+use Rattle.order.specs.Passes.{passAt}
 use Rattle.difference.specs.System.{value}
 use Rattle.difference.specs.Least.{solvable-solves, least-below}
 use Rattle.difference.specs.Span.{span}
@@ -18,7 +19,7 @@ use Rattle.sheet.specs.Sound.{FlightSound}
 use Rattle.sheet.specs.declared.FlightSection.{FlightSection}
 use Rattle.rules.specs.Flight.{passTime}
 use Rattle.rules_laws.specs.FlightRunning.{time-first, time-second}
-use Rattle.flight_order.specs.Constraints.{passOf, constraintOf, systemFor, exactFlight, leastStarts, possibleIn}
+use Rattle.flight_order.specs.Constraints.{constraintOf, systemFor, exactFlight, leastStarts, possibleIn}
 use Rattle.flight_order.specs.Schedule.{constraint-least, constraint-most, constraint-order}
 use Rattle.flight_order.specs.Good.{Good, inside}
 use Rattle.flight_order.specs.Timetable.{time-is}
@@ -69,7 +70,7 @@ module _ (f : FlightSection) where
       go (no g) (no h) = rw (constraint-order (exactFlight f w) k (omega arith)) (omega (arith, time-is f p, time-reach p))
         where
           p : ℕ
-          p = passOf (f .blocks) w (k - 2 * f .blocks)
+          p = passAt (f .blocks) w (k - 2 * f .blocks)
 
   module _ (s : FlightSound f) where
     firsts-sum : (m : ℕ) → m ≤ f .blocks → sumOver m (reach f) ≤ 20000 * m

@@ -1,12 +1,14 @@
--- The constraints of a flight in one pass order. The passes are numbered as in the rules: the first pass of block i is pass i, its second pass is pass n + i.
+-- The constraints of a flight in one pass order. The passes are numbered (crate order, Passes): the first pass of block i is pass i, its second pass is
+-- pass n + i.
 -- A delay may be anything from `least` to `most`, and `turn` passes between the end of a pass and the start of the next. The rules of 01 have an exact delay,
--- least = most, and no turn.
+-- least = most, and no turn. In the literature: coupled tasks on one machine, here with minimum and maximum time lags, in 01 with exact delays; a turn is a
+-- minimum time lag between passes.
 use mathlib.Core.Bool.{Bool, cond}
 use mathlib.Core.List.{List}
 use Prim.Native.Nat.{ℕ, _+_, _-_, _*_}
 use lib.Dec.{ltb, eqb}
 use lib.ListN.{getD}
-use Rattle.order.specs.Order.{bit, seconds, firsts}
+use Rattle.order.specs.Passes.{passAt, timeOf}
 use Rattle.difference.specs.System.{System, value, leastValues, solvable}
 use Rattle.sheet.specs.declared.FlightSection.{FlightSection}
 use Rattle.flight_order.specs.declared.Constraint.{Constraint}
@@ -24,14 +26,6 @@ abbrev pub orderedFlight : ℕ → ℕ → ℕ → List ℕ → List ℕ → Lis
 orderedFlight n order turn first second least most =
     record { blocks = n; order = order; turn = turn; first = first; second = second; least = least; most = most }
 
--- The pass at position k of the order: a first or a second pass of the next block in sheet order.
-unfoldable pub passOf : ℕ → ℕ → ℕ → ℕ
-passOf n order k = cond (eqb (bit order k) 1) (n + seconds order k) (firsts order k)
-
--- The time that pass p takes.
-unfoldable pub timeOf : ℕ → List ℕ → List ℕ → ℕ → ℕ
-timeOf n first second p = cond (ltb p n) (getD first p 0) (getD second (p - n) 0)
-
 -- Constraint k: for each block the least delay, for each block the greatest delay, then for each position but the last the pass after it.
 unfoldable pub constraintOf : OrderedFlight → ℕ → Constraint
 constraintOf F k =
@@ -40,9 +34,9 @@ constraintOf F k =
     (cond (ltb k (2 * F .blocks))
     (record { from = k; to = k - F .blocks; up = 0; down = getD (F .first) (k - F .blocks) 0 + getD (F .most) (k - F .blocks) 0 })
     (record {
-      from = passOf (F .blocks) (F .order) (k - 2 * F .blocks);
-      to = passOf (F .blocks) (F .order) (k - 2 * F .blocks + 1);
-      up = timeOf (F .blocks) (F .first) (F .second) (passOf (F .blocks) (F .order) (k - 2 * F .blocks)) + F .turn;
+      from = passAt (F .blocks) (F .order) (k - 2 * F .blocks);
+      to = passAt (F .blocks) (F .order) (k - 2 * F .blocks + 1);
+      up = timeOf (F .blocks) (F .first) (F .second) (passAt (F .blocks) (F .order) (k - 2 * F .blocks)) + F .turn;
       down = 0;
     }))
 
@@ -67,7 +61,7 @@ leastStarts f order = leastValues (systemFor (exactFlight f order))
 unfoldable pub possibleIn : FlightSection → ℕ → Bool
 possibleIn f order = solvable (systemFor (exactFlight f order))
 
--- The end of the last pass, which in every proper order is the second pass of the last block; 0 where there is no block.
+-- The end of the last pass (in the literature: the makespan), which in every proper order is the second pass of the last block; 0 where there is no block.
 unfoldable pub orderFigure : FlightSection → ℕ → ℕ
 orderFigure f order =
     cond (eqb (f .blocks) 0) 0 (value (leastStarts f order) (2 * f .blocks - 1) + getD (f .second) (f .blocks - 1) 0)

@@ -16,12 +16,12 @@ pub record Rows (F : OrderedFlight) (rows : List ℕ) (k : ℕ) : Type 0 where
   pub down : (j : ℕ) → j < k → getD rows (4 * j + 3) 0 ≡ constraintOf F j .down
 
 -- What is asked with the room for the constraints, and with the room for the starts.
-pub record Room (F : OrderedFlight) (rows : List ℕ) : Type 0 where
+pub record WriteConstraintsPre (F : OrderedFlight) (rows : List ℕ) : Type 0 where
   pub good : Good F
   pub rows-length : length rows ≡ 4 * (4 * F .blocks - 1)
 
-pub record Rooms (F : OrderedFlight) (rows starts : List ℕ) : Type 0 where
-  pub room : Room F rows
+pub record LeastStartsPre (F : OrderedFlight) (rows starts : List ℕ) : Type 0 where
+  pub room : WriteConstraintsPre F rows
   pub starts-length : length starts ≡ 2 * F .blocks
 
 -- The least starts of every pass, and whether there are any.

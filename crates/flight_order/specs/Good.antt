@@ -1,19 +1,14 @@
 -- What the code asks of a flight, and that each of its constraints is then about two of its passes and has small numbers.
-use mathlib.Core.Path.{_≡_}
-use mathlib.Core.Bool.{cond}
-use mathlib.Core.Logic.{_⊎_, inl, inr}
 use Prim.Native.Nat.{ℕ, _+_, _-_, _*_, _^_, _≤_, _<_}
 use native.Mathlib.Decide.{decLt}
 use native.Mathlib.Omega.{arith}
-use lib.Dec.{ltb}
 use lib.ListN.{length, getD}
-use borrow.Author.Tests.{lt-ltb, le-ltb, eq-eqb, ne-eqb}
-use Rattle.order.specs.Order.{bit, seconds, firsts, Proper}
-use Rattle.order.specs.Seconds.{bit-cases}
-use Rattle.order.specs.Blocks.{proper-firsts, proper-first, proper-second}
+use Rattle.order.specs.Order.{Proper}
+use Rattle.order.specs.Passes.{passAt, timeOf}
+use Rattle.order.specs.PassLaws.{pass-known, first-time, second-time}
 use Rattle.difference.specs.System.{Inside, value, leastValues}
 use Rattle.difference.specs.Round.{rounds-bound}
-use Rattle.flight_order.specs.Constraints.{OrderedFlight, passOf, timeOf, constraintOf, systemFor}
+use Rattle.flight_order.specs.Constraints.{OrderedFlight, constraintOf, systemFor}
 use Rattle.flight_order.specs.Schedule.{constraint-least, constraint-most, constraint-order}
 use Rattle.flight_order.specs.declared.Constraint.{Constraint}
 
@@ -37,30 +32,13 @@ pub record Small (n : ℕ) (c : Constraint) : Type 0 where
   pub up-low : c .up ≤ 2 ^ 32
   pub down-low : c .down ≤ 2 ^ 32
 
--- The pass at a position, by its bit.
-pub pass-second : (n w k : ℕ) → bit w k ≡ 1 → passOf n w k ≡ n + seconds w k
-unfolding passOf
-pass-second n w k e = rw (eq-eqb (bit w k) 1 e)
-
-pub pass-first : (n w k : ℕ) → (bit w k ≡ 1 → ⊥) → passOf n w k ≡ firsts w k
-unfolding passOf
-pass-first n w k e = rw (ne-eqb (bit w k) 1 e)
-
-pub pass-in : {n w : ℕ} → Proper n w → (k : ℕ) → k < 2 * n → passOf n w k < 2 * n
-pass-in {n} {w} p k l = go (bit-cases w k)
-  where
-    go : (bit w k ≡ 0) ⊎ (bit w k ≡ 1) → passOf n w k < 2 * n
-    go (inl z) = rw (pass-first n w k (λ e. omega arith)) (omega (arith, proper-first p k l z))
-    go (inr e) = rw (pass-second n w k e) (omega (arith, proper-second p k l e, proper-firsts p k (omega arith)))
-
 module _ (F : OrderedFlight) (good : Good F) where
   pub time-low : (p : ℕ) → timeOf (F .blocks) (F .first) (F .second) p ≤ 2 ^ 31
-  unfolding timeOf
   time-low p = go (decLt p (F .blocks))
     where
-      go : Dec (p < F .blocks) → cond (ltb p (F .blocks)) (getD (F .first) p 0) (getD (F .second) (p - F .blocks) 0) ≤ 2 ^ 31
-      go (yes e) = rw (lt-ltb p (F .blocks) e) (good .first-low p)
-      go (no e) = rw (le-ltb p (F .blocks) (omega arith)) (good .second-low (p - F .blocks))
+      go : Dec (p < F .blocks) → timeOf (F .blocks) (F .first) (F .second) p ≤ 2 ^ 31
+      go (yes e) = omega (arith, first-time (F .blocks) (F .first) (F .second) p e, good .first-low p)
+      go (no e) = omega (arith, second-time (F .blocks) (F .first) (F .second) p (omega arith), good .second-low (p - F .blocks))
 
   pub constraint-small : (k : ℕ) → k < 4 * F .blocks - 1 → Small (F .blocks) (constraintOf F k)
   constraint-small k l = go (decLt k (F .blocks)) (decLt k (2 * F .blocks))
@@ -79,9 +57,9 @@ module _ (F : OrderedFlight) (good : Good F) where
         down-low = omega (arith, good .first-low (k - F .blocks), good .most-low (k - F .blocks));
       }
       go (no g) (no h) = rw (constraint-order F k (omega arith)) record {
-        from-in = pass-in (good .proper) (k - 2 * F .blocks) (omega arith);
-        to-in = pass-in (good .proper) (k - 2 * F .blocks + 1) (omega arith);
-        up-low = omega (arith, time-low (passOf (F .blocks) (F .order) (k - 2 * F .blocks)), good .turn-low);
+        from-in = pass-known (good .proper) (k - 2 * F .blocks) (omega arith);
+        to-in = pass-known (good .proper) (k - 2 * F .blocks + 1) (omega arith);
+        up-low = omega (arith, time-low (passAt (F .blocks) (F .order) (k - 2 * F .blocks)), good .turn-low);
         down-low = omega arith;
       }
 

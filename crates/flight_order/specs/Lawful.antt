@@ -7,18 +7,18 @@ use native.Mathlib.Decide.{ℕ-discrete}
 use native.Mathlib.Omega.{arith}
 use lib.ListN.{getD}
 use Rattle.order.specs.Order.{Proper}
+use Rattle.order.specs.Passes.{passAt, timeOf}
+use Rattle.order.specs.PassLaws.{pass-known, position, last-pass}
 use Rattle.sheet.specs.Limits.{ceiling}
 use Rattle.sheet.specs.Sound.{FlightSound}
 use Rattle.sheet.specs.declared.FlightSection.{FlightSection}
-use Rattle.rules.specs.Flight.{passStart, passTime, passEnd, secondDue, clearAt, Clear, passAt, FlightLawful, Keeps, flightFigure}
+use Rattle.rules.specs.Flight.{passStart, passTime, passEnd, secondDue, clearAt, Clear, FlightLawful, Keeps, flightFigure}
 use Rattle.rules.specs.declared.Passes.{Passes}
 use Rattle.base.specs.SumLaws.{greatest-most, greatest-part}
-use Rattle.rules_laws.specs.FlightRunning.{position, start-first, second-start, end-is, clear-end, next-apart, before-later, all-apart, order-kept}
-use Rattle.flight_order.specs.Constraints.{passOf, timeOf, exactFlight}
+use Rattle.rules_laws.specs.FlightRunning.{start-first, second-start, end-is, clear-end, next-apart, before-later, all-apart, order-kept}
+use Rattle.flight_order.specs.Constraints.{exactFlight}
 use Rattle.flight_order.specs.Schedule.{Schedule}
-use Rattle.flight_order.specs.Good.{pass-in}
-use Rattle.flight_order.specs.Positions.{last-pass}
-use Rattle.flight_order.specs.Timetable.{passesWithStarts, passes-length, passes-first, passes-second, start-from, time-is, pass-is}
+use Rattle.flight_order.specs.Timetable.{passesWithStarts, passes-length, passes-first, passes-second, start-from, time-is}
 
 module _ (f : FlightSection) (w : ℕ) (proper : Proper (f .blocks) w) where
   -- From the rules to the constraints.
@@ -31,28 +31,26 @@ module _ (f : FlightSection) (w : ℕ) (proper : Proper (f .blocks) w) where
           second-start f ps i ∙ omega (arith, law .delay-kept i l .exact, start-first f ps i l)
 
       order : (j : ℕ) → j + 1 < 2 * f .blocks
-          → passStart f ps (passOf (f .blocks) w j) + (timeOf (f .blocks) (f .first) (f .second) (passOf (f .blocks) w j) + 0)
-          ≤ passStart f ps (passOf (f .blocks) w (j + 1))
+          → passStart f ps (passAt (f .blocks) w j) + (timeOf (f .blocks) (f .first) (f .second) (passAt (f .blocks) w j) + 0)
+          ≤ passStart f ps (passAt (f .blocks) w (j + 1))
       order j l =
           omega (
             arith,
-            rw (pass-is f w j, pass-is f w (j + 1)) at (next-apart f ps w law keeps proper j l),
-            time-is f (passOf (f .blocks) w j),
+            next-apart f ps w law keeps proper j l,
+            time-is f (passAt (f .blocks) w j),
           )
 
   -- From the constraints to the rules.
   module _ (y : ℕ → ℕ) (schedule : Schedule (exactFlight f w) y) where
     next : (k : ℕ) → k + 1 < 2 * f .blocks
-        → Clear f (passesWithStarts (f .blocks) y) (passAt f w k) (passAt f w (k + 1))
+        → Clear f (passesWithStarts (f .blocks) y) (passAt (f .blocks) w k) (passAt (f .blocks) w (k + 1))
     unfolding passEnd clearAt
     next k l =
         rw (
-          pass-is f w k,
-          pass-is f w (k + 1),
-          start-from f y (passOf (f .blocks) w k) (pass-in proper k (omega arith)),
-          start-from f y (passOf (f .blocks) w (k + 1)) (pass-in proper (k + 1) l),
+          start-from f y (passAt (f .blocks) w k) (pass-known proper k (omega arith)),
+          start-from f y (passAt (f .blocks) w (k + 1)) (pass-known proper (k + 1) l),
         )
-        (omega (arith, schedule .in-order k l, time-is f (passOf (f .blocks) w k)))
+        (omega (arith, schedule .in-order k l, time-is f (passAt (f .blocks) w k)))
 
     pub schedule-keeps : FlightSound f → Keeps f w (passesWithStarts (f .blocks) y)
     schedule-keeps sound = order-kept f (passesWithStarts (f .blocks) y) w proper next sound
@@ -69,25 +67,22 @@ module _ (f : FlightSection) (w : ℕ) (proper : Proper (f .blocks) w) where
     }
 
   module _ (some : 0 < f .blocks) (ps : List Passes) (law : FlightLawful f ps) (keeps : Keeps f w ps) where
-    last-at : passAt f w (2 * f .blocks - 1) ≡ 2 * f .blocks - 1
-    last-at = pass-is f w (2 * f .blocks - 1) ∙ last-pass proper some
-
     -- No pass ends after the last one.
     last-ends : (p : ℕ) → p < 2 * f .blocks → passEnd f ps p ≤ passEnd f ps (2 * f .blocks - 1)
-    last-ends p l = go (position f w proper p l)
+    last-ends p l = go (position proper p l)
       where
-        go : (k : ℕ) × (k < 2 * f .blocks) × (passAt f w k ≡ p) → passEnd f ps p ≤ passEnd f ps (2 * f .blocks - 1)
+        go : (k : ℕ) × (k < 2 * f .blocks) × (passAt (f .blocks) w k ≡ p) → passEnd f ps p ≤ passEnd f ps (2 * f .blocks - 1)
         go a = at (ℕ-discrete (a .0) (2 * f .blocks - 1))
           where
             at : Dec (a .0 ≡ 2 * f .blocks - 1) → passEnd f ps p ≤ passEnd f ps (2 * f .blocks - 1)
             at (yes e) = rw same (omega arith)
               where
                 same : p ≡ 2 * f .blocks - 1
-                same = sym (a .2) ∙ ap (passAt f w) e ∙ last-at
+                same = sym (a .2) ∙ ap (passAt (f .blocks) w) e ∙ last-pass proper some
             at (no e) = omega (arith, before, clear-end f ps p, end-is f ps (2 * f .blocks - 1))
               where
                 before : Clear f ps p (2 * f .blocks - 1)
-                before = rw (a .2, last-at) at (before-later f ps w proper (next-apart f ps w law keeps proper) (a .0) (2 * f .blocks - 1) (omega arith) (omega arith))
+                before = rw (a .2, last-pass proper some) at (before-later f ps w proper (next-apart f ps w law keeps proper) (a .0) (2 * f .blocks - 1) (omega arith) (omega arith))
 
     pub figure-last : flightFigure f ps ≡ passEnd f ps (2 * f .blocks - 1)
     unfolding flightFigure

@@ -3,7 +3,6 @@ pub mod Constraints
 pub mod Schedule
 pub mod Good
 pub mod Contracts
-pub mod Positions
 pub mod Timetable
 pub mod Lawful
 pub mod Ceiling

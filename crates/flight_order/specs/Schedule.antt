@@ -5,16 +5,17 @@ use native.Mathlib.Decide.{decLt}
 use native.Mathlib.Omega.{arith}
 use lib.ListN.{getD}
 use borrow.Author.Tests.{lt-ltb, le-ltb}
+use Rattle.order.specs.Passes.{passAt, timeOf}
 use Rattle.difference.specs.System.{Solves}
-use Rattle.flight_order.specs.Constraints.{OrderedFlight, passOf, timeOf, constraintOf, systemFor}
+use Rattle.flight_order.specs.Constraints.{OrderedFlight, constraintOf, systemFor}
 
 -- y p is the start of pass p.
 pub record Schedule (F : OrderedFlight) (y : ℕ → ℕ) : Type 0 where
   pub at-least : (i : ℕ) → i < F .blocks → y i + (getD (F .first) i 0 + getD (F .least) i 0) ≤ y (F .blocks + i)
   pub at-most : (i : ℕ) → i < F .blocks → y (F .blocks + i) ≤ y i + (getD (F .first) i 0 + getD (F .most) i 0)
   pub in-order : (j : ℕ) → j + 1 < 2 * F .blocks
-      → y (passOf (F .blocks) (F .order) j) + (timeOf (F .blocks) (F .first) (F .second) (passOf (F .blocks) (F .order) j) + F .turn)
-      ≤ y (passOf (F .blocks) (F .order) (j + 1))
+      → y (passAt (F .blocks) (F .order) j) + (timeOf (F .blocks) (F .first) (F .second) (passAt (F .blocks) (F .order) j) + F .turn)
+      ≤ y (passAt (F .blocks) (F .order) (j + 1))
 
 module _ (F : OrderedFlight) (k : ℕ) where
   pub constraint-least : k < F .blocks
@@ -30,9 +31,9 @@ module _ (F : OrderedFlight) (k : ℕ) where
   pub constraint-order : 2 * F .blocks ≤ k
       → constraintOf F k
       ≡ record {
-        from = passOf (F .blocks) (F .order) (k - 2 * F .blocks);
-        to = passOf (F .blocks) (F .order) (k - 2 * F .blocks + 1);
-        up = timeOf (F .blocks) (F .first) (F .second) (passOf (F .blocks) (F .order) (k - 2 * F .blocks)) + F .turn;
+        from = passAt (F .blocks) (F .order) (k - 2 * F .blocks);
+        to = passAt (F .blocks) (F .order) (k - 2 * F .blocks + 1);
+        up = timeOf (F .blocks) (F .first) (F .second) (passAt (F .blocks) (F .order) (k - 2 * F .blocks)) + F .turn;
         down = 0;
       }
   unfolding constraintOf
@@ -63,8 +64,8 @@ module _ (F : OrderedFlight) (y : ℕ → ℕ) where
           back = omega arith
 
       order : (j : ℕ) → j + 1 < 2 * F .blocks
-          → y (passOf (F .blocks) (F .order) j) + (timeOf (F .blocks) (F .first) (F .second) (passOf (F .blocks) (F .order) j) + F .turn)
-          ≤ y (passOf (F .blocks) (F .order) (j + 1))
+          → y (passAt (F .blocks) (F .order) j) + (timeOf (F .blocks) (F .first) (F .second) (passAt (F .blocks) (F .order) j) + F .turn)
+          ≤ y (passAt (F .blocks) (F .order) (j + 1))
       order j l = omega (arith, rw (constraint-order F (2 * F .blocks + j) (omega arith), back) at (s (2 * F .blocks + j) (omega arith)))
         where
           back : 2 * F .blocks + j - 2 * F .blocks ≡ j

@@ -5,13 +5,14 @@ use Prim.Native.Nat.{ℕ, _+_, _-_, _*_, _<_}
 use native.Mathlib.Decide.{decLt}
 use native.Mathlib.Omega.{arith}
 use lib.ListN.{length}
+use Rattle.order.specs.Passes.{timeOf}
 use Rattle.base.specs.Listed.{listed, listed-length, listed-at}
 use Rattle.difference.specs.System.{value}
 use Rattle.sheet.specs.declared.FlightSection.{FlightSection}
-use Rattle.rules.specs.Flight.{passesAt, passStart, passTime, passAt, noPasses}
+use Rattle.rules.specs.Flight.{passesAt, passStart, passTime, noPasses}
 use Rattle.rules.specs.declared.Passes.{Passes}
 use Rattle.rules_laws.specs.FlightRunning.{start-first, start-second}
-use Rattle.flight_order.specs.Constraints.{passOf, timeOf, leastStarts}
+use Rattle.flight_order.specs.Constraints.{leastStarts}
 
 -- The passes of n blocks where pass p starts at y p.
 unfoldable pub passesWithStarts : ℕ → (ℕ → ℕ) → List Passes
@@ -48,9 +49,5 @@ module _ (f : FlightSection) where
           back = omega arith
 
   pub time-is : (p : ℕ) → passTime f p ≡ timeOf (f .blocks) (f .first) (f .second) p
-  unfolding passTime timeOf
+  unfolding passTime
   time-is p = refl
-
-  pub pass-is : (w k : ℕ) → passAt f w k ≡ passOf (f .blocks) w k
-  unfolding passAt passOf
-  pass-is w k = refl

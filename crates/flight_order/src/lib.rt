@@ -1,10 +1,12 @@
-// A flight in one pass order: its constraints written out, and the least start of every pass.
+// A flight in one pass order: its constraints written out, and the least start of every pass. In the literature: coupled tasks with time lags, in a given
+// sequence.
 ghost use mathlib.Core.Path.{_≡_};
-ghost use Prim.Native.Nat.{_≤_, _<_, _*_, _-_};
-ghost use lib.ListN.{length};
-ghost use Rattle.flight_order.specs.Constraints.{orderedFlight, passOf, timeOf, constraintOf};
+ghost use Prim.Native.Nat.{_<_, _*_, _-_};
+ghost use Rattle.flight_order.specs.Constraints.{orderedFlight, constraintOf};
 ghost use Rattle.flight_order.specs.Good.{Good};
-ghost use Rattle.flight_order.specs.Contracts.{Rows, Room, Rooms, Least};
+ghost use Rattle.flight_order.specs.Contracts.{Rows, WriteConstraintsPre, LeastStartsPre, Least};
+use order::pass_at;
+use order::time_of;
 
 // The passes of 32 blocks, and the numbers of the rows of their constraints.
 pub const MOST_PASSES: usize = 64;
@@ -17,25 +19,6 @@ pub struct Constraint {
     pub to: usize,
     pub up: u64,
     pub down: u64,
-}
-
-// The pass at position k: the first pass of block i is pass i, its second pass is pass n + i.
-fn pass_of(n: usize, order: u64, k: usize) -> usize
-    requires { ⌜ (n ≤ 32) × (k < 64) ⌝ }
-    ensures { λ r. ⌜ r ≡ passOf n order k ⌝ }
-{
-    if order::pass_at(order, k as u64) == 1 {
-        return n + order::seconds_before(order, k as u64) as usize;
-    }
-    order::firsts_before(order, k as u64) as usize
-}
-
-// The time that pass p takes.
-fn time_of<'a>(n: usize, first: &'a [u64], second: &'a [u64], p: usize) -> u64
-    requires { ⌜ (n ≤ length (now first)) × (n ≤ length (now second)) × (p < 2 * n) ⌝ }
-    ensures { λ r. ⌜ r ≡ timeOf n (now (first .entry)) (now (second .entry)) p ⌝ }
-{
-    if p < n { first[p] } else { second[p - n] }
 }
 
 // Constraint k: the least delay of a block, the greatest delay of a block, or the next pass after a pass and the turn.
@@ -71,8 +54,8 @@ fn constraint_at<'a>(
         };
     }
     let j = k - 2 * n;
-    let p = pass_of(n, order, j);
-    let q = pass_of(n, order, j + 1);
+    let p = pass_at(n, order, j);
+    let q = pass_at(n, order, j + 1);
     let time = time_of(n, first, second, p);
     Constraint {
         from: p,
@@ -93,7 +76,7 @@ fn write_constraints<'a>(
     most: &'a [u64],
     rows: &mut [u64],
 )
-    requires { ⌜ Room (orderedFlight n order turn (now first) (now second) (now least) (now most)) (now rows) ⌝ }
+    requires { ⌜ WriteConstraintsPre (orderedFlight n order turn (now first) (now second) (now least) (now most)) (now rows) ⌝ }
     ensures { λ _. ⌜ Rows (orderedFlight n order turn (now (first .entry)) (now (second .entry)) (now (least .entry)) (now (most .entry))) (now (rows .exit)) (4 * n - 1) ⌝ }
 {
     let count = 4 * n - 1;
@@ -121,7 +104,7 @@ pub fn least_starts<'a>(
     rows: &mut [u64],
     starts: &mut [u64],
 ) -> bool
-    requires { ⌜ Rooms (orderedFlight n order turn (now first) (now second) (now least) (now most)) (now rows) (now starts) ⌝ }
+    requires { ⌜ LeastStartsPre (orderedFlight n order turn (now first) (now second) (now least) (now most)) (now rows) (now starts) ⌝ }
     ensures { λ r. ⌜ Least (orderedFlight n order turn (now (first .entry)) (now (second .entry)) (now (least .entry)) (now (most .entry))) (now (rows .exit)) (now (starts .exit)) r ⌝ }
 {
     write_constraints(n, order, turn, first, second, least, most, rows);

@@ -11,7 +11,7 @@ use Rattle.order.specs.Children.{first-child, second-child, whole-proper}
 use Rattle.flight_search.specs.Search.{Orders, tried, searched}
 use Rattle.flight_search.specs.Orders.{ordersOf, freeSection}
 use Rattle.flight_search.specs.Searched.{searched-end, searched-both, searched-first, searched-second}
-use Rattle.flight_search.specs.Contracts.{SearchRoom, TryAsked, SearchAsked}
+use Rattle.flight_search.specs.Contracts.{SearchRoom, TryOrderPre, SearchPre}
 use Rattle.flight_search.specs.declared.Incumbent.{Incumbent}
 
 room-again : {n : ℕ} {first second delay rows₀ starts₀ rows starts : List ℕ} → SearchRoom n first second delay rows₀ starts₀
@@ -22,40 +22,40 @@ room-again r e d = record { times = r .times; rows-length = e ∙ r .rows-length
 second-left : (n left x : ℕ) → (left ≡ 0 → ⊥) → left ≤ 2 * n → n ≤ firsts x (2 * n - left) → seconds x (2 * n - left) < firsts x (2 * n - left)
 second-left n left x more within l = omega (arith, more, firsts-seconds x (2 * n - left))
 
-module _ {n left x : ℕ} {first second delay rows₀ starts₀ : List ℕ} (asked : SearchAsked n left x first second delay rows₀ starts₀) where
-  pub leaf-asked : left ≡ 0 → TryAsked n x first second delay rows₀ starts₀
-  leaf-asked e = record { room = asked .room; proper = whole-proper (rw whole at (asked .begun)) }
+module _ {n left x : ℕ} {first second delay rows₀ starts₀ : List ℕ} (pre : SearchPre n left x first second delay rows₀ starts₀) where
+  pub try-order-pre : left ≡ 0 → TryOrderPre n x first second delay rows₀ starts₀
+  try-order-pre e = record { room = pre .room; proper = whole-proper (rw whole at (pre .begun)) }
     where
       whole : 2 * n - left ≡ 2 * n
       whole = omega arith
 
   module _ (more : left ≡ 0 → ⊥) where
     pub append-within : 2 * n - left < 64
-    append-within = omega (arith, more, asked .room .times .few, asked .room .times .some)
+    append-within = omega (arith, more, pre .room .times .few, pre .room .times .some)
 
     pub append-short : x < 2 ^ (2 * n - left)
-    append-short = asked .begun .no-higher
+    append-short = pre .begun .no-higher
 
     next : 2 * n - left + 1 ≡ 2 * n - (left - 1)
-    next = omega (arith, more, asked .within)
+    next = omega (arith, more, pre .within)
 
     short : left - 1 ≤ 2 * n
-    short = omega (arith, asked .within)
+    short = omega (arith, pre .within)
 
-    pub first-asked : (a : ℕ) → a ≡ firsts x (2 * n - left) → a < n → SearchAsked n (left - 1) x first second delay rows₀ starts₀
-    first-asked a e l = record { room = asked .room; within = short; begun = rw next at (first-child (asked .begun) (omega arith)) }
+    pub first-search-pre : (a : ℕ) → a ≡ firsts x (2 * n - left) → a < n → SearchPre n (left - 1) x first second delay rows₀ starts₀
+    first-search-pre a e l = record { room = pre .room; within = short; begun = rw next at (first-child (pre .begun) (omega arith)) }
 
     second-begun : (y : ℕ) → seconds x (2 * n - left) < firsts x (2 * n - left) → y ≡ x + 2 ^ (2 * n - left) → Beginning n (2 * n - (left - 1)) y
-    second-begun y l e = rw e (rw next at (second-child (asked .begun) l))
+    second-begun y l e = rw e (rw next at (second-child (pre .begun) l))
 
-    pub only-second-asked : (a y : ℕ) → a ≡ firsts x (2 * n - left) → n ≤ a → y ≡ x + 2 ^ (2 * n - left)
-        → SearchAsked n (left - 1) y first second delay rows₀ starts₀
-    only-second-asked a y e l d = record { room = asked .room; within = short; begun = second-begun y (second-left n left x more (asked .within) (omega arith)) d }
+    pub only-second-search-pre : (a y : ℕ) → a ≡ firsts x (2 * n - left) → n ≤ a → y ≡ x + 2 ^ (2 * n - left)
+        → SearchPre n (left - 1) y first second delay rows₀ starts₀
+    only-second-search-pre a y e l d = record { room = pre .room; within = short; begun = second-begun y (second-left n left x more (pre .within) (omega arith)) d }
 
-    pub second-asked : {rows starts : List ℕ} → length rows ≡ length rows₀ → length starts ≡ length starts₀
+    pub second-search-pre : {rows starts : List ℕ} → length rows ≡ length rows₀ → length starts ≡ length starts₀
         → (a b y : ℕ) → a ≡ firsts x (2 * n - left) → b ≡ seconds x (2 * n - left) → b < a → y ≡ x + 2 ^ (2 * n - left)
-        → SearchAsked n (left - 1) y first second delay rows starts
-    second-asked lr ls a b y e d l s = record { room = room-again (asked .room) lr ls; within = short; begun = second-begun y (omega arith) s }
+        → SearchPre n (left - 1) y first second delay rows starts
+    second-search-pre lr ls a b y e d l s = record { room = room-again (pre .room) lr ls; within = short; begun = second-begun y (omega arith) s }
 
 -- What each way gives.
 module _ (n left x : ℕ) (first second delay : List ℕ) (more : left ≡ 0 → ⊥) (best r : Incumbent) where
@@ -79,7 +79,8 @@ module _ (n left x : ℕ) (first second delay : List ℕ) (more : left ≡ 0 →
   only-first a b e d h l q =
       q ∙ sym (rw (← step) at (searched-first O (left - 1) x best (rw (← step, ← e) h) (rw (← step, ← e, ← d) l)))
 
-  pub first-then-second : (after : Incumbent) (a b y : ℕ) → a ≡ firsts x (2 * n - left) → b ≡ seconds x (2 * n - left) → a < n → b < a → y ≡ x + 2 ^ (2 * n - left)
+  pub first-then-second : (after : Incumbent) (a b y : ℕ) → a ≡ firsts x (2 * n - left) → b ≡ seconds x (2 * n - left) → a < n → b < a
+      → y ≡ x + 2 ^ (2 * n - left)
       → after ≡ searched (ordersOf (freeSection n first second delay)) (left - 1) x best
       → r ≡ searched (ordersOf (freeSection n first second delay)) (left - 1) y after
       → r ≡ searched (ordersOf (freeSection n first second delay)) left x best

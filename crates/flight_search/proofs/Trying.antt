@@ -10,10 +10,10 @@ use borrow.Author.Tests.{not-true, not-false, lt-ltb, le-ltb, ne-eqb}
 use Rattle.order.specs.Order.{Proper}
 use Rattle.flight_order.specs.Constraints.{orderedFlight, leastStarts, possibleIn, orderFigure}
 use Rattle.flight_order.specs.Good.{Good, least-low}
-use Rattle.flight_order.specs.Contracts.{Rooms, Least}
+use Rattle.flight_order.specs.Contracts.{LeastStartsPre, Least}
 use Rattle.flight_search.specs.Search.{Orders, improves, tried}
 use Rattle.flight_search.specs.Orders.{ordersOf, freeSection}
-use Rattle.flight_search.specs.Contracts.{BlockTimes, TryAsked}
+use Rattle.flight_search.specs.Contracts.{BlockTimes, TryOrderPre}
 use Rattle.flight_search.specs.declared.Incumbent.{Incumbent}
 
 -- An order that is not possible, or has no smaller figure, leaves the incumbent; another replaces it.
@@ -61,11 +61,11 @@ times-good times proper = record {
   most-low = times .delay-low;
 }
 
-pub try-rooms : {n w : ℕ} {first second delay rows starts : List ℕ} → TryAsked n w first second delay rows starts
-    → Rooms (orderedFlight n w 0 first second delay delay) rows starts
-try-rooms asked = record {
-  room = record { good = times-good (asked .room .times) (asked .proper); rows-length = asked .room .rows-length };
-  starts-length = asked .room .starts-length;
+pub least-starts-pre : {n w : ℕ} {first second delay rows starts : List ℕ} → TryOrderPre n w first second delay rows starts
+    → LeastStartsPre (orderedFlight n w 0 first second delay delay) rows starts
+least-starts-pre pre = record {
+  room = record { good = times-good (pre .room .times) (pre .proper); rows-length = pre .room .rows-length };
+  starts-length = pre .room .starts-length;
 }
 
 module _ {n w : ℕ} {first second delay : List ℕ} (times : BlockTimes n first second delay) (proper : Proper n w) where

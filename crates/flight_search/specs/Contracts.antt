@@ -23,16 +23,16 @@ pub record SearchRoom (n : ℕ) (first second delay rows starts : List ℕ) : Ty
   pub rows-length : length rows ≡ 4 * (4 * n - 1)
   pub starts-length : length starts ≡ 2 * n
 
-pub record GreatRoom (n : ℕ) (first second delay rows starts : List ℕ) : Type 0 where
+pub record SearchAllPre (n : ℕ) (first second delay rows starts : List ℕ) : Type 0 where
   pub times : BlockTimes n first second delay
   pub rows-long : 508 ≤ length rows
   pub starts-long : 64 ≤ length starts
 
-pub record TryAsked (n order : ℕ) (first second delay rows starts : List ℕ) : Type 0 where
+pub record TryOrderPre (n order : ℕ) (first second delay rows starts : List ℕ) : Type 0 where
   pub room : SearchRoom n first second delay rows starts
   pub proper : Proper n order
 
-pub record SearchAsked (n left x : ℕ) (first second delay rows starts : List ℕ) : Type 0 where
+pub record SearchPre (n left x : ℕ) (first second delay rows starts : List ℕ) : Type 0 where
   pub room : SearchRoom n first second delay rows starts
   pub within : left ≤ 2 * n
   pub begun : Beginning n (2 * n - left) x

@@ -1,9 +1,9 @@
-// The search over all proper orders of a flight for one of the least figure.
+// The search over all proper orders of a flight for one of the least figure (in the literature: the sequences of coupled tasks, for the least makespan).
 ghost use mathlib.Core.Path.{_≡_};
 ghost use Prim.Native.Nat.{_*_};
 ghost use Rattle.flight_search.specs.Search.{noIncumbent, tried, searched};
 ghost use Rattle.flight_search.specs.Orders.{ordersOf, freeSection};
-ghost use Rattle.flight_search.specs.Contracts.{BlockTimes, GreatRoom, TryAsked, SearchAsked};
+ghost use Rattle.flight_search.specs.Contracts.{BlockTimes, SearchAllPre, TryOrderPre, SearchPre};
 
 // The best order so far, if one was possible.
 pub struct Incumbent {
@@ -23,7 +23,7 @@ fn try_order<'a>(
     starts: &mut [u64],
     best: Incumbent,
 ) -> Incumbent
-    requires { ⌜ TryAsked n order (now first) (now second) (now delay) (now rows) (now starts) ⌝ }
+    requires { ⌜ TryOrderPre n order (now first) (now second) (now delay) (now rows) (now starts) ⌝ }
     ensures { λ r. ⌜ r ≡ tried (ordersOf (freeSection n (now (first .entry)) (now (second .entry)) (now (delay .entry)))) order best ⌝ }
 {
     if !flight_order::least_starts(n, order, 0, first, second, delay, delay, rows, starts) {
@@ -55,7 +55,7 @@ fn search<'a>(
     starts: &mut [u64],
     best: Incumbent,
 ) -> Incumbent
-    requires { ⌜ SearchAsked n left x (now first) (now second) (now delay) (now rows) (now starts) ⌝ }
+    requires { ⌜ SearchPre n left x (now first) (now second) (now delay) (now rows) (now starts) ⌝ }
     ensures { λ r. ⌜ r ≡ searched (ordersOf (freeSection n (now (first .entry)) (now (second .entry)) (now (delay .entry)))) left x best ⌝ }
 {
     if left == 0 {
@@ -85,7 +85,7 @@ fn search_all<'a>(
     rows: &mut [u64],
     starts: &mut [u64],
 ) -> Incumbent
-    requires { ⌜ GreatRoom n (now first) (now second) (now delay) (now rows) (now starts) ⌝ }
+    requires { ⌜ SearchAllPre n (now first) (now second) (now delay) (now rows) (now starts) ⌝ }
     ensures { λ r. ⌜ r ≡ searched (ordersOf (freeSection n (now (first .entry)) (now (second .entry)) (now (delay .entry)))) (2 * n) 0 noIncumbent ⌝ }
 {
     let count = difference::ROW * (4 * n - 1);

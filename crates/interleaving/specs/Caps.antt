@@ -39,7 +39,7 @@ pub record StepCapped (J : List ℕ) (s : State) (d : ℕ) : Type 0 where
   pub size : length J ≡ instanceLength
 
 -- what a step asks: desk d has a strip left
-pub record CanServe (J : List ℕ) (s : State) (d : ℕ) : Type 0 where
+pub record StepPre (J : List ℕ) (s : State) (d : ℕ) : Type 0 where
   pub jobs : Instance J
   pub capped : Capped s
   pub desk : d < 3
@@ -102,8 +102,8 @@ module _ (J : List ℕ) (j : Instance J) (s : State) (f : Capped s) (d : ℕ) (p
       go e (yes q) = rw (q, getD-set-same (s .free) d (finish J s d) 0 (omega (arith, f .frees))) finish-small
       go e (no q) = rw (getD-set-other (s .free) d e (finish J s d) 0 q) (omega (arith, f .free e))
 
-pub can-serve-capped : {J : List ℕ} {s : State} {d : ℕ} → CanServe J s d → StepCapped J s d
-can-serve-capped {J} {s} {d} h = step-capped J (h .jobs) s (h .capped) d (h .desk) (h .strip) (h .left)
+pub step-pre-capped : {J : List ℕ} {s : State} {d : ℕ} → StepPre J s d → StepCapped J s d
+step-pre-capped {J} {s} {d} h = step-capped J (h .jobs) s (h .capped) d (h .desk) (h .strip) (h .left)
 
 -- the greater of two times that are capped, and the cost of a strip that starts there
 pub greater-capped : (a b m : ℕ) → m ≡ max a b → a ≤ freeCap → b ≤ freeCap → m ≤ freeCap

@@ -37,12 +37,14 @@ module _ (J : List ℕ) where
   bound-completes zero s B h e q = rw q h
   bound-completes (suc k) s B h e q = bound-completes k (stepOf J s (q .0)) B (h (q .0) (q .1) (q .2)) e (q .3)
 
-  over-cases : (P : Incumbent → Type 0) (g : ℕ → Incumbent → Incumbent) (n : ℕ) (b : Incumbent) → ((d : ℕ) → d < n → (r : Incumbent) → (g d r ≡ r) ⊎ P (g d r)) → (overDesks g n b ≡ b) ⊎ P (overDesks g n b)
+  over-cases : (P : Incumbent → Type 0) (g : ℕ → Incumbent → Incumbent) (n : ℕ) (b : Incumbent) → ((d : ℕ) → d < n → (r : Incumbent) → (g d r ≡ r) ⊎ P (g d r))
+      → (overDesks g n b ≡ b) ⊎ P (overDesks g n b)
   unfolding overDesks
   over-cases P g zero b h = inl refl
   over-cases P g (suc n) b h = go (h n (omega arith) (overDesks g n b)) (over-cases P g n b (λ d p. h d (omega arith)))
     where
-      go : (g n (overDesks g n b) ≡ overDesks g n b) ⊎ P (g n (overDesks g n b)) → (overDesks g n b ≡ b) ⊎ P (overDesks g n b) → (g n (overDesks g n b) ≡ b) ⊎ P (g n (overDesks g n b))
+      go : (g n (overDesks g n b) ≡ overDesks g n b) ⊎ P (g n (overDesks g n b)) → (overDesks g n b ≡ b) ⊎ P (overDesks g n b)
+          → (g n (overDesks g n b) ≡ b) ⊎ P (g n (overDesks g n b))
       go (inl e) (inl f) = inl (e ∙ f)
       go (inl e) (inr f) = inr (subst P (sym e) f)
       go (inr f) q = inr f
@@ -57,7 +59,8 @@ module _ (J : List ℕ) where
   search-attains (suc k) s b =
       over-cases (Attained J (suc k) s) (branch J (searchFrom J k) s) 3 b (λ d p r. go d p r (decLt (getD (s .taken) d 0) (getD J d 0)) (search-attains k (stepOf J s d) r))
     where
-      go : (d : ℕ) → d < 3 → (r : Incumbent) → Dec (getD (s .taken) d 0 < getD J d 0) → (searchFrom J k (stepOf J s d) r ≡ r) ⊎ Attained J k (stepOf J s d) (searchFrom J k (stepOf J s d) r)
+      go : (d : ℕ) → d < 3 → (r : Incumbent) → Dec (getD (s .taken) d 0 < getD J d 0)
+          → (searchFrom J k (stepOf J s d) r ≡ r) ⊎ Attained J k (stepOf J s d) (searchFrom J k (stepOf J s d) r)
           → (branch J (searchFrom J k) s d r ≡ r) ⊎ Attained J (suc k) s (branch J (searchFrom J k) s d r)
       go d p r (no l) i = inl (branch-no J (searchFrom J k) s d r (omega arith))
       go d p r (yes l) (inl e) = inl (branch-yes J (searchFrom J k) s d r l ∙ e)
@@ -72,7 +75,8 @@ module _ (J : List ℕ) where
       four : (a : ℕ) → a * 4 ^ suc k ≡ (a * 4) * 4 ^ k
       four a = ap (λ (x : ℕ). a * x) (pow-suc 4 k ∙ mul-comm (4 ^ k) 4) ∙ sym (mul-assoc a 4 (4 ^ k))
 
-      go : (stepOf J s (q .0) .path * 4 ^ k ≤ e .path) × (e .path < (stepOf J s (q .0) .path + 1) * 4 ^ k) → (s .path * 4 ^ suc k ≤ e .path) × (e .path < (s .path + 1) * 4 ^ suc k)
+      go : (stepOf J s (q .0) .path * 4 ^ k ≤ e .path) × (e .path < (stepOf J s (q .0) .path + 1) * 4 ^ k)
+          → (s .path * 4 ^ suc k ≤ e .path) × (e .path < (s .path + 1) * 4 ^ suc k)
       go w = (
         rw four (le-trans (mul-le-mul-right (4 ^ k) low) (w .0)),
         rw four (lt-of-lt-of-le (w .1) (mul-le-mul-right (4 ^ k) high)),
@@ -170,7 +174,8 @@ module _ (J : List ℕ) where
   search-first (suc k) s b l = λ e n w. stages k s (search-first k) 3 b (omega arith) l .first (n .0) (n .1) (n .2) e (n .3) w
 
   -- where a completion is below both incumbents, the search returns the same: the first best
-  pub any-incumbent : (k : ℕ) (s : State) (b c : Incumbent) (e : State) → Completes J k s e → e .cost < b .figure → e .cost < c .figure → b .path ≤ 0 → c .path ≤ 0 → searchFrom J k s b ≡ searchFrom J k s c
+  pub any-incumbent : (k : ℕ) (s : State) (b c : Incumbent) (e : State) → Completes J k s e → e .cost < b .figure → e .cost < c .figure → b .path ≤ 0
+      → c .path ≤ 0 → searchFrom J k s b ≡ searchFrom J k s c
   any-incumbent k s b c e q l m z y = go (search-attains k s b) (search-attains k s c)
     where
       x : Incumbent

@@ -1,4 +1,5 @@
 -- The search over the interleavings of the desks' strips, without any cut: its states, its incumbent, and what bounds all completions of a state from below.
+-- In the literature the section is a differentiation flowshop: two stages, one common machine (the scanner), then dedicated machines (the desks).
 use mathlib.Core.Path.{_≡_}
 use mathlib.Core.Bool.{cond}
 use mathlib.Core.List.{List}

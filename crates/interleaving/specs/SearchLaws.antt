@@ -47,7 +47,8 @@ over-stays g zero b h = refl
 over-stays g (suc n) b h = rw (over-stays g n b (λ d l. h d (omega arith))) (h n (omega arith))
 
 module _ (J : List ℕ) where
-  branch-falls : (f : State → Incumbent → Incumbent) (s : State) → ((t : State) (b : Incumbent) → f t b .figure ≤ b .figure) → (d : ℕ) (b : Incumbent) → branch J f s d b .figure ≤ b .figure
+  branch-falls : (f : State → Incumbent → Incumbent) (s : State) → ((t : State) (b : Incumbent) → f t b .figure ≤ b .figure) → (d : ℕ) (b : Incumbent)
+      → branch J f s d b .figure ≤ b .figure
   unfolding branch
   branch-falls f s h d b = go (decLt (getD (s .taken) d 0) (getD J d 0))
     where
@@ -87,7 +88,8 @@ module _ (J : List ℕ) where
   search-bound zero s b = keep-falls s b .1
   search-bound (suc k) s b = λ d p m. bound-down k (stepOf J s d) _ _ (at d p m) (search-bound k (stepOf J s d) (overDesks (branch J (searchFrom J k) s) d b))
     where
-      at : (d : ℕ) → d < 3 → StripLeft J s d → overDesks (branch J (searchFrom J k) s) 3 b .figure ≤ searchFrom J k (stepOf J s d) (overDesks (branch J (searchFrom J k) s) d b) .figure
+      at : (d : ℕ) → d < 3 → StripLeft J s d
+          → overDesks (branch J (searchFrom J k) s) 3 b .figure ≤ searchFrom J k (stepOf J s d) (overDesks (branch J (searchFrom J k) s) d b) .figure
       at d p m = rw (branch-yes (searchFrom J k) s d (overDesks (branch J (searchFrom J k) s) d b) m) at (over-more (branch J (searchFrom J k) s) (branch-falls (searchFrom J k) s (search-falls k)) 3 d b p)
 
   -- an incumbent that bounds the state stays: what a cut asks
@@ -96,7 +98,8 @@ module _ (J : List ℕ) where
   search-stays zero s b h = rw (le-ltb (s .cost) (b .figure) h)
   search-stays (suc k) s b h = over-stays (branch J (searchFrom J k) s) 3 b (λ d p. go d p (decLt (getD (s .taken) d 0) (getD J d 0)) (λ l. search-stays k (stepOf J s d) b (h d p l)))
     where
-      go : (d : ℕ) → d < 3 → Dec (getD (s .taken) d 0 < getD J d 0) → (StripLeft J s d → searchFrom J k (stepOf J s d) b ≡ b) → branch J (searchFrom J k) s d b ≡ b
+      go : (d : ℕ) → d < 3 → Dec (getD (s .taken) d 0 < getD J d 0) → (StripLeft J s d → searchFrom J k (stepOf J s d) b ≡ b)
+          → branch J (searchFrom J k) s d b ≡ b
       go d p (yes l) i = branch-yes (searchFrom J k) s d b l ∙ i l
       go d p (no l) i = branch-no (searchFrom J k) s d b (omega arith)
 
@@ -117,7 +120,8 @@ over-one g d b = rw (add-one d)
 module _ (J : List ℕ) where
   -- a desk that is searched, and a desk that has no strip left, for any search f
   module _ {A : Type 0} (f : State → A → A) (s : State) (d : ℕ) (b q : A) where
-    pub branch-again-yes : (n : State) (r : A) → q ≡ overDesks (branch J f s) d b → StripLeft J s d → n ≡ stepOf J s d → r ≡ f n q → r ≡ overDesks (branch J f s) (d + 1) b
+    pub branch-again-yes : (n : State) (r : A) → q ≡ overDesks (branch J f s) d b → StripLeft J s d → n ≡ stepOf J s d → r ≡ f n q
+        → r ≡ overDesks (branch J f s) (d + 1) b
     branch-again-yes n r i m e h =
         h ∙ ap (λ (x : State). f x q) e ∙ ap (f (stepOf J s d)) i ∙ sym (over-one (branch J f s) d b ∙ branch-yes J f s d (overDesks (branch J f s) d b) m)
 
@@ -128,7 +132,8 @@ module _ (J : List ℕ) where
   unfolding stepOf
   step-left s d = refl
 
-  pub search-desks : (s : State) (b r : Incumbent) (d : ℕ) → 0 < s .left → d ≤ 3 → 3 ≤ d → r ≡ overDesks (branch J (searchFrom J (s .left - 1)) s) d b → r ≡ searchFrom J (s .left) s b
+  pub search-desks : (s : State) (b r : Incumbent) (d : ℕ) → 0 < s .left → d ≤ 3 → 3 ≤ d → r ≡ overDesks (branch J (searchFrom J (s .left - 1)) s) d b
+      → r ≡ searchFrom J (s .left) s b
   unfolding searchFrom
   search-desks s b r d l a z h = h ∙ ap (λ (n : ℕ). overDesks (branch J (searchFrom J (s .left - 1)) s) n b) three ∙ sym (ap (λ (k : ℕ). searchFrom J k s b) e)
     where

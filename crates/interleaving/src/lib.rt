@@ -1,4 +1,5 @@
-// The search over the interleavings of the desks' strips: its states and one step of it. The section is one list of numbers, `jobs`: strips of each
+// The search over the interleavings of the desks' strips: its states and one step of it (in the literature: the differentiation flowshop, two stages with
+// one common machine, the scanner, and then dedicated machines, the desks, for the sum of weighted completion times). The section is one list of numbers, `jobs`: strips of each
 // desk, then scan times, desk times and weights, six to a desk (specs/Instance.antt). Desks and strips are counted from 0.
 ghost use mathlib.Core.Path.{_≡_};
 ghost use Prim.Native.Nat.{_<_};
@@ -6,7 +7,7 @@ ghost use lib.ListN.{getD};
 ghost use lib.Dec.{ltb};
 ghost use Rattle.interleaving.specs.Instance.{Instance};
 ghost use Rattle.interleaving.specs.Search.{stepOf, keep, startState};
-ghost use Rattle.interleaving.specs.Caps.{CanServe};
+ghost use Rattle.interleaving.specs.Caps.{StepPre};
 
 // Strips left, the time at which the scanner is free, the cost so far, the scanner list as a number in base 4 with the desks' numbers
 // as digits, and for each desk the time at which it is free and the strips taken.
@@ -36,7 +37,7 @@ pub fn strip_left(jobs: &[u64], s: State, d: usize) -> bool
 
 // The state after the next strip of desk d is scanned and done, each as early as it can be.
 pub fn step(jobs: &[u64], s: State, d: usize) -> State
-    requires { ⌜ CanServe (now jobs) s d ⌝ }
+    requires { ⌜ StepPre (now jobs) s d ⌝ }
     ensures { λ r. ⌜ r ≡ stepOf (now (jobs .entry)) s d ⌝ }
 {
     let mut free = s.free;

@@ -11,7 +11,7 @@ use Rattle.plan_read.specs.PlanRead.{figureFrom}
 use Rattle.judge_layout.specs.Layout.{mosaicPart, sortingPart, flightPart, verdict, layoutVerdict}
 use Rattle.judge_layout.specs.declared.Part.{Part}
 use Rattle.judge_layout.specs.declared.Verdict.{Verdict}
-use Rattle.judge_members.specs.Members.{present, memberPlace, begun, memberFollows, afterMember, headNumber}
+use Rattle.judge_members.specs.Members.{present, headForm, memberPlace, begun, memberFollows, afterMember, headNumber}
 use Rattle.judge_members.specs.declared.Progress.{Progress}
 use Rattle.judge.specs.declared.Judged.{Judged}
 
@@ -46,7 +46,7 @@ sectionsFrom (suc left) s plan section =
 
 -- the figure that a plan states for a section, 0 where it is absent
 unfoldable pub statedFigure : Sheet → List ℕ → ℕ → ℕ
-statedFigure s plan section = cond (present s section) (figureFrom plan (partAt s plan section .head)) 0
+statedFigure s plan section = cond (present s section) (figureFrom (headForm section) plan (partAt s plan section .head)) 0
 
 -- "a refused one has .. figures 0"
 unfoldable pub turnedBack : ℕ → ℕ → Judged

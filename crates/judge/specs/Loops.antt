@@ -3,22 +3,23 @@ use Prim.Native.Nat.{ℕ, suc, _+_, _-_, _*_, _^_, _≤_, _<_}
 use mathlib.Core.Path.{_≡_, refl, sym, ap, ap₂, _∙_}
 use mathlib.Core.Bool.{Bool, true, false, cond, not}
 use mathlib.Core.List.{List}
+use native.Mathlib.Nat.{mul-comm, mul-le-mul-left}
 use native.Mathlib.Omega.{arith}
 use lib.ListN.{length}
 use lib.Dec.{eqb}
 use borrow.Author.Tests.{eq-eqb, ne-eqb, not-true, not-false}
-use Rattle.field.specs.Bytes.{NumberRead}
 use Rattle.sheet.specs.Refusals.{ruleBroken}
 use Rattle.sheet.specs.Read.{readSheet}
 use Rattle.sheet.specs.Sound.{SheetSound, SortingSound}
 use Rattle.sheet.specs.Theorems.{read-sound}
 use Rattle.sheet.specs.declared.Sheet.{Sheet}
+use Rattle.plan_format.specs.Format.{sizeOf, mosaicHeadForm, batchForm, sortingHeadForm, jobForm, flightHeadForm, passesForm}
 use Rattle.plan_read.specs.PlanRead.{figureFrom}
 use Rattle.judge_layout.specs.Layout.{mosaicPart, sortingPart, flightPart, verdict, layoutVerdict}
 use Rattle.judge_layout.specs.Laws.{VerdictAsked, PartFits, parts-fit}
 use Rattle.judge_layout.specs.declared.Part.{Part}
 use Rattle.judge_layout.specs.declared.Verdict.{Verdict}
-use Rattle.judge_members.specs.Members.{present, headBytes, memberBytes, memberPlace, begun, memberFollows, afterMember, headNumber}
+use Rattle.judge_members.specs.Members.{present, headForm, memberForm, memberPlace, begun, memberFollows, afterMember, headNumber}
 use Rattle.judge_members.specs.Laws.{Kept, PlaceAsked, MemberAsked, AfterAsked, HeadAsked, begun-kept, member-kept}
 use Rattle.judge_members.specs.declared.Progress.{Progress}
 use Rattle.judge.specs.Judged.{pickPart, partAt, sectionFrom, sectionVerdict, sectionsFrom, statedFigure, turnedBack, found, concluded, judgedPlan, judged}
@@ -31,30 +32,36 @@ pub record PartsAsked (s : Sheet) (plan : List ℕ) (mosaic sorting flight : Par
 pub record StatedAsked (s : Sheet) (plan : List ℕ) (section head : ℕ) : Type 0 where
   pub sound : SheetSound s
   pub here : head ≡ partAt s plan section .head
-  pub small : head ≤ length plan
 
 -- the part that is picked is the plan's
-pub picked : (s : Sheet) (plan : List ℕ) (section : ℕ) (mosaic sorting flight part : Part) → VerdictAsked s plan mosaic sorting flight → part ≡ pickPart section mosaic sorting flight → part ≡ partAt s plan section
+pub picked : (s : Sheet) (plan : List ℕ) (section : ℕ) (mosaic sorting flight part : Part) → VerdictAsked s plan mosaic sorting flight
+    → part ≡ pickPart section mosaic sorting flight → part ≡ partAt s plan section
 unfolding partAt
 picked s plan section mosaic sorting flight part a e = e ∙ rw (a .mosaic-is, a .sorting-is, a .flight-is)
 
-part-fits : (s : Sheet) (plan : List ℕ) (section : ℕ) → PartFits plan (partAt s plan section)
-unfolding partAt pickPart
+part-fits : (s : Sheet) (plan : List ℕ) (section : ℕ) → PartFits plan (sizeOf (memberForm section)) (partAt s plan section)
+unfolding partAt pickPart memberForm
 part-fits s plan section = by-section (eqb section 1) (eqb section 2)
   where
-    by-section : (x y : Bool) → PartFits plan (cond x (mosaicPart s plan) (cond y (sortingPart s plan) (flightPart s plan)))
+    by-section : (x y : Bool)
+        → PartFits plan (sizeOf (cond x batchForm (cond y jobForm passesForm))) (cond x (mosaicPart s plan) (cond y (sortingPart s plan) (flightPart s plan)))
     by-section true y = parts-fit s plan .0
     by-section false true = parts-fit s plan .1
     by-section false false = parts-fit s plan .2
 
-place-most : (section head k : ℕ) → memberPlace section head k ≤ head + 15 + k * 13
-unfolding memberPlace headBytes memberBytes
-place-most section head k = by-section (eqb section 1) (eqb section 2)
+head-small : (section : ℕ) → sizeOf (headForm section) < 2 ^ 16
+unfolding headForm
+head-small section = by-section (eqb section 1) (eqb section 2)
   where
-    by-section : (x y : Bool) → head + cond x 7 (cond y 7 15) + k * cond x 12 (cond y 13 11) ≤ head + 15 + k * 13
+    by-section : (x y : Bool) → sizeOf (cond x mosaicHeadForm (cond y sortingHeadForm flightHeadForm)) < 2 ^ 16
     by-section true y = omega arith
     by-section false true = omega arith
     by-section false false = omega arith
+
+-- where a member stands within a plan, its place fits
+place-small : (section head k : ℕ) → head + sizeOf (memberForm section) * k < 2 ^ 63 → memberPlace section head k < 2 ^ 64
+unfolding memberPlace
+place-small section head k h = omega (arith, head-small section, mul-comm (sizeOf (memberForm section)) k)
 
 -- the sections from one on
 
@@ -74,11 +81,13 @@ pub record Outer (s : Sheet) (plan : List ℕ) (section : ℕ) : Type 0 where
 pub outer-start : (s : Sheet) (plan : List ℕ) → Outer s plan 1
 outer-start s plan = record { low = omega arith; high = omega arith; same = refl }
 
-pub sections-next : (left : ℕ) (s : Sheet) (plan : List ℕ) (section : ℕ) → sectionVerdict s plan section .number ≡ 0 → sectionsFrom (suc left) s plan section ≡ sectionsFrom left s plan (section + 1)
+pub sections-next : (left : ℕ) (s : Sheet) (plan : List ℕ) (section : ℕ) → sectionVerdict s plan section .number ≡ 0
+    → sectionsFrom (suc left) s plan section ≡ sectionsFrom left s plan (section + 1)
 unfolding sectionsFrom
 sections-next left s plan section e = rw (eq-eqb _ _ e, sectionsFrom)
 
-pub sections-stop : (left : ℕ) (s : Sheet) (plan : List ℕ) (section : ℕ) → (sectionVerdict s plan section .number ≡ 0 → ⊥) → sectionsFrom (suc left) s plan section ≡ sectionVerdict s plan section
+pub sections-stop : (left : ℕ) (s : Sheet) (plan : List ℕ) (section : ℕ) → (sectionVerdict s plan section .number ≡ 0 → ⊥)
+    → sectionsFrom (suc left) s plan section ≡ sectionVerdict s plan section
 unfolding sectionsFrom
 sections-stop left s plan section e = rw (ne-eqb _ _ e, sectionsFrom)
 
@@ -126,23 +135,31 @@ pub record Inner (s : Sheet) (plan : List ℕ) (section : ℕ) (part : Part) (k 
   pub kept : Kept p
   pub same : sectionFrom (part .members - k) s plan section part k p ≡ sectionVerdict s plan section
 
-pub section-here : (s : Sheet) (plan : List ℕ) (section : ℕ) (part : Part) → part ≡ partAt s plan section → present s section ≡ true → sectionFrom (part .members) s plan section part 0 begun ≡ sectionVerdict s plan section
+pub section-here : (s : Sheet) (plan : List ℕ) (section : ℕ) (part : Part) → part ≡ partAt s plan section → present s section ≡ true
+    → sectionFrom (part .members) s plan section part 0 begun ≡ sectionVerdict s plan section
 unfolding sectionVerdict
 section-here s plan section part e h = rw (h, e)
 
-pub member-next : (left : ℕ) (s : Sheet) (plan : List ℕ) (section : ℕ) (part : Part) (k : ℕ) (p : Progress) → memberFollows s plan section k (memberPlace section (part .head) k) p ≡ true → sectionFrom (suc left) s plan section part k p ≡ sectionFrom left s plan section part (k + 1) (afterMember s plan section (memberPlace section (part .head) k) p)
+pub member-next : (left : ℕ) (s : Sheet) (plan : List ℕ) (section : ℕ) (part : Part) (k : ℕ) (p : Progress)
+    → memberFollows s plan section k (memberPlace section (part .head) k) p ≡ true
+    → sectionFrom (suc left) s plan section part k p ≡ sectionFrom left s plan section part (k + 1) (afterMember s plan section (memberPlace section (part .head) k) p)
 unfolding sectionFrom
 member-next left s plan section part k p e = rw (e, sectionFrom)
 
-pub member-wrong : (left : ℕ) (s : Sheet) (plan : List ℕ) (section : ℕ) (part : Part) (k : ℕ) (p : Progress) → memberFollows s plan section k (memberPlace section (part .head) k) p ≡ false → sectionFrom (suc left) s plan section part k p ≡ verdict ruleBroken (memberPlace section (part .head) k)
+pub member-wrong : (left : ℕ) (s : Sheet) (plan : List ℕ) (section : ℕ) (part : Part) (k : ℕ) (p : Progress)
+    → memberFollows s plan section k (memberPlace section (part .head) k) p ≡ false
+    → sectionFrom (suc left) s plan section part k p ≡ verdict ruleBroken (memberPlace section (part .head) k)
 unfolding sectionFrom
 member-wrong left s plan section part k p e = rw (e, sectionFrom)
 
-pub members-judged : (s : Sheet) (plan : List ℕ) (section : ℕ) (part : Part) (k : ℕ) (p : Progress) → sectionFrom 0 s plan section part k p ≡ verdict (headNumber s plan section part p) (part .head)
+pub members-judged : (s : Sheet) (plan : List ℕ) (section : ℕ) (part : Part) (k : ℕ) (p : Progress)
+    → sectionFrom 0 s plan section part k p ≡ verdict (headNumber s plan section part p) (part .head)
 unfolding sectionFrom
 members-judged s plan section part k p = refl
 
-pub inner-start : (s : Sheet) (plan : List ℕ) (section : ℕ) (part mosaic sorting flight : Part) (p : Progress) (x : Bool) → Outer s plan section → section ≤ 3 → x ≡ present s section → not x ≡ false → PartsAsked s plan mosaic sorting flight → length plan * 1 < 2 ^ 63 → part ≡ pickPart section mosaic sorting flight → p ≡ begun → Inner s plan section part 0 p
+pub inner-start : (s : Sheet) (plan : List ℕ) (section : ℕ) (part mosaic sorting flight : Part) (p : Progress) (x : Bool) → Outer s plan section → section ≤ 3
+    → x ≡ present s section → not x ≡ false → PartsAsked s plan mosaic sorting flight → length plan * 1 < 2 ^ 63 → part ≡ pickPart section mosaic sorting flight
+    → p ≡ begun → Inner s plan section part 0 p
 inner-start s plan section part mosaic sorting flight p x o h ex hx a small ep eb =
     let e = picked s plan section mosaic sorting flight part (a .parts) ep in
     record {
@@ -160,7 +177,7 @@ inner-start s plan section part mosaic sorting flight p x o h ex hx a small ep e
     all = omega arith
 
 module _ (s : Sheet) (plan : List ℕ) (section : ℕ) (part : Part) (k : ℕ) (p : Progress) (i : Inner s plan section part k p) where
-  fits : PartFits plan part
+  fits : PartFits plan (sizeOf (memberForm section)) part
   fits = rw (i .here) (part-fits s plan section)
 
   module _ (less : k < part .members) where
@@ -170,16 +187,20 @@ module _ (s : Sheet) (plan : List ℕ) (section : ℕ) (part : Part) (k : ℕ) (
     opened-member : sectionFrom (suc (part .members - (k + 1))) s plan section part k p ≡ sectionVerdict s plan section
     opened-member = ap (λ n. sectionFrom n s plan section part k p) (sym left-over) ∙ i .same
 
-    pub place-asked : PlaceAsked (part .head) k
-    place-asked = record { room = omega (arith, i .small, fits .within, fits .members) }
+    before-end : part .head + sizeOf (memberForm section) * k < 2 ^ 63
+    before-end = let l : k ≤ part .members = omega arith in omega (arith, i .small, fits .within, fits .members, mul-le-mul-left (sizeOf (memberForm section)) l)
+
+    pub place-asked : PlaceAsked section (part .head) k
+    place-asked = record { room = place-small section (part .head) k before-end }
 
     pub index-fits : k + 1 < 2 ^ 64
-    index-fits = omega (arith, i .small, fits .within, fits .members)
+    index-fits =
+        let l : 1 ≤ sizeOf (memberForm section) = omega arith in
+        omega (arith, before-end, mul-le-mul-left k l, mul-comm (sizeOf (memberForm section)) k)
 
     module _ (place : ℕ) (ep : place ≡ memberPlace section (part .head) k) where
-      pub member-asked : MemberAsked s place p
-      member-asked =
-          record { sound = i .sound; room = omega (arith, i .small, ep, place-most section (part .head) k, fits .within, fits .members); kept = i .kept }
+      pub member-asked : MemberAsked s p
+      member-asked = record { sound = i .sound; kept = i .kept }
 
       module _ (x : Bool) (ex : x ≡ memberFollows s plan section k place p) where
         followed : not x ≡ false → memberFollows s plan section k (memberPlace section (part .head) k) p ≡ true
@@ -239,25 +260,23 @@ module _ (s : Sheet) (plan : List ℕ) (section head : ℕ) (a : StatedAsked s p
   unfolding statedFigure
   stated-none h = rw (← ex, not-true x h)
 
-  pub stated-here : (figure : ℕ) → not x ≡ false → NumberRead plan (head + 3) 4 figure → figure ≡ statedFigure s plan section
-  unfolding statedFigure figureFrom
-  stated-here figure h n = n .is ∙ rw (← ex, not-false x h, a .here)
+  pub stated-here : (figure : ℕ) → not x ≡ false → figure ≡ figureFrom (headForm section) plan head → figure ≡ statedFigure s plan section
+  unfolding statedFigure
+  stated-here figure h e = e ∙ rw (← ex, not-false x h, a .here)
 
-module _ (s : Sheet) (plan : List ℕ) (mosaic sorting flight : Part) (em : mosaic ≡ mosaicPart s plan) (es : sorting ≡ sortingPart s plan) (ef : flight ≡ flightPart s plan) where
-  head-small : (p q : Part) → p ≡ q → PartFits plan q → p .head ≤ length plan
-  head-small p q e f = rw e (omega (arith, f .within, f .members))
-
+module _ (s : Sheet) (plan : List ℕ) (mosaic sorting flight : Part) (em : mosaic ≡ mosaicPart s plan) (es : sorting ≡ sortingPart s plan)
+    (ef : flight ≡ flightPart s plan) where
   pub stated-mosaic : SheetSound s → StatedAsked s plan 1 (mosaic .head)
   unfolding partAt pickPart
-  stated-mosaic sound = record { sound = sound; here = ap (λ p. p .head) em; small = head-small mosaic _ em (parts-fit s plan .0) }
+  stated-mosaic sound = record { sound = sound; here = ap (λ p. p .head) em }
 
   pub stated-sorting : SheetSound s → StatedAsked s plan 2 (sorting .head)
   unfolding partAt pickPart
-  stated-sorting sound = record { sound = sound; here = ap (λ p. p .head) es; small = head-small sorting _ es (parts-fit s plan .1) }
+  stated-sorting sound = record { sound = sound; here = ap (λ p. p .head) es }
 
   pub stated-flight : SheetSound s → StatedAsked s plan 3 (flight .head)
   unfolding partAt pickPart
-  stated-flight sound = record { sound = sound; here = ap (λ p. p .head) ef; small = head-small flight _ ef (parts-fit s plan .2) }
+  stated-flight sound = record { sound = sound; here = ap (λ p. p .head) ef }
 
 module _ (s : Sheet) (plan : List ℕ) (layout : Verdict) (el : layout ≡ layoutVerdict s plan) where
   pub layout-wrong : (r : Judged) → (layout .number ≡ 0 → ⊥) → r ≡ turnedBack (layout .number) (layout .place) → r ≡ judgedPlan s plan
@@ -269,7 +288,9 @@ module _ (s : Sheet) (plan : List ℕ) (layout : Verdict) (el : layout ≡ layou
     unfolding judgedPlan concluded
     section-wrong r h e = e ∙ rw (← el, eq-eqb _ _ hl, ← ev, ne-eqb _ _ h)
 
-    pub all-right : (mosaic sorting flight : ℕ) → v .number ≡ 0 → mosaic ≡ statedFigure s plan 1 → sorting ≡ statedFigure s plan 2 → flight ≡ statedFigure s plan 3 → _≡_ {A = Judged} (record { number = 0; place = 0; mosaic = mosaic; sorting = sorting; flight = flight }) (judgedPlan s plan)
+    pub all-right : (mosaic sorting flight : ℕ) → v .number ≡ 0 → mosaic ≡ statedFigure s plan 1 → sorting ≡ statedFigure s plan 2
+        → flight ≡ statedFigure s plan 3
+        → _≡_ {A = Judged} (record { number = 0; place = 0; mosaic = mosaic; sorting = sorting; flight = flight }) (judgedPlan s plan)
     unfolding judgedPlan concluded found
     all-right mosaic sorting flight h e₁ e₂ e₃ = rw (← el, eq-eqb _ _ hl, ← ev, eq-eqb _ _ h, e₁, e₂, e₃)
 
@@ -285,7 +306,8 @@ module _ (sheet plan : List ℕ) (s : Sheet) (es : s ≡ readSheet sheet) where
   pub sheet-sound : s .number ≡ 0 → SheetSound s
   sheet-sound h = rw es (read-sound sheet (sym (ap (λ x. x .number) es) ∙ h))
 
-pub sorting-at : (s : Sheet) (plan : List ℕ) (mosaic : Part) → SheetSound s → mosaic ≡ mosaicPart s plan → (SortingSound (s .sorting)) × (mosaic .end ≡ mosaicPart s plan .end)
+pub sorting-at : (s : Sheet) (plan : List ℕ) (mosaic : Part) → SheetSound s → mosaic ≡ mosaicPart s plan
+    → (SortingSound (s .sorting)) × (mosaic .end ≡ mosaicPart s plan .end)
 sorting-at s plan mosaic sound e = (sound .sorting, ap (λ p. p .end) e)
 
 pub flight-at : (s : Sheet) (plan : List ℕ) (sorting : Part) → sorting ≡ sortingPart s plan → sorting .end ≡ sortingPart s plan .end

@@ -1,5 +1,4 @@
 // The judge of a plan: from the rules alone, the number and place of the first fault, or the figure of each section.
-use field::number;
 use judge_layout::Part;
 use judge_layout::Verdict;
 use judge_layout::flight_part;
@@ -8,6 +7,7 @@ use judge_layout::mosaic_part;
 use judge_layout::sorting_part;
 use judge_members::after_member;
 use judge_members::begin;
+use judge_members::head_figure;
 use judge_members::head_number;
 use judge_members::is_present;
 use judge_members::member_follows;
@@ -108,7 +108,7 @@ fn stated_figure(s: Sheet, plan: &[u8], section: u64, head: usize) -> u64
     if !is_present(s, section) {
         return 0;
     }
-    number(plan, head + 3, 4)
+    head_figure(plan, section, head)
 }
 
 // Judges a plan for a sound sheet.

@@ -3,65 +3,55 @@ use Prim.Native.Nat.{ℕ, zero, suc, _+_, _-_, _*_, _^_, _≤_, _<_, max}
 use mathlib.Core.Path.{_≡_, refl, sym, ap, _∙_}
 use mathlib.Core.Bool.{Bool, true, false, not, _&&_, _||_}
 use mathlib.Core.List.{List}
-use native.Mathlib.Nat.{mul-suc}
 use native.Mathlib.Decide.{decLt}
 use native.Mathlib.Numerals.{add-one}
 use native.Mathlib.Omega.{arith}
-use lib.ListN.{getD}
 use lib.Dec.{leb, eqb}
 use borrow.Author.Tests.{lt-ltb, le-ltb, le-leb, lt-leb, eq-eqb, ne-eqb, not-true, not-false}
-use Rattle.field.specs.Bytes.{NumberRead}
 use Rattle.order.specs.Order.{isProper}
 use Rattle.order.specs.Decided.{proper-true}
+use Rattle.order.specs.Passes.{passAt}
+use Rattle.order.specs.PassLaws.{pass-known}
 use Rattle.sheet.specs.declared.FlightSection.{FlightSection}
 use Rattle.base.specs.Sums.{greatestOver}
-use Rattle.rules.specs.Flight.{noPasses, passesAt, passStart, passTime, passEnd, clearAt, passAt, flightFigure}
-use Rattle.plan_read.specs.PlanRead.{passesFrom, membersFrom}
-use Rattle.running.specs.FunctionLaws.{PositionPre, TimeTold}
+use Rattle.rules.specs.Flight.{noPasses, passesAt, passStart, passTime, passEnd, clearAt, flightFigure}
+use Rattle.plan_format.specs.Format.{sizeOf, widthOf, passesForm}
+use Rattle.plan_read.specs.PlanRead.{passesFrom, blocksFrom, PassesRead}
+use Rattle.plan_read.specs.Laws.{member-at}
+use Rattle.running.specs.FunctionLaws.{TimeTold}
 use Rattle.rules.specs.declared.Passes.{Passes}
-use Rattle.rules_laws.specs.FlightRunning.{pass-known}
 use Rattle.judge_rules.specs.Follows.{passesInOrder, flightHead}
-use Rattle.judge_flight.specs.Starts.{passesOf, startOf, endOf, StartAsked, StartTold, FigureTold, HeadAsked, PassesAsked, OrderAsked}
-
--- a member of a plan, by its index
-pub member-at : {A : Type 0} (read : List ℕ → ℕ → A) (size : ℕ) (plan : List ℕ) (at n i : ℕ) (none : A) → i < n → getD (membersFrom read size plan at n) i none ≡ read plan (at + size * i)
-unfolding membersFrom
-member-at read size plan at zero i none h = absurd (omega arith)
-member-at read size plan at (suc n) zero none h = ap (read plan) (omega arith)
-member-at read size plan at (suc n) (suc i) none h =
-    member-at read size plan (at + size) n i none (omega arith) ∙ ap (read plan) place
-  where
-    place : at + size + size * i ≡ at + size * suc i
-    place = omega (arith, mul-suc size i)
+use Rattle.judge_flight.specs.Starts.{startOf, endOf, StartAsked, StartTold, FigureTold, HeadAsked, PassesAsked, OrderAsked}
 
 module _ (f : FlightSection) (plan : List ℕ) (at p : ℕ) (known : p < 2 * f .blocks) where
-  start-case : Dec (p < f .blocks) → startOf plan at (f .blocks) p ≡ passStart f (passesOf plan at (f .blocks)) p
-  unfolding startOf passStart passesAt passesOf noPasses passesFrom
-  start-case (yes h) = rw (lt-ltb _ _ h, member-at passesFrom 11 plan at (f .blocks) p noPasses h)
+  start-case : Dec (p < f .blocks) → startOf plan at (f .blocks) p ≡ passStart f (blocksFrom plan at (f .blocks)) p
+  unfolding startOf passStart passesAt
+  start-case (yes h) = rw (lt-ltb _ _ h, member-at passesFrom (sizeOf passesForm) plan at (f .blocks) p noPasses h)
   start-case (no h) =
       let l : f .blocks ≤ p = omega arith in
       let k : p - f .blocks < f .blocks = omega arith in
-      rw (le-ltb _ _ l, member-at passesFrom 11 plan at (f .blocks) (p - f .blocks) noPasses k)
+      rw (le-ltb _ _ l, member-at passesFrom (sizeOf passesForm) plan at (f .blocks) (p - f .blocks) noPasses k)
 
   -- what the bytes give is the start and the end that the rules name
-  pub start-is : startOf plan at (f .blocks) p ≡ passStart f (passesOf plan at (f .blocks)) p
+  pub start-is : startOf plan at (f .blocks) p ≡ passStart f (blocksFrom plan at (f .blocks)) p
   start-is = start-case (decLt p (f .blocks))
 
-  pub end-is : endOf f plan at p ≡ passEnd f (passesOf plan at (f .blocks)) p
+  pub end-is : endOf f plan at p ≡ passEnd f (blocksFrom plan at (f .blocks)) p
   unfolding endOf passEnd
   end-is = ap (λ n. n + passTime f p) start-is
 
-module _ (plan : List ℕ) (at n p value : ℕ) where
-  pub first-start : p < n → NumberRead plan (at + 11 * p + 3) 4 value → StartTold (startOf plan at n p) value
+module _ (plan : List ℕ) (at n p : ℕ) (block : Passes) where
+  pub first-start : p < n → PassesRead plan (at + sizeOf passesForm * p) block → StartTold (startOf plan at n p) (block .first)
   unfolding startOf
-  first-start h r = record { is = rw (lt-ltb _ _ h) (r .is); fits = r .fits }
+  first-start h r = record { is = rw (lt-ltb _ _ h) (ap (λ (q : Passes). q .first) (r .is)); fits = r .fits .first }
 
-  pub second-start : n ≤ p → NumberRead plan (at + 11 * (p - n) + 7) 4 value → StartTold (startOf plan at n p) value
+  pub second-start : n ≤ p → PassesRead plan (at + sizeOf passesForm * (p - n)) block → StartTold (startOf plan at n p) (block .second)
   unfolding startOf
-  second-start h r = record { is = rw (le-ltb _ _ h) (r .is); fits = r .fits }
+  second-start h r = record { is = rw (le-ltb _ _ h) (ap (λ (q : Passes). q .second) (r .is)); fits = r .fits .second }
 
 module _ (f : FlightSection) (plan : List ℕ) (at p : ℕ) where
-  pub end-told : (start time : ℕ) → StartTold (startOf plan at (f .blocks) p) start → TimeTold (passTime f p) time → FigureTold (endOf f plan at p) (start + time)
+  pub end-told : (start time : ℕ) → StartTold (startOf plan at (f .blocks) p) start → TimeTold (passTime f p) time
+      → FigureTold (endOf f plan at p) (start + time)
   unfolding endOf
   end-told start time t u = record { is = rw (t .is, u .is); fits = omega (arith, t .fits, u .fits) }
 
@@ -70,7 +60,8 @@ pub record OrderedSoFar (f : FlightSection) (order : ℕ) (ps : List Passes) (k 
   pub within : k ≤ 2 * f .blocks - 1
   pub so-far : passesInOrder f order ps k ≡ true
 
-order-suc : (f : FlightSection) (order : ℕ) (ps : List Passes) (k : ℕ) → passesInOrder f order ps (suc k) ≡ (passesInOrder f order ps k && leb (clearAt f ps (passAt f order k)) (passStart f ps (passAt f order (k + 1))))
+order-suc : (f : FlightSection) (order : ℕ) (ps : List Passes) (k : ℕ)
+    → passesInOrder f order ps (suc k) ≡ (passesInOrder f order ps k && leb (clearAt f ps (passAt (f .blocks) order k)) (passStart f ps (passAt (f .blocks) order (k + 1))))
 unfolding passesInOrder
 order-suc f order ps k = refl
 
@@ -86,67 +77,71 @@ pub ordered-none : (f : FlightSection) (order : ℕ) (ps : List Passes) → Orde
 unfolding passesInOrder
 ordered-none f order ps = record { within = omega arith; so-far = refl }
 
-module _ (f : FlightSection) (order : ℕ) (plan : List ℕ) (at k : ℕ) (a : OrderAsked f order at) (t : OrderedSoFar f order (passesOf plan at (f .blocks)) k) (less : k + 1 < 2 * f .blocks) (p q start end : ℕ) (ep : p ≡ passAt f order k) (eq : q ≡ passAt f order (k + 1)) (ts : StartTold (startOf plan at (f .blocks) q) start) (te : FigureTold (endOf f plan at p) end) where
+module _ (f : FlightSection) (order : ℕ) (plan : List ℕ) (at k : ℕ) (a : OrderAsked f order at) (t : OrderedSoFar f order (blocksFrom plan at (f .blocks)) k)
+    (less : k + 1 < 2 * f .blocks) (p q start end : ℕ) (ep : p ≡ passAt (f .blocks) order k) (eq : q ≡ passAt (f .blocks) order (k + 1))
+    (ts : StartTold (startOf plan at (f .blocks) q) start) (te : FigureTold (endOf f plan at p) end) where
   known-p : p < 2 * f .blocks
-  known-p = rw ep (pass-known f order (a .proper) k (omega arith))
+  known-p = rw ep (pass-known (a .proper) k (omega arith))
 
   known-q : q < 2 * f .blocks
-  known-q = rw eq (pass-known f order (a .proper) (k + 1) less)
+  known-q = rw eq (pass-known (a .proper) (k + 1) less)
 
-  end-there : end ≡ clearAt f (passesOf plan at (f .blocks)) (passAt f order k)
+  end-there : end ≡ clearAt f (blocksFrom plan at (f .blocks)) (passAt (f .blocks) order k)
   unfolding clearAt
-  end-there = te .is ∙ end-is f plan at p known-p ∙ ap (passEnd f (passesOf plan at (f .blocks))) ep
+  end-there = te .is ∙ end-is f plan at p known-p ∙ ap (passEnd f (blocksFrom plan at (f .blocks))) ep
 
-  start-there : start ≡ passStart f (passesOf plan at (f .blocks)) (passAt f order (k + 1))
-  start-there = ts .is ∙ start-is f plan at q known-q ∙ ap (passStart f (passesOf plan at (f .blocks))) eq
+  start-there : start ≡ passStart f (blocksFrom plan at (f .blocks)) (passAt (f .blocks) order (k + 1))
+  start-there = ts .is ∙ start-is f plan at q known-q ∙ ap (passStart f (blocksFrom plan at (f .blocks))) eq
 
-  pub ordered-more : end ≤ start → OrderedSoFar f order (passesOf plan at (f .blocks)) (k + 1)
+  pub ordered-more : end ≤ start → OrderedSoFar f order (blocksFrom plan at (f .blocks)) (k + 1)
   ordered-more h =
       record {
         within = omega arith;
-        so-far = ap (passesInOrder f order (passesOf plan at (f .blocks))) (add-one k) ∙ order-suc f order (passesOf plan at (f .blocks)) k ∙ rw (t .so-far, ← end-there, ← start-there, le-leb _ _ h);
+        so-far = ap (passesInOrder f order (blocksFrom plan at (f .blocks))) (add-one k) ∙ order-suc f order (blocksFrom plan at (f .blocks)) k ∙ rw (t .so-far, ← end-there, ← start-there, le-leb _ _ h);
       }
 
-  pub ordered-wrong : start < end → false ≡ passesInOrder f order (passesOf plan at (f .blocks)) (2 * f .blocks - 1)
-  ordered-wrong h = sym (ap (passesInOrder f order (passesOf plan at (f .blocks))) all ∙ order-stays f order (passesOf plan at (f .blocks)) (suc k) (2 * f .blocks - 1 - suc k) here)
+  pub ordered-wrong : start < end → false ≡ passesInOrder f order (blocksFrom plan at (f .blocks)) (2 * f .blocks - 1)
+  ordered-wrong h = sym (ap (passesInOrder f order (blocksFrom plan at (f .blocks))) all ∙ order-stays f order (blocksFrom plan at (f .blocks)) (suc k) (2 * f .blocks - 1 - suc k) here)
     where
       all : 2 * f .blocks - 1 ≡ suc k + (2 * f .blocks - 1 - suc k)
       all = omega arith
 
-      here : passesInOrder f order (passesOf plan at (f .blocks)) (suc k) ≡ false
-      here = order-suc f order (passesOf plan at (f .blocks)) k ∙ rw (t .so-far, ← end-there, ← start-there, lt-leb _ _ h)
+      here : passesInOrder f order (blocksFrom plan at (f .blocks)) (suc k) ≡ false
+      here = order-suc f order (blocksFrom plan at (f .blocks)) k ∙ rw (t .so-far, ← end-there, ← start-there, lt-leb _ _ h)
 
-pub ordered-all : (f : FlightSection) (order : ℕ) (ps : List Passes) (k : ℕ) → OrderedSoFar f order ps k → 2 * f .blocks ≤ k + 1 → true ≡ passesInOrder f order ps (2 * f .blocks - 1)
+pub ordered-all : (f : FlightSection) (order : ℕ) (ps : List Passes) (k : ℕ) → OrderedSoFar f order ps k → 2 * f .blocks ≤ k + 1
+    → true ≡ passesInOrder f order ps (2 * f .blocks - 1)
 ordered-all f order ps k t h = sym (ap (passesInOrder f order ps) all ∙ t .so-far)
   where
     all : 2 * f .blocks - 1 ≡ k
     all = let w = t .within in omega arith
 
 module _ (f : FlightSection) (order at k p : ℕ) (a : OrderAsked f order at) (less : k + 1 < 2 * f .blocks) where
-  pub this-position : PositionPre f order k
-  this-position = record { sound = a .sound; known = omega arith }
+  pub this-position : k < 64
+  this-position = omega (arith, a .sound .most-blocks)
 
-  pub next-position : PositionPre f order (k + 1)
-  next-position = record { sound = a .sound; known = less }
+  pub next-position : k + 1 < 64
+  next-position = omega (arith, a .sound .most-blocks)
 
-  pub next-start : p ≡ passAt f order (k + 1) → StartAsked at (f .blocks) p
-  next-start e = record { room = a .room; few = a .sound .most-blocks; known = rw e (pass-known f order (a .proper) (k + 1) less) }
+  pub next-start : p ≡ passAt (f .blocks) order (k + 1) → StartAsked at (f .blocks) p
+  next-start e = record { room = a .room; few = a .sound .most-blocks; known = rw e (pass-known (a .proper) (k + 1) less) }
 
-  pub this-end : p ≡ passAt f order k → PassesAsked f at p
-  this-end e = record { sound = a .sound; room = a .room; known = rw e (pass-known f order (a .proper) k (omega arith)) }
+  pub this-end : p ≡ passAt (f .blocks) order k → PassesAsked f at p
+  this-end e = record { sound = a .sound; room = a .room; known = rw e (pass-known (a .proper) k (omega arith)) }
 
 -- the greatest end of the first p passes
 pub record LatestSoFar (f : FlightSection) (ps : List Passes) (p value : ℕ) : Type 0 where
   pub within : p ≤ 2 * f .blocks
   pub is : value ≡ greatestOver p (λ q. passEnd f ps q)
-  pub fits : value < 2 ^ 33
+  pub fits : value < 2 ^ (8 * widthOf passesForm 0 + 1)
 
 pub latest-none : (f : FlightSection) (ps : List Passes) → LatestSoFar f ps 0 0
 unfolding greatestOver
 latest-none f ps = record { within = omega arith; is = refl; fits = omega arith }
 
-module _ (f : FlightSection) (plan : List ℕ) (at p value : ℕ) (t : LatestSoFar f (passesOf plan at (f .blocks)) p value) where
-  pub latest-more : (end next : ℕ) → p < 2 * f .blocks → FigureTold (endOf f plan at p) end → next ≡ max value end → LatestSoFar f (passesOf plan at (f .blocks)) (p + 1) next
+module _ (f : FlightSection) (plan : List ℕ) (at p value : ℕ) (t : LatestSoFar f (blocksFrom plan at (f .blocks)) p value) where
+  pub latest-more : (end next : ℕ) → p < 2 * f .blocks → FigureTold (endOf f plan at p) end → next ≡ max value end
+      → LatestSoFar f (blocksFrom plan at (f .blocks)) (p + 1) next
   unfolding greatestOver
   latest-more end next h u e =
       let b = t .fits in
@@ -160,9 +155,9 @@ module _ (f : FlightSection) (plan : List ℕ) (at p value : ℕ) (t : LatestSoF
   pub latest-asked : HeadAsked f at → p < 2 * f .blocks → PassesAsked f at p
   latest-asked a h = record { sound = a .sound; room = a .room; known = h }
 
-  pub latest-all : 2 * f .blocks ≤ p → FigureTold (flightFigure f (passesOf plan at (f .blocks))) value
+  pub latest-all : 2 * f .blocks ≤ p → FigureTold (flightFigure f (blocksFrom plan at (f .blocks))) value
   unfolding flightFigure
-  latest-all h = record { is = t .is ∙ ap (λ n. greatestOver n (λ q. passEnd f (passesOf plan at (f .blocks)) q)) all; fits = t .fits }
+  latest-all h = record { is = t .is ∙ ap (λ n. greatestOver n (λ q. passEnd f (blocksFrom plan at (f .blocks)) q)) all; fits = t .fits }
     where
       all : p ≡ 2 * f .blocks
       all = let w = t .within in omega arith
@@ -187,24 +182,26 @@ third-wrong : (x y z w : Bool) → x ≡ true → y ≡ true → z ≡ false →
 third-wrong x y z w ex ey ez = rw (ex, ey, ez)
 
 module _ (f : FlightSection) (members order : ℕ) (plan : List ℕ) (at : ℕ) where
-  pub members-wrong : (members ≡ f .blocks → ⊥) → false ≡ flightHead f members order (passesOf plan at members)
+  pub members-wrong : (members ≡ f .blocks → ⊥) → false ≡ flightHead f members order (blocksFrom plan at members)
   unfolding flightHead
   members-wrong h = rw (ne-eqb _ _ h)
 
   module _ (em : members ≡ f .blocks) (x : Bool) (ex : x ≡ isProper (f .blocks) order) where
-    pub proper-wrong : not x ≡ true → false ≡ flightHead f members order (passesOf plan at members)
+    pub proper-wrong : not x ≡ true → false ≡ flightHead f members order (blocksFrom plan at members)
     unfolding flightHead
     proper-wrong h = rw (eq-eqb _ _ em, ← ex, not-true x h)
 
     module _ (hx : not x ≡ false) where
-      pub given-wrong : f .ordered ≡ true → (order ≡ f .order → ⊥) → false ≡ flightHead f members order (passesOf plan at members)
+      pub given-wrong : f .ordered ≡ true → (order ≡ f .order → ⊥) → false ≡ flightHead f members order (blocksFrom plan at members)
       unfolding flightHead
       given-wrong g h = third-wrong _ _ _ _ (eq-eqb _ _ em) (sym ex ∙ not-false x hx) (given-other (f .ordered) (eqb order (f .order)) g (ne-eqb _ _ h))
 
-      pub head-given : (r : Bool) → f .ordered ≡ true → order ≡ f .order → r ≡ passesInOrder f order (passesOf plan at (f .blocks)) (2 * f .blocks - 1) → r ≡ flightHead f members order (passesOf plan at members)
+      pub head-given : (r : Bool) → f .ordered ≡ true → order ≡ f .order → r ≡ passesInOrder f order (blocksFrom plan at (f .blocks)) (2 * f .blocks - 1)
+          → r ≡ flightHead f members order (blocksFrom plan at members)
       unfolding flightHead
-      head-given r g h e = all-right _ _ _ _ r (eq-eqb _ _ em) (sym ex ∙ not-false x hx) (given-right (f .ordered) (eqb order (f .order)) g (eq-eqb _ _ h)) (e ∙ ap (λ n. passesInOrder f order (passesOf plan at n) (2 * f .blocks - 1)) (sym em))
+      head-given r g h e = all-right _ _ _ _ r (eq-eqb _ _ em) (sym ex ∙ not-false x hx) (given-right (f .ordered) (eqb order (f .order)) g (eq-eqb _ _ h)) (e ∙ ap (λ n. passesInOrder f order (blocksFrom plan at n) (2 * f .blocks - 1)) (sym em))
 
-      pub head-free : (r : Bool) → f .ordered ≡ false → r ≡ passesInOrder f order (passesOf plan at (f .blocks)) (2 * f .blocks - 1) → r ≡ flightHead f members order (passesOf plan at members)
+      pub head-free : (r : Bool) → f .ordered ≡ false → r ≡ passesInOrder f order (blocksFrom plan at (f .blocks)) (2 * f .blocks - 1)
+          → r ≡ flightHead f members order (blocksFrom plan at members)
       unfolding flightHead
-      head-free r g e = all-right _ _ _ _ r (eq-eqb _ _ em) (sym ex ∙ not-false x hx) (none-given (f .ordered) (eqb order (f .order)) g) (e ∙ ap (λ n. passesInOrder f order (passesOf plan at n) (2 * f .blocks - 1)) (sym em))
+      head-free r g e = all-right _ _ _ _ r (eq-eqb _ _ em) (sym ex ∙ not-false x hx) (none-given (f .ordered) (eqb order (f .order)) g) (e ∙ ap (λ n. passesInOrder f order (blocksFrom plan at n) (2 * f .blocks - 1)) (sym em))

@@ -1,15 +1,17 @@
 // The passes of a plan's flight: whether they come in the order that its head states, one after another, and when the last one ends.
 // The first member of the flight stands at offset `at` of the plan.
 use base::greater;
-use field::number;
-use running::flight::pass_at;
+use order::pass_at;
+use plan_format::PASSES_SIZE;
+use plan_read::passes_from;
 use running::flight::pass_time;
 use sheet::FlightSection;
 ghost use mathlib.Core.Path.{_≡_};
 ghost use Prim.Native.Nat.{_+_, _-_, _*_, _<_};
 ghost use Rattle.rules.specs.Flight.{flightFigure};
+ghost use Rattle.plan_read.specs.PlanRead.{blocksFrom};
 ghost use Rattle.judge_rules.specs.Follows.{passesInOrder, flightHead};
-ghost use Rattle.judge_flight.specs.Starts.{StartAsked, StartTold, PassesAsked, OrderAsked, FigureTold, HeadAsked, startOf, endOf, passesOf};
+ghost use Rattle.judge_flight.specs.Starts.{StartAsked, StartTold, PassesAsked, OrderAsked, FigureTold, HeadAsked, startOf, endOf};
 
 // The start of pass p of n blocks.
 fn pass_start(plan: &[u8], at: usize, n: usize, p: usize) -> u64
@@ -17,9 +19,11 @@ fn pass_start(plan: &[u8], at: usize, n: usize, p: usize) -> u64
     ensures { λ r. ⌜ StartTold (startOf (now (plan .entry)) at n p) r ⌝ }
 {
     if p < n {
-        return number(plan, at + 11 * p + 3, 4);
+        let block = passes_from(plan, at + PASSES_SIZE * p);
+        return block.first;
     }
-    number(plan, at + 11 * (p - n) + 7, 4)
+    let block = passes_from(plan, at + PASSES_SIZE * (p - n));
+    block.second
 }
 
 // The end of pass p.
@@ -33,13 +37,13 @@ fn pass_end(f: FlightSection, plan: &[u8], at: usize, p: usize) -> u64
 // Whether each pass starts no earlier than the one before it in the order ends.
 pub fn passes_in_order(f: FlightSection, order: u64, plan: &[u8], at: usize) -> bool
     requires { ⌜ OrderAsked f order at ⌝ }
-    ensures { λ r. ⌜ r ≡ passesInOrder f order (passesOf (now (plan .entry)) at (f .blocks)) (2 * f .blocks - 1) ⌝ }
+    ensures { λ r. ⌜ r ≡ passesInOrder f order (blocksFrom (now (plan .entry)) at (f .blocks)) (2 * f .blocks - 1) ⌝ }
 {
     let n = f.blocks;
     let mut k: usize = 0;
     while k + 1 < 2 * n {
-        let p = pass_at(f, order, k);
-        let q = pass_at(f, order, k + 1);
+        let p = pass_at(f.blocks, order, k);
+        let q = pass_at(f.blocks, order, k + 1);
         if pass_start(plan, at, n, q) < pass_end(f, plan, at, p) {
             return false;
         }
@@ -51,7 +55,7 @@ pub fn passes_in_order(f: FlightSection, order: u64, plan: &[u8], at: usize) -> 
 // The end of the last pass.
 pub fn flight_figure(f: FlightSection, plan: &[u8], at: usize) -> u64
     requires { ⌜ HeadAsked f at ⌝ }
-    ensures { λ r. ⌜ FigureTold (flightFigure f (passesOf (now (plan .entry)) at (f .blocks))) r ⌝ }
+    ensures { λ r. ⌜ FigureTold (flightFigure f (blocksFrom (now (plan .entry)) at (f .blocks))) r ⌝ }
 {
     let n = f.blocks;
     let mut greatest: u64 = 0;
@@ -66,7 +70,7 @@ pub fn flight_figure(f: FlightSection, plan: &[u8], at: usize) -> u64
 // What is checked at the head of a flight, its members judged.
 pub fn flight_head(f: FlightSection, members: usize, order: u64, plan: &[u8], at: usize) -> bool
     requires { ⌜ HeadAsked f at ⌝ }
-    ensures { λ r. ⌜ r ≡ flightHead f members order (passesOf (now (plan .entry)) at members) ⌝ }
+    ensures { λ r. ⌜ r ≡ flightHead f members order (blocksFrom (now (plan .entry)) at members) ⌝ }
 {
     if members != f.blocks {
         return false;

@@ -7,13 +7,13 @@ use lib.Dec.{eqb}
 use borrow.Author.Tests.{eq-eqb, eqb-true}
 use Rattle.order.specs.Order.{Decides}
 use Rattle.sheet.specs.declared.Sheet.{Sheet}
-use Rattle.plan_read.specs.PlanRead.{orderFrom, batchFrom, jobFrom, passesFrom}
-use Rattle.judge_flight.specs.Starts.{passesOf}
+use Rattle.plan_format.specs.Format.{sizeOf, flightHeadForm, passesForm}
+use Rattle.plan_read.specs.PlanRead.{orderFrom, batchFrom, jobFrom, passesFrom, blocksFrom}
+use Rattle.plan_read.specs.Laws.{length-from}
 use Rattle.judge_layout.specs.declared.Part.{Part}
 use Rattle.judge_members.specs.Members.{memberFollows, headFollows}
 use Rattle.judge_members.specs.declared.Progress.{Progress}
 use Rattle.judge_laws.specs.Tests.{true-batch, batch-true, true-job, job-true, true-done, done-true, true-block, block-true, true-head, head-true}
-use Rattle.judge_laws.specs.Sections.{length-from}
 use Rattle.judge_laws.specs.Fault.{MemberFollows, HeadFollows}
 
 -- a test that is true exactly where a rule holds
@@ -26,7 +26,8 @@ one-of-three true c dp dq dr = dp
 one-of-three false true dp dq dr = dq
 one-of-three false false dp dq dr = dr
 
-pub member-decided : (s : Sheet) (plan : List ℕ) (section k place : ℕ) (st : Progress) → Decides (MemberFollows s plan section k place st) (memberFollows s plan section k place st)
+pub member-decided : (s : Sheet) (plan : List ℕ) (section k place : ℕ) (st : Progress)
+    → Decides (MemberFollows s plan section k place st) (memberFollows s plan section k place st)
 unfolding MemberFollows memberFollows
 member-decided s plan section k place st =
     one-of-three (eqb section 1) (eqb section 2)
@@ -34,15 +35,16 @@ member-decided s plan section k place st =
     (both-ways (true-job (s .sorting) (st .desks) (jobFrom plan place)) (job-true (s .sorting) (st .desks) (jobFrom plan place)))
     (both-ways (true-block (s .flight) k (passesFrom plan place)) (block-true (s .flight) k (passesFrom plan place)))
 
-pub head-decided : (s : Sheet) (plan : List ℕ) (section : ℕ) (part : Part) (st : Progress) → Decides (HeadFollows s plan section part st) (headFollows s plan section part st)
-unfolding HeadFollows headFollows passesOf
+pub head-decided : (s : Sheet) (plan : List ℕ) (section : ℕ) (part : Part) (st : Progress)
+    → Decides (HeadFollows s plan section part st) (headFollows s plan section part st)
+unfolding HeadFollows headFollows
 head-decided s plan section part st =
     one-of-three (eqb section 1) (eqb section 2)
     (both-ways (eqb-true _ _) (eq-eqb _ _))
     (both-ways (true-done (s .sorting) (st .desks)) (done-true (s .sorting) (st .desks)))
     (both-ways
-    (true-head (s .flight) (orderFrom plan (part .head)) (passesOf plan (part .head + 15) (part .members)) (part .members) (sym (length-from passesFrom 11 plan (part .head + 15) (part .members))))
-    (head-true (s .flight) (orderFrom plan (part .head)) (passesOf plan (part .head + 15) (part .members)) (part .members) (sym (length-from passesFrom 11 plan (part .head + 15) (part .members)))))
+    (true-head (s .flight) (orderFrom plan (part .head)) (blocksFrom plan (part .head + sizeOf flightHeadForm) (part .members)) (part .members) (sym (length-from passesFrom (sizeOf passesForm) plan (part .head + sizeOf flightHeadForm) (part .members))))
+    (head-true (s .flight) (orderFrom plan (part .head)) (blocksFrom plan (part .head + sizeOf flightHeadForm) (part .members)) (part .members) (sym (length-from passesFrom (sizeOf passesForm) plan (part .head + sizeOf flightHeadForm) (part .members)))))
 
 -- by what a rule says, what its test answers
 pub decided-true : {P : Type 0} {b : Bool} → Decides P b → P → b ≡ true

@@ -3,29 +3,28 @@
 -- Sections are numbered 1, mosaic; 2, sorting; 3, flight; 0 stands for the start of the plan.
 use Prim.Native.Nat.{ℕ, zero, suc, _+_, _*_, _≤_, _<_}
 use mathlib.Core.Path.{_≡_}
-use mathlib.Core.Bool.{true, cond}
+use mathlib.Core.Bool.{true}
 use mathlib.Core.List.{List}
 use lib.ListN.{length}
-use lib.Dec.{eqb}
 use Rattle.field.specs.Field.{fieldAt}
 use Rattle.field.specs.declared.Field.the-variants.{Whole}
-use Rattle.sheet.specs.Tags.{planMosaicTag, planBatchTag, planSortingTag, planStripTag, planFlightTag, planBlockTag}
+use Rattle.plan_format.specs.Format.{contentLength}
 use Rattle.sheet.specs.declared.Sheet.{Sheet}
-use Rattle.judge_members.specs.Members.{present}
+use Rattle.judge_members.specs.Members.{present, headForm, memberForm}
 
 -- the tag and the content length of a section's head ..
-unfoldable pub headTag : ℕ → ℕ
-headTag section = cond (eqb section 1) planMosaicTag (cond (eqb section 2) planSortingTag planFlightTag)
+abbrev pub headTag : ℕ → ℕ
+headTag section = headForm section .tag
 
-unfoldable pub headLength : ℕ → ℕ
-headLength section = cond (eqb section 1) 4 (cond (eqb section 2) 4 12)
+abbrev pub headLength : ℕ → ℕ
+headLength section = contentLength (headForm section)
 
 -- .. and of each of its members
-unfoldable pub memberTag : ℕ → ℕ
-memberTag section = cond (eqb section 1) planBatchTag (cond (eqb section 2) planStripTag planBlockTag)
+abbrev pub memberTag : ℕ → ℕ
+memberTag section = memberForm section .tag
 
-unfoldable pub memberLength : ℕ → ℕ
-memberLength section = cond (eqb section 1) 9 (cond (eqb section 2) 10 8)
+abbrev pub memberLength : ℕ → ℕ
+memberLength section = contentLength (memberForm section)
 
 -- section j is the next of the sheet's sections behind section k
 pub record NextSection (s : Sheet) (k j : ℕ) : Type 0 where

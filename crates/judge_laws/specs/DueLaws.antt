@@ -16,11 +16,12 @@ use Rattle.field.specs.declared.Field.{Field}
 use Rattle.field.specs.declared.Field.the-variants.{Whole}
 use Rattle.sheet.specs.Refusals.{layoutWrong}
 use Rattle.sheet.specs.declared.Sheet.{Sheet}
+use Rattle.plan_format.specs.Format.{mosaicHeadForm, batchForm, sortingHeadForm, jobForm, flightHeadForm, passesForm}
 use Rattle.judge_layout.specs.Layout.{isField, run, partFrom, partOf, mosaicPart, sortingPart, flightPart, verdict, layoutVerdict}
 use Rattle.judge_layout.specs.Laws.{is-field-true}
 use Rattle.judge_layout.specs.declared.Part.{Part}
 use Rattle.judge_layout.specs.declared.Verdict.{Verdict}
-use Rattle.judge_members.specs.Members.{present}
+use Rattle.judge_members.specs.Members.{present, headForm, memberForm}
 use Rattle.judge.specs.Judged.{pickPart, partAt}
 use Rattle.judge_laws.specs.Laid.{is-field, run-each}
 use Rattle.judge_laws.specs.Outcomes.{LayoutRight, layout-right}
@@ -56,7 +57,8 @@ module _ (s : Sheet) (plan : List ℕ) where
           (ih (record { fields = suc (p .fields); due = DueUpTo.more (memberTag k) (memberLength k) (p .due) (is-field-true (fieldAt plan at) (memberTag k) (memberLength k) e) (Due.member l refl refl) }))
       go false e ih = subst (λ (i : ℕ). Passed i k) (omega (arith, mul-comm 0 (3 + memberLength k))) p
 
-run-stops : (turns : ℕ) (plan : List ℕ) (at tag len : ℕ) → length plan ≤ turns + at → isField (fieldAt plan (at + run turns plan at tag len * (3 + len))) tag len ≡ false
+run-stops : (turns : ℕ) (plan : List ℕ) (at tag len : ℕ) → length plan ≤ turns + at
+    → isField (fieldAt plan (at + run turns plan at tag len * (3 + len))) tag len ≡ false
 unfolding run
 run-stops zero plan at tag len h = end-none plan (at + 0 * (3 + len)) tag len (omega (arith, mul-comm 0 (3 + len)))
 run-stops (suc turns) plan at tag len h = go (isField (fieldAt plan at) tag len) refl (run-stops turns plan (at + (3 + len)) tag len)
@@ -85,8 +87,10 @@ partNumbered s plan at j = partOf (present s j) plan at (headTag j) (headLength 
 
 data PartCase (s : Sheet) (plan : List ℕ) (at j : ℕ) : Part → Type 0 where
   absent : present s j ≡ false → PartCase s plan at j (record { right = true; head = at; members = 0; end = at })
-  no-head : present s j ≡ true → isField (fieldAt plan at) (headTag j) (headLength j) ≡ false → PartCase s plan at j (record { right = false; head = at; members = 0; end = at })
-  found : present s j ≡ true → isField (fieldAt plan at) (headTag j) (headLength j) ≡ true → PartCase s plan at j (partFrom plan at (headLength j) (memberTag j) (memberLength j))
+  no-head : present s j ≡ true → isField (fieldAt plan at) (headTag j) (headLength j) ≡ false
+      → PartCase s plan at j (record { right = false; head = at; members = 0; end = at })
+  found : present s j ≡ true → isField (fieldAt plan at) (headTag j) (headLength j) ≡ true
+      → PartCase s plan at j (partFrom plan at (headLength j) (memberTag j) (memberLength j))
 
 part-case : (s : Sheet) (plan : List ℕ) (at j : ℕ) → PartCase s plan at j (partNumbered s plan at j)
 unfolding partOf
@@ -163,7 +167,8 @@ module _ (s : Sheet) (plan : List ℕ) where
     part-passed l p (PartCase.no-head a h) r = absurd (true≢false (sym r))
     part-passed l p (PartCase.found a h) r = found-behind l a h
 
-    head-missing : k < 3 → present s (suc k) ≡ true → isField (fieldAt plan at) (headTag (suc k)) (headLength (suc k)) ≡ false → Dec (at < length plan) → LayoutFault s plan at
+    head-missing : k < 3 → present s (suc k) ≡ true → isField (fieldAt plan at) (headTag (suc k)) (headLength (suc k)) ≡ false → Dec (at < length plan)
+        → LayoutFault s plan at
     unfolding NoneDue
     head-missing l p h (yes a) = LayoutFault.wrong-field (st .fields) (st .section) (st .due) a none-due
       where
@@ -183,7 +188,8 @@ module _ (s : Sheet) (plan : List ℕ) where
     part-fault l p (PartCase.found a h) r = absurd (true≢false r)
 
   -- a section that is found stands where it is due
-  section-found : (k at : ℕ) → Standing k at → k < 3 → (p : Part) → PartCase s plan at (suc k) p → p .right ≡ true → present s (suc k) ≡ true → SectionAt s plan (suc k) (p .head) (p .members)
+  section-found : (k at : ℕ) → Standing k at → k < 3 → (p : Part) → PartCase s plan at (suc k) p → p .right ≡ true → present s (suc k) ≡ true
+      → SectionAt s plan (suc k) (p .head) (p .members)
   unfolding partFrom
   section-found k at st l p (PartCase.absent a) r h = absurd (true≢false (sym h ∙ a))
   section-found k at st l p (PartCase.no-head a n) r h = absurd (true≢false (sym r))
@@ -216,15 +222,15 @@ module _ (s : Sheet) (plan : List ℕ) where
 
   -- The judge's walk over the three parts.
   mosaic-case : PartCase s plan 0 1 (mosaicPart s plan)
-  unfolding mosaicPart headTag headLength memberTag memberLength present
+  unfolding mosaicPart headForm memberForm present
   mosaic-case = part-case s plan 0 1
 
   sorting-case : PartCase s plan (mosaicPart s plan .end) 2 (sortingPart s plan)
-  unfolding sortingPart headTag headLength memberTag memberLength present
+  unfolding sortingPart headForm memberForm present
   sorting-case = part-case s plan (mosaicPart s plan .end) 2
 
   flight-case : PartCase s plan (sortingPart s plan .end) 3 (flightPart s plan)
-  unfolding flightPart headTag headLength memberTag memberLength present
+  unfolding flightPart headForm memberForm present
   flight-case = part-case s plan (sortingPart s plan .end) 3
 
   after-mosaic : mosaicPart s plan .right ≡ true → Standing 1 (mosaicPart s plan .end)
@@ -254,7 +260,8 @@ module _ (s : Sheet) (plan : List ℕ) where
       found-wrong a b c d =
           cond a (cond b (cond c (cond d (verdict 0 0) (verdict layoutWrong (flightPart s plan .end))) (verdict layoutWrong (flightPart s plan .head))) (verdict layoutWrong (sortingPart s plan .head))) (verdict layoutWrong (mosaicPart s plan .head))
 
-      go : (a : Bool) → mosaicPart s plan .right ≡ a → (b : Bool) → sortingPart s plan .right ≡ b → (c : Bool) → flightPart s plan .right ≡ c → (d : Bool) → eqb (flightPart s plan .end) (length plan) ≡ d
+      go : (a : Bool) → mosaicPart s plan .right ≡ a → (b : Bool) → sortingPart s plan .right ≡ b → (c : Bool) → flightPart s plan .right ≡ c → (d : Bool)
+          → eqb (flightPart s plan .end) (length plan) ≡ d
           → (found-wrong a b c d .number ≡ 0 → ⊥) → (found-wrong a b c d .number ≡ layoutWrong) × LayoutFault s plan (found-wrong a b c d .place)
       go false p b q c r d t h = (refl, part-fault 0 0 stand-start (omega arith) (mosaicPart s plan) mosaic-case p)
       go true p false q c r d t h = (refl, part-fault 1 (mosaicPart s plan .end) (after-mosaic p) (omega arith) (sortingPart s plan) sorting-case q)
@@ -268,10 +275,11 @@ module _ (s : Sheet) (plan : List ℕ) where
 
 -- The fields that are due are determined: a head is told from a member by its tag, so that a field leads to one section.
 heads-no-members : (i k : ℕ) → headTag i ≡ memberTag k → ⊥
-unfolding headTag memberTag
+unfolding headForm memberForm
 heads-no-members i k e = go (eqb i 1) (eqb i 2) (eqb k 1) (eqb k 2) e
   where
-    go : (a b c d : Bool) → _≡_ {A = ℕ} (cond a 0x90 (cond b 0xa0 0xb0)) (cond c 0x91 (cond d 0xa1 0xb1)) → ⊥
+    go : (a b c d : Bool)
+        → cond a mosaicHeadForm (cond b sortingHeadForm flightHeadForm) .tag ≡ cond c batchForm (cond d jobForm passesForm) .tag → ⊥
     go true b true d e = omega arith
     go true b false true e = omega arith
     go true b false false e = omega arith

@@ -13,11 +13,11 @@ use Rattle.sheet.specs.declared.Sheet.{Sheet}
 use Rattle.rules.specs.Mosaic.{mosaicFigure}
 use Rattle.rules.specs.Sorting.{sortingFigure}
 use Rattle.rules.specs.Flight.{flightFigure}
-use Rattle.plan_read.specs.PlanRead.{figureFrom, orderFrom, batchFrom, jobFrom, passesFrom, membersFrom}
+use Rattle.plan_format.specs.Format.{sizeOf, mosaicHeadForm, sortingHeadForm, flightHeadForm}
+use Rattle.plan_read.specs.PlanRead.{figureFrom, orderFrom, batchFrom, jobFrom, passesFrom, batchesFrom, jobsFrom, blocksFrom}
 use Rattle.running.specs.Running.{BatchFollows, JobFollows, AllDone, BlockFollows, FlightHead}
-use Rattle.judge_flight.specs.Starts.{passesOf}
 use Rattle.judge_layout.specs.declared.Part.{Part}
-use Rattle.judge_members.specs.Members.{present, memberPlace, begun, afterMember}
+use Rattle.judge_members.specs.Members.{present, headForm, memberPlace, begun, afterMember}
 use Rattle.judge_members.specs.declared.Progress.{Progress}
 use Rattle.judge.specs.Judged.{partAt}
 use Rattle.judge_laws.specs.Due.{LayoutFault, LaidOut}
@@ -39,15 +39,15 @@ HeadFollows s plan section part st =
       | true ↦ st .before .last ≡ s .mosaic .strips
       | false ↦
           elim (eqb section 2)
-          [ true ↦ AllDone (s .sorting) (st .desks) | false ↦ FlightHead (s .flight) (orderFrom plan (part .head)) (passesOf plan (part .head + 15) (part .members)) ]
+          [ true ↦ AllDone (s .sorting) (st .desks) | false ↦ FlightHead (s .flight) (orderFrom plan (part .head)) (blocksFrom plan (part .head + sizeOf flightHeadForm) (part .members)) ]
     ]
 
 -- the figure that the rules give the members of a section, as they stand in the plan
 unfoldable pub ruleFigure : Sheet → List ℕ → ℕ → Part → ℕ
 ruleFigure s plan section part =
-    cond (eqb section 1) (mosaicFigure (s .mosaic) (membersFrom batchFrom 12 plan (part .head + 7) (part .members)))
-    (cond (eqb section 2) (sortingFigure (s .sorting) (membersFrom jobFrom 13 plan (part .head + 7) (part .members)))
-    (flightFigure (s .flight) (passesOf plan (part .head + 15) (part .members))))
+    cond (eqb section 1) (mosaicFigure (s .mosaic) (batchesFrom plan (part .head + sizeOf mosaicHeadForm) (part .members)))
+    (cond (eqb section 2) (sortingFigure (s .sorting) (jobsFrom plan (part .head + sizeOf sortingHeadForm) (part .members)))
+    (flightFigure (s .flight) (blocksFrom plan (part .head + sizeOf flightHeadForm) (part .members))))
 
 -- the judging of a section has come to its member k, and every member before it follows
 pub data Reached (s : Sheet) (plan : List ℕ) (section : ℕ) : ℕ → Progress → Type 0 where
@@ -66,7 +66,7 @@ pub data SectionFault (s : Sheet) (plan : List ℕ) (section : ℕ) : ℕ → �
       → number ≡ ruleBroken → place ≡ partAt s plan section .head → SectionFault s plan section number place
   figure-untrue : {number place : ℕ} (st : Progress) → Reached s plan section (partAt s plan section .members) st
       → HeadFollows s plan section (partAt s plan section) st
-      → (figureFrom plan (partAt s plan section .head) ≡ ruleFigure s plan section (partAt s plan section) → ⊥)
+      → (figureFrom (headForm section) plan (partAt s plan section .head) ≡ ruleFigure s plan section (partAt s plan section) → ⊥)
       → number ≡ figureUntrue → place ≡ partAt s plan section .head → SectionFault s plan section number place
 
 -- the first fault of a sheet and a plan

@@ -18,7 +18,7 @@ use Rattle.sheet.specs.declared.Sheet.{Sheet}
 use Rattle.plan_read.specs.PlanRead.{figureFrom}
 use Rattle.judge_layout.specs.Layout.{verdict, layoutVerdict}
 use Rattle.judge_layout.specs.declared.Verdict.{Verdict}
-use Rattle.judge_members.specs.Members.{present, memberPlace, begun, memberFollows, afterMember, headFollows, figureOf, headNumber}
+use Rattle.judge_members.specs.Members.{present, headForm, memberPlace, begun, memberFollows, afterMember, headFollows, figureOf, headNumber}
 use Rattle.judge_members.specs.declared.Progress.{Progress}
 use Rattle.judge.specs.Judged.{partAt, sectionFrom, sectionVerdict, sectionsFrom, turnedBack, found, judged}
 use Rattle.judge.specs.Loops.{section-absent, zero-number, section-here, sections-next, sections-stop, member-next, member-wrong, members-judged, sheet-wrong, sheet-right, layout-wrong, section-wrong}
@@ -42,7 +42,7 @@ module _ (s : Sheet) (plan : List ℕ) (section : ℕ) where
       follows = head-decided s plan section (partAt s plan section) st
 
       go : (b : Bool) → headFollows s plan section (partAt s plan section) st ≡ b
-          → (c : Bool) → eqb (figureFrom plan (partAt s plan section .head)) (figureOf s plan section (partAt s plan section) st) ≡ c
+          → (c : Bool) → eqb (figureFrom (headForm section) plan (partAt s plan section .head)) (figureOf s plan section (partAt s plan section) st) ≡ c
           → (check b ruleBroken (check c figureUntrue 0) ≡ 0 → ⊥)
           → SectionFault s plan section (check b ruleBroken (check c figureUntrue 0)) (partAt s plan section .head)
       go false p c q n = SectionFault.at-head st r (follows .fails p) refl refl
@@ -90,12 +90,13 @@ module _ (s : Sheet) (plan : List ℕ) (section : ℕ) where
   head-broken k st h = members-judged s plan section (partAt s plan section) k st ∙ rw (decided-false (head-decided s plan section (partAt s plan section) st) h)
 
   head-untrue : (k : ℕ) (st : Progress) → HeadFollows s plan section (partAt s plan section) st
-      → (figureFrom plan (partAt s plan section .head) ≡ figureOf s plan section (partAt s plan section) st → ⊥)
+      → (figureFrom (headForm section) plan (partAt s plan section .head) ≡ figureOf s plan section (partAt s plan section) st → ⊥)
       → sectionFrom 0 s plan section (partAt s plan section) k st ≡ verdict figureUntrue (partAt s plan section .head)
   unfolding headNumber check
   head-untrue k st h n = members-judged s plan section (partAt s plan section) k st ∙ rw (decided-true (head-decided s plan section (partAt s plan section) st) h, ne-eqb _ _ n)
 
-  fault-is : (number place : ℕ) → SectionFault s plan section number place → sectionFrom (partAt s plan section .members) s plan section (partAt s plan section) 0 begun ≡ verdict number place
+  fault-is : (number place : ℕ) → SectionFault s plan section number place
+      → sectionFrom (partAt s plan section .members) s plan section (partAt s plan section) 0 begun ≡ verdict number place
   fault-is number place (SectionFault.at-member k st r l h en ep) =
       reached-same r (suc (partAt s plan section .members - suc k)) (omega arith) ∙ member-wrong _ s plan section (partAt s plan section) k st (decided-false (member-decided s plan section k _ st) h) ∙ sym (ap₂ verdict en ep)
   fault-is number place (SectionFault.at-head st r h en ep) = reached-same r 0 (omega arith) ∙ head-broken _ st h ∙ sym (ap₂ verdict en ep)
@@ -107,13 +108,16 @@ module _ (s : Sheet) (plan : List ℕ) (section : ℕ) where
   fault-number number place (SectionFault.at-head st r h en ep) z = omega arith
   fault-number number place (SectionFault.figure-untrue st r h n en ep) z = omega arith
 
-  section-fault-is : (number place : ℕ) → present s section ≡ true → SectionFault s plan section number place → sectionVerdict s plan section ≡ verdict number place
+  section-fault-is : (number place : ℕ) → present s section ≡ true → SectionFault s plan section number place
+      → sectionVerdict s plan section ≡ verdict number place
   section-fault-is number place p f = sym (section-here s plan section (partAt s plan section) refl p) ∙ fault-is number place f
 
-  section-fault : (sectionVerdict s plan section .number ≡ 0 → ⊥) → (present s section ≡ true) × SectionFault s plan section (sectionVerdict s plan section .number) (sectionVerdict s plan section .place)
+  section-fault : (sectionVerdict s plan section .number ≡ 0 → ⊥)
+      → (present s section ≡ true) × SectionFault s plan section (sectionVerdict s plan section .number) (sectionVerdict s plan section .place)
   section-fault h = go (present s section) refl
     where
-      go : (b : Bool) → present s section ≡ b → (present s section ≡ true) × SectionFault s plan section (sectionVerdict s plan section .number) (sectionVerdict s plan section .place)
+      go : (b : Bool) → present s section ≡ b
+          → (present s section ≡ true) × SectionFault s plan section (sectionVerdict s plan section .number) (sectionVerdict s plan section .place)
       go true p =
           let q = section-here s plan section (partAt s plan section) refl p in
           (p, named _ _ q (fault-from (partAt s plan section .members) 0 begun Reached.first (omega arith) (λ z. h (sym (ap (λ v. v .number) q) ∙ z))))
@@ -148,7 +152,9 @@ module _ (s : Sheet) (plan : List ℕ) where
   first-fault : (sectionsFrom 3 s plan 1 .number ≡ 0 → ⊥) → FirstFault (sectionsFrom 3 s plan 1 .number) (sectionsFrom 3 s plan 1 .place)
   first-fault h = go (ℕ-discrete _ 0) (ℕ-discrete _ 0) (ℕ-discrete _ 0)
     where
-      at-section : (section : ℕ) → 1 ≤ section → section ≤ 3 → ((i : ℕ) → 1 ≤ i → i < section → sectionVerdict s plan i .number ≡ 0) → sectionsFrom 3 s plan 1 ≡ sectionVerdict s plan section → (sectionVerdict s plan section .number ≡ 0 → ⊥) → FirstFault (sectionsFrom 3 s plan 1 .number) (sectionsFrom 3 s plan 1 .place)
+      at-section : (section : ℕ) → 1 ≤ section → section ≤ 3 → ((i : ℕ) → 1 ≤ i → i < section → sectionVerdict s plan i .number ≡ 0)
+          → sectionsFrom 3 s plan 1 ≡ sectionVerdict s plan section → (sectionVerdict s plan section .number ≡ 0 → ⊥)
+          → FirstFault (sectionsFrom 3 s plan 1 .number) (sectionsFrom 3 s plan 1 .place)
       at-section section l u before e n =
           let f = section-fault s plan section n in
           subst (λ (v : Verdict). FirstFault (v .number) (v .place)) (sym e) (record { section = section; low = l; high = u; before = before; there = f .0; fault = f .1 })
@@ -156,11 +162,13 @@ module _ (s : Sheet) (plan : List ℕ) where
       one-before : sectionVerdict s plan 1 .number ≡ 0 → (i : ℕ) → 1 ≤ i → i < 2 → sectionVerdict s plan i .number ≡ 0
       one-before z i l u = let q : 1 ≡ i = omega arith in subst (λ (k : ℕ). sectionVerdict s plan k .number ≡ 0) q z
 
-      two-before : sectionVerdict s plan 1 .number ≡ 0 → sectionVerdict s plan 2 .number ≡ 0 → (i : ℕ) → 1 ≤ i → i < 3 → Dec (1 ≡ i) → sectionVerdict s plan i .number ≡ 0
+      two-before : sectionVerdict s plan 1 .number ≡ 0 → sectionVerdict s plan 2 .number ≡ 0 → (i : ℕ) → 1 ≤ i → i < 3 → Dec (1 ≡ i)
+          → sectionVerdict s plan i .number ≡ 0
       two-before z y i l u (yes q) = subst (λ (k : ℕ). sectionVerdict s plan k .number ≡ 0) q z
       two-before z y i l u (no q) = let r : 2 ≡ i = omega arith in subst (λ (k : ℕ). sectionVerdict s plan k .number ≡ 0) r y
 
-      go : Dec (sectionVerdict s plan 1 .number ≡ 0) → Dec (sectionVerdict s plan 2 .number ≡ 0) → Dec (sectionVerdict s plan 3 .number ≡ 0) → FirstFault (sectionsFrom 3 s plan 1 .number) (sectionsFrom 3 s plan 1 .place)
+      go : Dec (sectionVerdict s plan 1 .number ≡ 0) → Dec (sectionVerdict s plan 2 .number ≡ 0) → Dec (sectionVerdict s plan 3 .number ≡ 0)
+          → FirstFault (sectionsFrom 3 s plan 1 .number) (sectionsFrom 3 s plan 1 .place)
       go (no n) b c = at-section 1 (omega arith) (omega arith) (λ i l u. absurd (omega arith)) (sections-stop 2 s plan 1 n) n
       go (yes z) (no n) c = at-section 2 (omega arith) (omega arith) (one-before z) (sections-next 2 s plan 1 z ∙ sections-stop 1 s plan 2 n) n
       go (yes z) (yes y) (no n) =
@@ -173,7 +181,8 @@ module _ (s : Sheet) (plan : List ℕ) where
     unfolding verdict
     wrong-number section e n z = n (sym (ap (λ (v : Verdict). v .number) e) ∙ z)
 
-    first-fault-is : (section : ℕ) → 1 ≤ section → section ≤ 3 → ((i : ℕ) → 1 ≤ i → i < section → sectionVerdict s plan i .number ≡ 0) → sectionVerdict s plan section ≡ verdict number place → (number ≡ 0 → ⊥) → sectionsFrom 3 s plan 1 ≡ verdict number place
+    first-fault-is : (section : ℕ) → 1 ≤ section → section ≤ 3 → ((i : ℕ) → 1 ≤ i → i < section → sectionVerdict s plan i .number ≡ 0)
+        → sectionVerdict s plan section ≡ verdict number place → (number ≡ 0 → ⊥) → sectionsFrom 3 s plan 1 ≡ verdict number place
     first-fault-is zero l u before e n = absurd (omega arith)
     first-fault-is (suc zero) l u before e n = sections-stop 2 s plan 1 (wrong-number 1 e n) ∙ e
     first-fault-is (suc (suc zero)) l u before e n = sections-next 2 s plan 1 (before 1 (omega arith) (omega arith)) ∙ sections-stop 1 s plan 2 (wrong-number 2 e n) ∙ e
@@ -186,25 +195,30 @@ module _ (sheet plan : List ℕ) where
   sheet-refused : (readSheet sheet .number ≡ 0 → ⊥) → judged sheet plan ≡ turnedBack (readSheet sheet .number) (readSheet sheet .place)
   sheet-refused n = sym (sheet-wrong sheet plan (readSheet sheet) refl _ n refl)
 
-  layout-refused : readSheet sheet .number ≡ 0 → (layoutVerdict (readSheet sheet) plan .number ≡ 0 → ⊥) → judged sheet plan ≡ turnedBack (layoutVerdict (readSheet sheet) plan .number) (layoutVerdict (readSheet sheet) plan .place)
+  layout-refused : readSheet sheet .number ≡ 0 → (layoutVerdict (readSheet sheet) plan .number ≡ 0 → ⊥)
+      → judged sheet plan ≡ turnedBack (layoutVerdict (readSheet sheet) plan .number) (layoutVerdict (readSheet sheet) plan .place)
   layout-refused z n = sym (sheet-right sheet plan (readSheet sheet) refl _ z (layout-wrong (readSheet sheet) plan (layoutVerdict (readSheet sheet) plan) refl _ n refl))
 
-  sections-refused : readSheet sheet .number ≡ 0 → layoutVerdict (readSheet sheet) plan .number ≡ 0 → (sectionsFrom 3 (readSheet sheet) plan 1 .number ≡ 0 → ⊥) → judged sheet plan ≡ turnedBack (sectionsFrom 3 (readSheet sheet) plan 1 .number) (sectionsFrom 3 (readSheet sheet) plan 1 .place)
+  sections-refused : readSheet sheet .number ≡ 0 → layoutVerdict (readSheet sheet) plan .number ≡ 0 → (sectionsFrom 3 (readSheet sheet) plan 1 .number ≡ 0 → ⊥)
+      → judged sheet plan ≡ turnedBack (sectionsFrom 3 (readSheet sheet) plan 1 .number) (sectionsFrom 3 (readSheet sheet) plan 1 .place)
   sections-refused z y n =
       sym (sheet-right sheet plan (readSheet sheet) refl _ z (section-wrong (readSheet sheet) plan (layoutVerdict (readSheet sheet) plan) refl y (sectionsFrom 3 (readSheet sheet) plan 1) refl _ n refl))
 
-  none-refused : readSheet sheet .number ≡ 0 → layoutVerdict (readSheet sheet) plan .number ≡ 0 → sectionsFrom 3 (readSheet sheet) plan 1 .number ≡ 0 → judged sheet plan .number ≡ 0
+  none-refused : readSheet sheet .number ≡ 0 → layoutVerdict (readSheet sheet) plan .number ≡ 0 → sectionsFrom 3 (readSheet sheet) plan 1 .number ≡ 0
+      → judged sheet plan .number ≡ 0
   unfolding found
   none-refused z y x = ap (λ (j : Judged). j .number) (right-judged sheet plan z (record { layout = layout-right (readSheet sheet) plan y; sections = sections-right (readSheet sheet) plan x }))
 
-  turned : (number place : ℕ) → judged sheet plan ≡ turnedBack number place → Fault sheet plan number place → Fault sheet plan (judged sheet plan .number) (judged sheet plan .place)
+  turned : (number place : ℕ) → judged sheet plan ≡ turnedBack number place → Fault sheet plan number place
+      → Fault sheet plan (judged sheet plan .number) (judged sheet plan .place)
   unfolding turnedBack
   turned number place e f = subst (λ (j : Judged). Fault sheet plan (j .number) (j .place)) (sym e) f
 
   pub turned-back-fault : (judged sheet plan .number ≡ 0 → ⊥) → Fault sheet plan (judged sheet plan .number) (judged sheet plan .place)
   turned-back-fault h = go (ℕ-discrete _ 0) (ℕ-discrete _ 0) (ℕ-discrete _ 0)
     where
-      go : Dec (readSheet sheet .number ≡ 0) → Dec (layoutVerdict (readSheet sheet) plan .number ≡ 0) → Dec (sectionsFrom 3 (readSheet sheet) plan 1 .number ≡ 0) → Fault sheet plan (judged sheet plan .number) (judged sheet plan .place)
+      go : Dec (readSheet sheet .number ≡ 0) → Dec (layoutVerdict (readSheet sheet) plan .number ≡ 0)
+          → Dec (sectionsFrom 3 (readSheet sheet) plan 1 .number ≡ 0) → Fault sheet plan (judged sheet plan .number) (judged sheet plan .place)
       go (no n) b c = turned _ _ (sheet-refused n) (Fault.in-sheet (refused-for sheet n))
       go (yes z) (no n) c = let f = layout-fault (readSheet sheet) plan n in turned _ _ (layout-refused z n) (Fault.in-layout z (f .1) (f .0))
       go (yes z) (yes y) (no n) =
@@ -212,12 +226,14 @@ module _ (sheet plan : List ℕ) where
           turned _ _ (sections-refused z y n) (Fault.in-section (f .section) z (laid-out (readSheet sheet) plan (layout-right (readSheet sheet) plan y)) (f .low) (f .high) (λ i l u. no-fault (readSheet sheet) plan i (f .before i l u)) (f .there) (f .fault))
       go (yes z) (yes y) (yes x) = absurd (h (none-refused z y x))
 
-  section-turned-back : (number place : ℕ) → readSheet sheet .number ≡ 0 → LayoutRight (readSheet sheet) plan → sectionsFrom 3 (readSheet sheet) plan 1 ≡ verdict number place → (number ≡ 0 → ⊥) → judged sheet plan ≡ turnedBack number place
+  section-turned-back : (number place : ℕ) → readSheet sheet .number ≡ 0 → LayoutRight (readSheet sheet) plan
+      → sectionsFrom 3 (readSheet sheet) plan 1 ≡ verdict number place → (number ≡ 0 → ⊥) → judged sheet plan ≡ turnedBack number place
   unfolding verdict
   section-turned-back number place z l e n =
       sections-refused z (right-layout (readSheet sheet) plan l) (λ q. n (sym (ap (λ (v : Verdict). v .number) e) ∙ q)) ∙ ap (λ (v : Verdict). turnedBack (v .number) (v .place)) e
 
-  layout-turned-back : (place : ℕ) → readSheet sheet .number ≡ 0 → layoutVerdict (readSheet sheet) plan ≡ verdict layoutWrong place → judged sheet plan ≡ turnedBack layoutWrong place
+  layout-turned-back : (place : ℕ) → readSheet sheet .number ≡ 0 → layoutVerdict (readSheet sheet) plan ≡ verdict layoutWrong place
+      → judged sheet plan ≡ turnedBack layoutWrong place
   unfolding verdict
   layout-turned-back place z e =
       layout-refused z (λ q. let y : _≡_ {A = ℕ} layoutWrong 0 = sym (ap (λ (v : Verdict). v .number) e) ∙ q in omega arith) ∙ ap (λ (v : Verdict). turnedBack (v .number) (v .place)) e

@@ -10,7 +10,8 @@ use borrow.Author.Tests.{ne-eqb}
 use Rattle.sheet.specs.declared.Sheet.{Sheet}
 use Rattle.rules.specs.Mosaic.{noBatch, mosaicFigure}
 use Rattle.rules.specs.Sorting.{sortingFigure}
-use Rattle.plan_read.specs.PlanRead.{batchFrom, jobFrom, membersFrom}
+use Rattle.plan_format.specs.Format.{sizeOf}
+use Rattle.plan_read.specs.PlanRead.{batchFrom, jobFrom, membersFrom, batchesFrom, jobsFrom}
 use Rattle.running.specs.Running.{MosaicRuns}
 use Rattle.rules.specs.declared.Batch.{Batch}
 use Rattle.rules.specs.declared.Job.{Job}
@@ -18,7 +19,7 @@ use Rattle.rules_laws.specs.MosaicRunning.{runningFigure}
 use Rattle.rules_laws.specs.SortingRunning.{runningFinishes}
 use Rattle.rules_laws.specs.Equivalent.{mosaic-figure, sorting-figure}
 use Rattle.judge_layout.specs.declared.Part.{Part}
-use Rattle.judge_members.specs.Members.{headBytes, memberPlace, begun, afterBatch, afterStrip, afterMember, figureOf}
+use Rattle.judge_members.specs.Members.{headForm, memberPlace, begun, afterBatch, afterStrip, afterMember, figureOf}
 use Rattle.judge_members.specs.declared.Progress.{Progress}
 use Rattle.judge.specs.Judged.{partAt}
 use Rattle.judge_laws.specs.Sections.{batches-more, jobs-more, regroup}
@@ -43,7 +44,8 @@ module _ (s : Sheet) (plan : List ℕ) (section head : ℕ) where
       let q : k + 1 + n ≡ k + suc n = omega arith in
       advanced-last n (k + 1) next ∙ ap (λ (i : ℕ). afterMember s plan section (memberPlace section head i) (advanced n (k + 1) next)) q
 
-  follow-last : (n k : ℕ) (st : Progress) → AllFollow n k st → MemberFollows s plan section (k + n) (memberPlace section head (k + n)) (advanced n k st) → AllFollow (suc n) k st
+  follow-last : (n k : ℕ) (st : Progress) → AllFollow n k st → MemberFollows s plan section (k + n) (memberPlace section head (k + n)) (advanced n k st)
+      → AllFollow (suc n) k st
   unfolding advanced AllFollow
   follow-last zero k st a h =
       let q : k + 0 ≡ k = omega arith in
@@ -55,7 +57,8 @@ module _ (s : Sheet) (plan : List ℕ) (section head : ℕ) where
 
 -- what Reached says, from the first member on
 module _ (s : Sheet) (plan : List ℕ) (section : ℕ) where
-  reached-all : {k : ℕ} {st : Progress} → Reached s plan section k st → AllFollow s plan section (partAt s plan section .head) k 0 begun × (st ≡ advanced s plan section (partAt s plan section .head) k 0 begun)
+  reached-all : {k : ℕ} {st : Progress} → Reached s plan section k st
+      → AllFollow s plan section (partAt s plan section .head) k 0 begun × (st ≡ advanced s plan section (partAt s plan section .head) k 0 begun)
   unfolding advanced AllFollow
   reached-all Reached.first = (tt, refl)
   reached-all (Reached.next {k} {st} r l h) =
@@ -73,8 +76,8 @@ module _ (s : Sheet) (plan : List ℕ) (section : ℕ) where
 
 module _ (s : Sheet) (plan : List ℕ) (part : Part) where
   mosaic-runs : (n k : ℕ) (st : Progress) → AllFollow s plan 1 (part .head) n k st → advanced s plan 1 (part .head) n k st .before .last ≡ s .mosaic .strips
-      → MosaicRuns (s .mosaic) (st .before) (membersFrom batchFrom 12 plan (memberPlace 1 (part .head) k) n)
-      × (advanced s plan 1 (part .head) n k st .figure ≡ st .figure + runningFigure (st .before) (membersFrom batchFrom 12 plan (memberPlace 1 (part .head) k) n))
+      → MosaicRuns (s .mosaic) (st .before) (batchesFrom plan (memberPlace 1 (part .head) k) n)
+      × (advanced s plan 1 (part .head) n k st .figure ≡ st .figure + runningFigure (st .before) (batchesFrom plan (memberPlace 1 (part .head) k) n))
   unfolding advanced AllFollow MemberFollows afterMember afterBatch membersFrom runningFigure
   mosaic-runs zero k st a e = (MosaicRuns.none e, omega arith)
   mosaic-runs (suc n) k st a e =
@@ -83,14 +86,15 @@ module _ (s : Sheet) (plan : List ℕ) (part : Part) where
       subst (λ (bs : List Batch). MosaicRuns (s .mosaic) (st .before) bs × (advanced s plan 1 (part .head) n (k + 1) (afterBatch st b) .figure ≡ st .figure + runningFigure (st .before) bs)) (sym (batches-more s plan part n k))
       (MosaicRuns.more (a .0) (r .0), r .1 ∙ regroup _ _ _)
 
-  sorting-sum : (n k : ℕ) (st : Progress) → advanced s plan 2 (part .head) n k st .figure ≡ st .figure + runningFinishes (s .sorting) (membersFrom jobFrom 13 plan (memberPlace 2 (part .head) k) n)
+  sorting-sum : (n k : ℕ) (st : Progress)
+      → advanced s plan 2 (part .head) n k st .figure ≡ st .figure + runningFinishes (s .sorting) (jobsFrom plan (memberPlace 2 (part .head) k) n)
   unfolding advanced afterMember afterStrip membersFrom runningFinishes
   sorting-sum zero k st = omega arith
   sorting-sum (suc n) k st =
       let j = jobFrom plan (memberPlace 2 (part .head) k) in
       sorting-sum n (k + 1) (afterStrip s st j) ∙ regroup _ _ _ ∙ ap (λ (js : List Job). st .figure + runningFinishes (s .sorting) js) (sym (jobs-more s plan part n k))
 
-first-place : (section head : ℕ) → memberPlace section head 0 ≡ head + headBytes section
+first-place : (section head : ℕ) → memberPlace section head 0 ≡ head + sizeOf (headForm section)
 unfolding memberPlace
 first-place section head = omega arith
 
@@ -98,24 +102,27 @@ from-none : (x : ℕ) → 0 + x ≡ x
 from-none x = omega arith
 
 module _ (s : Sheet) (plan : List ℕ) where
-  mosaic-true : (st : Progress) → Reached s plan 1 (partAt s plan 1 .members) st → HeadFollows s plan 1 (partAt s plan 1) st → figureOf s plan 1 (partAt s plan 1) st ≡ ruleFigure s plan 1 (partAt s plan 1)
-  unfolding HeadFollows figureOf ruleFigure begun headBytes
+  mosaic-true : (st : Progress) → Reached s plan 1 (partAt s plan 1 .members) st → HeadFollows s plan 1 (partAt s plan 1) st
+      → figureOf s plan 1 (partAt s plan 1) st ≡ ruleFigure s plan 1 (partAt s plan 1)
+  unfolding HeadFollows figureOf ruleFigure begun headForm
   mosaic-true st r h =
       let part = partAt s plan 1 in
       let a = reached-all s plan 1 r in
       let m = mosaic-runs s plan part (part .members) 0 begun (a .0) (ap (λ (x : Progress). x .before .last) (sym (a .1)) ∙ h) in
-      ap (λ (x : Progress). x .figure) (a .1) ∙ m .1 ∙ from-none (runningFigure noBatch (membersFrom batchFrom 12 plan (memberPlace 1 (part .head) 0) (part .members))) ∙ sym (mosaic-figure (s .mosaic) (membersFrom batchFrom 12 plan (memberPlace 1 (part .head) 0) (part .members)) (m .0))
-      ∙ ap (λ (at : ℕ). mosaicFigure (s .mosaic) (membersFrom batchFrom 12 plan at (part .members))) (first-place 1 (part .head))
+      ap (λ (x : Progress). x .figure) (a .1) ∙ m .1 ∙ from-none (runningFigure noBatch (batchesFrom plan (memberPlace 1 (part .head) 0) (part .members))) ∙ sym (mosaic-figure (s .mosaic) (batchesFrom plan (memberPlace 1 (part .head) 0) (part .members)) (m .0))
+      ∙ ap (λ (at : ℕ). mosaicFigure (s .mosaic) (batchesFrom plan at (part .members))) (first-place 1 (part .head))
 
-  sorting-true : (st : Progress) → Reached s plan 2 (partAt s plan 2 .members) st → figureOf s plan 2 (partAt s plan 2) st ≡ ruleFigure s plan 2 (partAt s plan 2)
-  unfolding figureOf ruleFigure begun headBytes
+  sorting-true : (st : Progress) → Reached s plan 2 (partAt s plan 2 .members) st
+      → figureOf s plan 2 (partAt s plan 2) st ≡ ruleFigure s plan 2 (partAt s plan 2)
+  unfolding figureOf ruleFigure begun headForm
   sorting-true st r =
       let part = partAt s plan 2 in
       let a = reached-all s plan 2 r in
-      ap (λ (x : Progress). x .figure) (a .1) ∙ sorting-sum s plan part (part .members) 0 begun ∙ from-none (runningFinishes (s .sorting) (membersFrom jobFrom 13 plan (memberPlace 2 (part .head) 0) (part .members))) ∙ sym (sorting-figure (s .sorting) (membersFrom jobFrom 13 plan (memberPlace 2 (part .head) 0) (part .members)))
-      ∙ ap (λ (at : ℕ). sortingFigure (s .sorting) (membersFrom jobFrom 13 plan at (part .members))) (first-place 2 (part .head))
+      ap (λ (x : Progress). x .figure) (a .1) ∙ sorting-sum s plan part (part .members) 0 begun ∙ from-none (runningFinishes (s .sorting) (jobsFrom plan (memberPlace 2 (part .head) 0) (part .members))) ∙ sym (sorting-figure (s .sorting) (jobsFrom plan (memberPlace 2 (part .head) 0) (part .members)))
+      ∙ ap (λ (at : ℕ). sortingFigure (s .sorting) (jobsFrom plan at (part .members))) (first-place 2 (part .head))
 
-  pub reached-figure : (section : ℕ) (st : Progress) → Reached s plan section (partAt s plan section .members) st → HeadFollows s plan section (partAt s plan section) st
+  pub reached-figure : (section : ℕ) (st : Progress) → Reached s plan section (partAt s plan section .members) st
+      → HeadFollows s plan section (partAt s plan section) st
       → figureOf s plan section (partAt s plan section) st ≡ ruleFigure s plan section (partAt s plan section)
   unfolding figureOf ruleFigure
   reached-figure section st = go (ℕ-discrete 1 section) (ℕ-discrete 2 section)

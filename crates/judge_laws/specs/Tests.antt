@@ -1,6 +1,6 @@
 -- Each test of the judge decides its rule: where it answers true the rule as it runs over the members holds, and where the rule holds it answers true.
 -- The parts of a conjunction are the fields of the rule's record, in their order; the tests over desks and passes go one by one.
-use Prim.Native.Nat.{ℕ, zero, suc, _+_, _-_, _*_, _≤_, _<_}
+use Prim.Native.Nat.{ℕ, zero, suc, _+_, _-_, _*_, _<_}
 use mathlib.Core.Path.{_≡_, refl, sym, subst, _∙_}
 use mathlib.Core.Bool.{Bool, true, false, not, _&&_, _||_}
 use mathlib.Core.List.{List}
@@ -11,11 +11,12 @@ use lib.Dec.{leb, eqb}
 use borrow.Author.Tests.{lt-ltb, le-leb, eq-eqb, ltb-true, leb-true, eqb-true}
 use Rattle.base.specs.Branch.{both}
 use Rattle.order.specs.Decided.{proper-true, true-proper}
+use Rattle.order.specs.Passes.{passAt}
 use Rattle.sheet.specs.declared.MosaicSection.{MosaicSection}
 use Rattle.sheet.specs.declared.SortingSection.{SortingSection}
 use Rattle.sheet.specs.declared.FlightSection.{FlightSection}
 use Rattle.rules.specs.Sorting.{stripsOf}
-use Rattle.rules.specs.Flight.{passStart, clearAt, Clear, passAt}
+use Rattle.rules.specs.Flight.{passStart, clearAt, Clear}
 use Rattle.running.specs.Running.{BatchFollows, JobFollows, AllDone, BlockFollows, FlightHead}
 use Rattle.rules.specs.declared.Batch.{Batch}
 use Rattle.rules.specs.declared.Job.{Job}
@@ -108,7 +109,8 @@ unfolding allDone
 done-each counts done zero e d h = absurd (omega arith)
 done-each counts done (suc n) e d h = go (ℕ-discrete d n) (both _ _ e) (done-each counts done n)
   where
-    go : Dec (d ≡ n) → (allDone counts done n ≡ true) × (eqb (getD done n 0) (getD counts n 0) ≡ true) → (allDone counts done n ≡ true → (k : ℕ) → k < n → getD done k 0 ≡ getD counts k 0) → getD done d 0 ≡ getD counts d 0
+    go : Dec (d ≡ n) → (allDone counts done n ≡ true) × (eqb (getD done n 0) (getD counts n 0) ≡ true)
+        → (allDone counts done n ≡ true → (k : ℕ) → k < n → getD done k 0 ≡ getD counts k 0) → getD done d 0 ≡ getD counts d 0
     go (yes q) p ih = subst (λ (k : ℕ). getD done k 0 ≡ getD counts k 0) (sym q) (eqb-true _ _ (p .1))
     go (no q) p ih = ih (p .0) d (omega arith)
 
@@ -133,16 +135,19 @@ module _ (s : SortingSection) (d : Desks) where
 
 -- the passes, one by one
 module _ (f : FlightSection) (order : ℕ) (ps : List Passes) where
-  order-each : (n : ℕ) → passesInOrder f order ps n ≡ true → (k : ℕ) → k < n → Clear f ps (passAt f order k) (passAt f order (k + 1))
+  order-each : (n : ℕ) → passesInOrder f order ps n ≡ true → (k : ℕ) → k < n → Clear f ps (passAt (f .blocks) order k) (passAt (f .blocks) order (k + 1))
   unfolding passesInOrder
   order-each zero e k h = absurd (omega arith)
   order-each (suc n) e k h = go (ℕ-discrete k n) (both _ _ e) (order-each n)
     where
-      go : Dec (k ≡ n) → (passesInOrder f order ps n ≡ true) × (leb (clearAt f ps (passAt f order n)) (passStart f ps (passAt f order (n + 1))) ≡ true) → (passesInOrder f order ps n ≡ true → (i : ℕ) → i < n → Clear f ps (passAt f order i) (passAt f order (i + 1))) → Clear f ps (passAt f order k) (passAt f order (k + 1))
-      go (yes q) p ih = subst (λ (i : ℕ). Clear f ps (passAt f order i) (passAt f order (i + 1))) (sym q) (leb-true _ _ (p .1))
+      go : Dec (k ≡ n)
+          → (passesInOrder f order ps n ≡ true) × (leb (clearAt f ps (passAt (f .blocks) order n)) (passStart f ps (passAt (f .blocks) order (n + 1))) ≡ true)
+          → (passesInOrder f order ps n ≡ true → (i : ℕ) → i < n → Clear f ps (passAt (f .blocks) order i) (passAt (f .blocks) order (i + 1)))
+          → Clear f ps (passAt (f .blocks) order k) (passAt (f .blocks) order (k + 1))
+      go (yes q) p ih = subst (λ (i : ℕ). Clear f ps (passAt (f .blocks) order i) (passAt (f .blocks) order (i + 1))) (sym q) (leb-true _ _ (p .1))
       go (no q) p ih = ih (p .0) k (omega arith)
 
-  each-order : (n : ℕ) → ((k : ℕ) → k < n → Clear f ps (passAt f order k) (passAt f order (k + 1))) → passesInOrder f order ps n ≡ true
+  each-order : (n : ℕ) → ((k : ℕ) → k < n → Clear f ps (passAt (f .blocks) order k) (passAt (f .blocks) order (k + 1))) → passesInOrder f order ps n ≡ true
   unfolding passesInOrder
   each-order zero h = refl
   each-order (suc n) h = all-of _ _ (each-order n (λ k l. h k (omega arith))) (le-leb _ _ (h n (omega arith)))

@@ -15,7 +15,7 @@ use Rattle.rules.specs.Mosaic.{mosaicFigure}
 use Rattle.rules.specs.Sorting.{sortingFigure}
 use Rattle.rules.specs.Flight.{flightFigure}
 use Rattle.rules.specs.Plan.{Plan, AllowedFor}
-use Rattle.rules_laws.specs.ByteLaws.{AreBytes}
+use Rattle.plan_format.specs.ByteLaws.{AreBytes}
 use Rattle.rules_laws.specs.Fits.{mosaic-figure-least, sorting-figure-least, flight-figure-least}
 use Rattle.judge_members.specs.Members.{present}
 use Rattle.judge.specs.Judged.{statedFigure, turnedBack, found, judged}

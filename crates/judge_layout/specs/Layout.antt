@@ -8,7 +8,7 @@ use lib.Dec.{ltb, eqb}
 use Rattle.field.specs.Field.{fieldAt}
 use Rattle.field.specs.declared.Field.{Field}
 use Rattle.field.specs.declared.Field.the-variants.{End, Cut, Whole}
-use Rattle.sheet.specs.Tags.{planMosaicTag, planBatchTag, planSortingTag, planStripTag, planFlightTag, planBlockTag}
+use Rattle.plan_format.specs.Format.{Form, contentLength, mosaicHeadForm, batchForm, sortingHeadForm, jobForm, flightHeadForm, passesForm}
 use Rattle.sheet.specs.Refusals.{layoutWrong}
 use Rattle.sheet.specs.Sound.{stripsInAll}
 use Rattle.sheet.specs.declared.Sheet.{Sheet}
@@ -44,14 +44,18 @@ partOf present plan at headTag headLen tag len =
     (record { right = false; head = at; members = 0; end = at }))
     (record { right = true; head = at; members = 0; end = at })
 
+-- the same by their forms
+abbrev pub partByForms : Bool → List ℕ → ℕ → Form → Form → Part
+partByForms present plan at head member = partOf present plan at (head .tag) (contentLength head) (member .tag) (contentLength member)
+
 unfoldable pub mosaicPart : Sheet → List ℕ → Part
-mosaicPart s plan = partOf (ltb 0 (s .mosaic .strips)) plan 0 planMosaicTag 4 planBatchTag 9
+mosaicPart s plan = partByForms (ltb 0 (s .mosaic .strips)) plan 0 mosaicHeadForm batchForm
 
 unfoldable pub sortingPart : Sheet → List ℕ → Part
-sortingPart s plan = partOf (ltb 0 (stripsInAll (s .sorting))) plan (mosaicPart s plan .end) planSortingTag 4 planStripTag 10
+sortingPart s plan = partByForms (ltb 0 (stripsInAll (s .sorting))) plan (mosaicPart s plan .end) sortingHeadForm jobForm
 
 unfoldable pub flightPart : Sheet → List ℕ → Part
-flightPart s plan = partOf (ltb 0 (s .flight .blocks)) plan (sortingPart s plan .end) planFlightTag 12 planBlockTag 8
+flightPart s plan = partByForms (ltb 0 (s .flight .blocks)) plan (sortingPart s plan .end) flightHeadForm passesForm
 
 unfoldable pub verdict : ℕ → ℕ → Verdict
 verdict number place = record { number = number; place = place }

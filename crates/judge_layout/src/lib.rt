@@ -1,6 +1,13 @@
 // The layout of a plan: its sections, each a head and the members that follow.
 use field::Field;
 use field::field_at;
+use plan_format::BATCH_LENGTH;
+use plan_format::CONTENT;
+use plan_format::FLIGHT_HEAD_LENGTH;
+use plan_format::JOB_LENGTH;
+use plan_format::MOSAIC_HEAD_LENGTH;
+use plan_format::PASSES_LENGTH;
+use plan_format::SORTING_HEAD_LENGTH;
 use sheet::Sheet;
 use sheet::desks::strips_in_all;
 use sheet::numbers::LAYOUT_WRONG;
@@ -53,10 +60,10 @@ fn part_from(plan: &[u8], at: usize, head_length: usize, tag: u8, length: usize)
     requires { ⌜ PartAsked (now plan) at «head_length» length ⌝ }
     ensures { λ r. ⌜ r ≡ partFrom (now (plan .entry)) at «head_length» tag length ⌝ }
 {
-    let mut end = at + (3 + head_length);
+    let mut end = at + (CONTENT + head_length);
     let mut members: usize = 0;
     while is_field(plan, end, tag, length) {
-        end += 3 + length;
+        end += CONTENT + length;
         members += 1;
     }
     Part {
@@ -103,7 +110,15 @@ pub fn mosaic_part(s: Sheet, plan: &[u8]) -> Part
     ensures { λ r. ⌜ r ≡ mosaicPart s (now (plan .entry)) ⌝ }
 {
     let present = 0 < s.mosaic.strips;
-    part_of(present, plan, 0, PLAN_MOSAIC, 4, PLAN_BATCH, 9)
+    part_of(
+        present,
+        plan,
+        0,
+        PLAN_MOSAIC,
+        MOSAIC_HEAD_LENGTH,
+        PLAN_BATCH,
+        BATCH_LENGTH,
+    )
 }
 
 // The sorting of a plan, whose mosaic ends at an offset.
@@ -113,7 +128,15 @@ pub fn sorting_part(s: Sheet, plan: &[u8], at: usize) -> Part
 {
     let t = s.sorting;
     let present = 0 < strips_in_all(t);
-    part_of(present, plan, at, PLAN_SORTING, 4, PLAN_STRIP, 10)
+    part_of(
+        present,
+        plan,
+        at,
+        PLAN_SORTING,
+        SORTING_HEAD_LENGTH,
+        PLAN_STRIP,
+        JOB_LENGTH,
+    )
 }
 
 // The flight of a plan, whose sorting ends at an offset.
@@ -122,7 +145,15 @@ pub fn flight_part(s: Sheet, plan: &[u8], at: usize) -> Part
     ensures { λ r. ⌜ r ≡ flightPart s (now (plan .entry)) ⌝ }
 {
     let present = 0 < s.flight.blocks;
-    part_of(present, plan, at, PLAN_FLIGHT, 12, PLAN_BLOCK, 8)
+    part_of(
+        present,
+        plan,
+        at,
+        PLAN_FLIGHT,
+        FLIGHT_HEAD_LENGTH,
+        PLAN_BLOCK,
+        PASSES_LENGTH,
+    )
 }
 
 // 12 and its place, 0 and 0 where the plan is laid out as its sheet asks.

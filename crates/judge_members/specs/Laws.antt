@@ -9,8 +9,7 @@ use lib.ListN.{length, getD, set, length-set}
 use lib.Dec.{ltb, leb, eqb}
 use borrow.Author.Tests.{eq-eqb, ne-eqb, eqb-true, ltb-true, leb-true, not-true, not-false}
 use Rattle.base.specs.Branch.{both, check}
-use Rattle.field.specs.Bytes.{NumberRead}
-use Rattle.sheet.specs.Limits.{mostStrips, mostDesks, mostStripsOfDesk, ceiling}
+use Rattle.sheet.specs.Limits.{mostStrips, mostDesks, mostStripsOfDesk, mostBlocks, ceiling}
 use Rattle.sheet.specs.Refusals.{ruleBroken, figureUntrue}
 use Rattle.sheet.specs.Sound.{SheetSound, stripsInAll}
 use Rattle.sheet.specs.Stores.{set-here, set-there, set-most}
@@ -18,7 +17,8 @@ use Rattle.sheet.specs.declared.Sheet.{Sheet}
 use Rattle.rules.specs.Mosaic.{noBatch}
 use Rattle.rules.specs.Sorting.{stripsOf, deskFinish, deskTime}
 use Rattle.rules.specs.Flight.{flightFigure}
-use Rattle.plan_read.specs.PlanRead.{figureFrom, orderFrom, batchFrom, jobFrom, passesFrom}
+use Rattle.plan_format.specs.Format.{sizeOf, mosaicHeadForm, batchForm, sortingHeadForm, jobForm, flightHeadForm, passesForm}
+use Rattle.plan_read.specs.PlanRead.{figureFrom, orderFrom, batchFrom, jobFrom, passesFrom, blocksFrom, BatchRead, JobRead, PassesRead}
 use Rattle.running.specs.Running.{freeDesks, afterJob}
 use Rattle.running.specs.FunctionLaws.{TimeTold}
 use Rattle.rules.specs.declared.Batch.{Batch}
@@ -26,39 +26,11 @@ use Rattle.rules.specs.declared.Job.{Job}
 use Rattle.rules.specs.declared.Passes.{Passes}
 use Rattle.running.specs.declared.Desks.{Desks}
 use Rattle.judge_rules.specs.Follows.{batchInRun, batchInTime, batchFollows, jobInTurn, jobInTime, jobFollows, blockFollows, allDone, flightHead}
-use Rattle.rules_laws.specs.RoundTrip.{BatchFits, JobFits, PassesFits}
 use Rattle.judge_rules.specs.Asked.{DesksFit, BatchAsked, JobAsked, JobTaken, BlockAsked}
-use Rattle.judge_flight.specs.Starts as starts
-use Rattle.judge_flight.specs.Starts.{passesOf, FigureTold}
+use Rattle.judge_flight.specs.Starts.{FigureTold}
 use Rattle.judge_layout.specs.declared.Part.{Part}
-use Rattle.judge_members.specs.Members.{present, headBytes, memberBytes, memberPlace, begun, memberFollows, afterBatch, afterStrip, afterMember, headFollows, figureOf, headNumber}
+use Rattle.judge_members.specs.Members.{present, headForm, memberForm, memberPlace, begun, memberFollows, afterBatch, afterStrip, afterMember, headFollows, figureOf, headNumber}
 use Rattle.judge_members.specs.declared.Progress.{Progress}
-
--- members as the plan's bytes give them
-pub record BatchRead (plan : List ℕ) (at : ℕ) (b : Batch) : Type 0 where
-  pub is : b ≡ batchFrom plan at
-  pub fits : BatchFits b
-
-pub record JobRead (plan : List ℕ) (at : ℕ) (j : Job) : Type 0 where
-  pub is : j ≡ jobFrom plan at
-  pub fits : JobFits j
-
-pub record PassesRead (plan : List ℕ) (at : ℕ) (p : Passes) : Type 0 where
-  pub is : p ≡ passesFrom plan at
-  pub fits : PassesFits p
-
-module _ (plan : List ℕ) (at : ℕ) where
-  pub batch-read : (last start finish : ℕ) → NumberRead plan (at + 3) 1 last → NumberRead plan (at + 4) 4 start → NumberRead plan (at + 8) 4 finish → BatchRead plan at (record { last = last; start = start; finish = finish })
-  unfolding batchFrom
-  batch-read last start finish a b c = record { is = rw (a .is, b .is, c .is); fits = record { last = a .fits; start = b .fits; finish = c .fits } }
-
-  pub job-read : (desk number scan start : ℕ) → NumberRead plan (at + 3) 1 desk → NumberRead plan (at + 4) 1 number → NumberRead plan (at + 5) 4 scan → NumberRead plan (at + 9) 4 start → JobRead plan at (record { desk = desk; number = number; scan = scan; start = start })
-  unfolding jobFrom
-  job-read desk number scan start a b c d = record { is = rw (a .is, b .is, c .is, d .is); fits = record { desk = a .fits; number = b .fits; scan = c .fits; start = d .fits } }
-
-  pub passes-read : (first second : ℕ) → NumberRead plan (at + 3) 4 first → NumberRead plan (at + 7) 4 second → PassesRead plan at (record { first = first; second = second })
-  unfolding passesFrom
-  passes-read first second a b = record { is = rw (a .is, b .is); fits = record { first = a .fits; second = b .fits } }
 
 -- what holds as members are judged: the figure so far is within the ceiling for each strip judged
 pub record Kept (p : Progress) : Type 0 where
@@ -66,16 +38,15 @@ pub record Kept (p : Progress) : Type 0 where
   pub most-last : p .before .last ≤ mostStrips
   pub most-figure : p .figure ≤ (p .before .last + getD (p .desks .done) 0 0 + getD (p .desks .done) 1 0 + getD (p .desks .done) 2 0) * ceiling
 
-pub record PlaceAsked (head k : ℕ) : Type 0 where
-  pub room : head + 11 * k < 2 ^ 63
+pub record PlaceAsked (section head k : ℕ) : Type 0 where
+  pub room : memberPlace section head k < 2 ^ 64
 
-pub record MemberAsked (s : Sheet) (place : ℕ) (p : Progress) : Type 0 where
+pub record MemberAsked (s : Sheet) (p : Progress) : Type 0 where
   pub sound : SheetSound s
-  pub room : place + 16 < 2 ^ 64
   pub kept : Kept p
 
 pub record AfterAsked (s : Sheet) (plan : List ℕ) (section place : ℕ) (p : Progress) : Type 0 where
-  pub asked : MemberAsked s place p
+  pub asked : MemberAsked s p
   pub index : ℕ
   pub follows : memberFollows s plan section index place p ≡ true
 
@@ -93,7 +64,7 @@ pub record AfterStripAsked (s : Sheet) (p : Progress) (j : Job) : Type 0 where
 
 pub record HeadAsked (s : Sheet) (part : Part) : Type 0 where
   pub sound : SheetSound s
-  pub room : part .head + 1024 < 2 ^ 64
+  pub room : part .head + sizeOf flightHeadForm + sizeOf passesForm * mostBlocks < 2 ^ 64
 
 pub record FigureAsked (s : Sheet) (plan : List ℕ) (section : ℕ) (part : Part) (p : Progress) : Type 0 where
   pub asked : HeadAsked s part
@@ -113,23 +84,66 @@ module _ (s : Sheet) (section : ℕ) where
   unfolding present
   present-flight h₁ h₂ = rw (ne-eqb _ _ h₁, ne-eqb _ _ h₂)
 
-module _ (section head k : ℕ) where
-  pub place-mosaic : section ≡ 1 → head + 7 + k * 12 ≡ memberPlace section head k
-  unfolding memberPlace headBytes memberBytes
-  place-mosaic e = rw e
+module _ (section : ℕ) where
+  pub head-size-mosaic : section ≡ 1 → sizeOf mosaicHeadForm ≡ sizeOf (headForm section)
+  unfolding headForm
+  head-size-mosaic e = rw e
 
-  pub place-sorting : section ≡ 2 → head + 7 + k * 13 ≡ memberPlace section head k
-  unfolding memberPlace headBytes memberBytes
-  place-sorting e = rw e
+  pub head-size-sorting : section ≡ 2 → sizeOf sortingHeadForm ≡ sizeOf (headForm section)
+  unfolding headForm
+  head-size-sorting e = rw e
 
-  pub place-flight : (section ≡ 1 → ⊥) → (section ≡ 2 → ⊥) → head + 15 + k * 11 ≡ memberPlace section head k
-  unfolding memberPlace headBytes memberBytes
-  place-flight h₁ h₂ = rw (ne-eqb _ _ h₁, ne-eqb _ _ h₂)
+  pub head-size-flight : (section ≡ 1 → ⊥) → (section ≡ 2 → ⊥) → sizeOf flightHeadForm ≡ sizeOf (headForm section)
+  unfolding headForm
+  head-size-flight h₁ h₂ = rw (ne-eqb _ _ h₁, ne-eqb _ _ h₂)
+
+  pub member-size-mosaic : section ≡ 1 → sizeOf batchForm ≡ sizeOf (memberForm section)
+  unfolding memberForm
+  member-size-mosaic e = rw e
+
+  pub member-size-sorting : section ≡ 2 → sizeOf jobForm ≡ sizeOf (memberForm section)
+  unfolding memberForm
+  member-size-sorting e = rw e
+
+  pub member-size-flight : (section ≡ 1 → ⊥) → (section ≡ 2 → ⊥) → sizeOf passesForm ≡ sizeOf (memberForm section)
+  unfolding memberForm
+  member-size-flight h₁ h₂ = rw (ne-eqb _ _ h₁, ne-eqb _ _ h₂)
+
+  module _ (plan : List ℕ) (head figure : ℕ) where
+    pub figure-of-mosaic : section ≡ 1 → figure ≡ figureFrom mosaicHeadForm plan head → figure ≡ figureFrom (headForm section) plan head
+    unfolding headForm
+    figure-of-mosaic e h = h ∙ rw e
+
+    pub figure-of-sorting : section ≡ 2 → figure ≡ figureFrom sortingHeadForm plan head → figure ≡ figureFrom (headForm section) plan head
+    unfolding headForm
+    figure-of-sorting e h = h ∙ rw e
+
+    pub figure-of-flight : (section ≡ 1 → ⊥) → (section ≡ 2 → ⊥) → figure ≡ figureFrom flightHeadForm plan head
+        → figure ≡ figureFrom (headForm section) plan head
+    unfolding headForm
+    figure-of-flight h₁ h₂ h = h ∙ rw (ne-eqb _ _ h₁, ne-eqb _ _ h₂)
+
+  -- the place of a member, by the sizes of its section
+  module _ (head k skip step : ℕ) (es : skip ≡ sizeOf (headForm section)) (et : step ≡ sizeOf (memberForm section)) where
+    pub place-is : head + skip + k * step ≡ memberPlace section head k
+    unfolding memberPlace
+    place-is = rw (es, et)
+
+    pub place-fits : PlaceAsked section head k → head + skip + k * step < 2 ^ 64
+    place-fits a = omega (arith, place-is, a .room)
+
+    pub members-fit : PlaceAsked section head k → k * step < 2 ^ 64
+    members-fit a = omega (arith, place-fits a)
+
+  pub head-fits : (head k skip : ℕ) → skip ≡ sizeOf (headForm section) → PlaceAsked section head k → head + skip < 2 ^ 64
+  unfolding memberPlace
+  head-fits head k skip es a = omega (arith, es, a .room)
 
 -- members
 
 module _ (s : Sheet) (plan : List ℕ) (section k place : ℕ) (p : Progress) (r : Bool) where
-  pub member-batch : (b : Batch) → section ≡ 1 → BatchRead plan place b → r ≡ batchFollows (s .mosaic) (p .before) b → r ≡ memberFollows s plan section k place p
+  pub member-batch : (b : Batch) → section ≡ 1 → BatchRead plan place b → r ≡ batchFollows (s .mosaic) (p .before) b
+      → r ≡ memberFollows s plan section k place p
   unfolding memberFollows
   member-batch b e t h = h ∙ rw (e, t .is)
 
@@ -137,11 +151,12 @@ module _ (s : Sheet) (plan : List ℕ) (section k place : ℕ) (p : Progress) (r
   unfolding memberFollows
   member-job j e t h = h ∙ rw (e, t .is)
 
-  pub member-block : (q : Passes) → (section ≡ 1 → ⊥) → (section ≡ 2 → ⊥) → PassesRead plan place q → r ≡ blockFollows (s .flight) k q → r ≡ memberFollows s plan section k place p
+  pub member-block : (q : Passes) → (section ≡ 1 → ⊥) → (section ≡ 2 → ⊥) → PassesRead plan place q → r ≡ blockFollows (s .flight) k q
+      → r ≡ memberFollows s plan section k place p
   unfolding memberFollows
   member-block q h₁ h₂ t h = h ∙ rw (ne-eqb _ _ h₁, ne-eqb _ _ h₂, t .is)
 
-module _ (s : Sheet) (plan : List ℕ) (place : ℕ) (p : Progress) (a : MemberAsked s place p) where
+module _ (s : Sheet) (plan : List ℕ) (place : ℕ) (p : Progress) (a : MemberAsked s p) where
   pub batch-asked : (b : Batch) → BatchRead plan place b → BatchAsked (s .mosaic) b
   batch-asked b t = record { sound = a .sound .mosaic; fits = t .fits }
 
@@ -167,14 +182,16 @@ job-within scanner free scan scanned start finish e =
     let v = both (leb scanned start) (leb free start && leb finish ceiling) (u .1) in
     leb-true finish ceiling (both (leb free start) (leb finish ceiling) (v .1) .1)
 
-batch-facts : (s : Sheet) (p : Progress) (b : Batch) → batchFollows (s .mosaic) (p .before) b ≡ true → (p .before .last < b .last) × (b .last ≤ s .mosaic .strips) × (b .finish ≤ ceiling)
+batch-facts : (s : Sheet) (p : Progress) (b : Batch) → batchFollows (s .mosaic) (p .before) b ≡ true
+    → (p .before .last < b .last) × (b .last ≤ s .mosaic .strips) × (b .finish ≤ ceiling)
 unfolding batchFollows batchInRun
 batch-facts s p b e =
     let x = both _ _ e in
     let y = both _ _ (x .0) in
     (ltb-true _ _ (y .0), leb-true _ _ (y .1), batch-within _ _ _ _ _ (x .1))
 
-job-facts : (s : Sheet) (p : Progress) (j : Job) → jobFollows (s .sorting) (p .desks) j ≡ true → (1 ≤ j .desk) × (j .desk ≤ s .sorting .desks) × (j .number ≡ getD (p .desks .done) (j .desk - 1) 0 + 1) × (j .number ≤ stripsOf (s .sorting) (j .desk)) × (deskFinish (s .sorting) j ≤ ceiling)
+job-facts : (s : Sheet) (p : Progress) (j : Job) → jobFollows (s .sorting) (p .desks) j ≡ true
+    → (1 ≤ j .desk) × (j .desk ≤ s .sorting .desks) × (j .number ≡ getD (p .desks .done) (j .desk - 1) 0 + 1) × (j .number ≤ stripsOf (s .sorting) (j .desk)) × (deskFinish (s .sorting) j ≤ ceiling)
 unfolding jobFollows jobInTurn
 job-facts s p j e =
     let x = both _ _ e in
@@ -255,12 +272,14 @@ module _ (s : Sheet) (p : Progress) (j : Job) (a : AfterStripAsked s p j) where
       let l = a .kept .most-last in
       omega (arith, a .taken .asked .fits .start, t .fits, a .kept .most-figure, sums-few (p .desks) (a .kept .desks))
 
-  pub after-strip-is : (time : ℕ) (d : Desks) → TimeTold (deskTime (s .sorting) j) time → d ≡ afterJob (s .sorting) (p .desks) j → _≡_ {A = Progress} (record { before = p .before; desks = d; figure = p .figure + (j .start + time) }) (afterStrip s p j)
+  pub after-strip-is : (time : ℕ) (d : Desks) → TimeTold (deskTime (s .sorting) j) time → d ≡ afterJob (s .sorting) (p .desks) j
+      → _≡_ {A = Progress} (record { before = p .before; desks = d; figure = p .figure + (j .start + time) }) (afterStrip s p j)
   unfolding afterStrip deskFinish
   after-strip-is time d t e = rw (e, t .is)
 
 -- one strip more is done
-one-more : (l : List ℕ) (d n : ℕ) → length l ≡ 3 → d < 3 → n ≡ getD l d 0 + 1 → getD (set l d n) 0 0 + getD (set l d n) 1 0 + getD (set l d n) 2 0 ≡ getD l 0 0 + getD l 1 0 + getD l 2 0 + 1
+one-more : (l : List ℕ) (d n : ℕ) → length l ≡ 3 → d < 3 → n ≡ getD l d 0 + 1
+    → getD (set l d n) 0 0 + getD (set l d n) 1 0 + getD (set l d n) 2 0 ≡ getD l 0 0 + getD l 1 0 + getD l 2 0 + 1
 one-more l zero n long h e =
     omega (arith, set-here l 0 0 n (omega arith) refl, set-there l 0 1 n (λ q. omega arith), set-there l 0 2 n (λ q. omega arith))
 one-more l (suc zero) n long h e =
@@ -269,7 +288,8 @@ one-more l (suc (suc zero)) n long h e =
     omega (arith, set-there l 2 0 n (λ q. omega arith), set-there l 2 1 n (λ q. omega arith), set-here l 2 2 n (omega arith) refl)
 one-more l (suc (suc (suc d))) n long h e = absurd (omega arith)
 
-strip-kept : (s : Sheet) (p : Progress) (j : Job) → Kept p → 1 ≤ j .desk → j .desk ≤ mostDesks → j .number ≡ getD (p .desks .done) (j .desk - 1) 0 + 1 → j .number ≤ mostStripsOfDesk → deskFinish (s .sorting) j ≤ ceiling → Kept (afterStrip s p j)
+strip-kept : (s : Sheet) (p : Progress) (j : Job) → Kept p → 1 ≤ j .desk → j .desk ≤ mostDesks → j .number ≡ getD (p .desks .done) (j .desk - 1) 0 + 1
+    → j .number ≤ mostStripsOfDesk → deskFinish (s .sorting) j ≤ ceiling → Kept (afterStrip s p j)
 unfolding afterStrip afterJob
 strip-kept s p j k least most turn few within =
     let f = k .most-figure in
@@ -290,11 +310,13 @@ unfolding stripsOf
 strips-within s desk sound = sound .sorting .most-strips (desk - 1)
 
 -- a member that follows keeps what holds
-pub member-kept : (s : Sheet) (plan : List ℕ) (section k place : ℕ) (p : Progress) → SheetSound s → Kept p → memberFollows s plan section k place p ≡ true → Kept (afterMember s plan section place p)
+pub member-kept : (s : Sheet) (plan : List ℕ) (section k place : ℕ) (p : Progress) → SheetSound s → Kept p → memberFollows s plan section k place p ≡ true
+    → Kept (afterMember s plan section place p)
 unfolding memberFollows afterMember
 member-kept s plan section k place p sound kept e = by-section (eqb section 1) (eqb section 2) e
   where
-    by-section : (x y : Bool) → cond x (batchFollows (s .mosaic) (p .before) (batchFrom plan place)) (cond y (jobFollows (s .sorting) (p .desks) (jobFrom plan place)) (blockFollows (s .flight) k (passesFrom plan place))) ≡ true → Kept (cond x (afterBatch p (batchFrom plan place)) (cond y (afterStrip s p (jobFrom plan place)) p))
+    by-section : (x y : Bool)
+        → cond x (batchFollows (s .mosaic) (p .before) (batchFrom plan place)) (cond y (jobFollows (s .sorting) (p .desks) (jobFrom plan place)) (blockFollows (s .flight) k (passesFrom plan place))) ≡ true → Kept (cond x (afterBatch p (batchFrom plan place)) (cond y (afterStrip s p (jobFrom plan place)) p))
     by-section true y h =
         let f = batch-facts s p (batchFrom plan place) h in
         batch-kept p (batchFrom plan place) (record { kept = kept; rises = omega (arith, f .0); most-last = omega (arith, f .1, sound .mosaic .most-strips); within = f .2 })
@@ -324,9 +346,11 @@ module _ (s : Sheet) (plan : List ℕ) (section : ℕ) (part : Part) (p : Progre
   unfolding headFollows
   head-sorting r e h = h ∙ rw e
 
-  pub head-flight : (r : Bool) (order : ℕ) → (section ≡ 1 → ⊥) → (section ≡ 2 → ⊥) → NumberRead plan (part .head + 7) 8 order → r ≡ flightHead (s .flight) (part .members) order (passesOf plan (part .head + 15) (part .members)) → r ≡ headFollows s plan section part p
-  unfolding headFollows orderFrom
-  head-flight r order h₁ h₂ n h = h ∙ rw (ne-eqb _ _ h₁, ne-eqb _ _ h₂, n .is)
+  pub head-flight : (r : Bool) (order : ℕ) → (section ≡ 1 → ⊥) → (section ≡ 2 → ⊥) → order ≡ orderFrom plan (part .head)
+      → r ≡ flightHead (s .flight) (part .members) order (blocksFrom plan (part .head + sizeOf flightHeadForm) (part .members))
+      → r ≡ headFollows s plan section part p
+  unfolding headFollows
+  head-flight r order h₁ h₂ e h = h ∙ rw (ne-eqb _ _ h₁, ne-eqb _ _ h₂, e)
 
   pub figure-mosaic : section ≡ 1 → p .figure ≡ figureOf s plan section part p
   unfolding figureOf
@@ -336,11 +360,12 @@ module _ (s : Sheet) (plan : List ℕ) (section : ℕ) (part : Part) (p : Progre
   unfolding figureOf
   figure-sorting e = rw e
 
-  pub figure-flight : (r : ℕ) → FigureAsked s plan section part p → (section ≡ 1 → ⊥) → (section ≡ 2 → ⊥) → FigureTold (flightFigure (s .flight) (passesOf plan (part .head + 15) (s .flight .blocks))) r → r ≡ figureOf s plan section part p
+  pub figure-flight : (r : ℕ) → FigureAsked s plan section part p → (section ≡ 1 → ⊥) → (section ≡ 2 → ⊥)
+      → FigureTold (flightFigure (s .flight) (blocksFrom plan (part .head + sizeOf flightHeadForm) (s .flight .blocks))) r → r ≡ figureOf s plan section part p
   unfolding figureOf headFollows flightHead
   figure-flight r a h₁ h₂ t =
       let q = both _ _ (rw (ne-eqb _ _ h₁, ne-eqb _ _ h₂) at (a .follows)) in
-      t .is ∙ rw (ne-eqb _ _ h₁, ne-eqb _ _ h₂) (ap (λ n. flightFigure (s .flight) (passesOf plan (part .head + 15) n)) (sym (eqb-true _ _ (q .0))))
+      t .is ∙ rw (ne-eqb _ _ h₁, ne-eqb _ _ h₂) (ap (λ n. flightFigure (s .flight) (blocksFrom plan (part .head + sizeOf flightHeadForm) n)) (sym (eqb-true _ _ (q .0))))
 
   module _ (x : Bool) (ex : x ≡ headFollows s plan section part p) where
     pub head-wrong : not x ≡ true → ruleBroken ≡ headNumber s plan section part p
@@ -351,10 +376,12 @@ module _ (s : Sheet) (plan : List ℕ) (section : ℕ) (part : Part) (p : Progre
       pub figure-asked : HeadAsked s part → FigureAsked s plan section part p
       figure-asked a = record { asked = a; follows = sym ex ∙ not-false x hx }
 
-      pub figure-wrong : (figure stated : ℕ) → figure ≡ figureOf s plan section part p → NumberRead plan (part .head + 3) 4 stated → (stated ≡ figure → ⊥) → figureUntrue ≡ headNumber s plan section part p
-      unfolding headNumber check figureFrom
-      figure-wrong figure stated ef n h = rw (← ex, not-false x hx, ← n .is, ← ef, ne-eqb _ _ h)
+      pub figure-wrong : (figure stated : ℕ) → figure ≡ figureOf s plan section part p → stated ≡ figureFrom (headForm section) plan (part .head)
+          → (stated ≡ figure → ⊥) → figureUntrue ≡ headNumber s plan section part p
+      unfolding headNumber check
+      figure-wrong figure stated ef es h = rw (← ex, not-false x hx, ← es, ← ef, ne-eqb _ _ h)
 
-      pub head-right : (figure stated : ℕ) → figure ≡ figureOf s plan section part p → NumberRead plan (part .head + 3) 4 stated → stated ≡ figure → 0 ≡ headNumber s plan section part p
-      unfolding headNumber check figureFrom
-      head-right figure stated ef n h = rw (← ex, not-false x hx, ← n .is, ← ef, eq-eqb _ _ h)
+      pub head-right : (figure stated : ℕ) → figure ≡ figureOf s plan section part p → stated ≡ figureFrom (headForm section) plan (part .head)
+          → stated ≡ figure → 0 ≡ headNumber s plan section part p
+      unfolding headNumber check
+      head-right figure stated ef es h = rw (← ex, not-false x hx, ← es, ← ef, eq-eqb _ _ h)

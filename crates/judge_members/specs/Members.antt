@@ -7,15 +7,15 @@ use Rattle.base.specs.Branch.{check}
 use Rattle.sheet.specs.Refusals.{ruleBroken, figureUntrue}
 use Rattle.sheet.specs.Sound.{stripsInAll}
 use Rattle.sheet.specs.declared.Sheet.{Sheet}
+use Rattle.plan_format.specs.Format.{Form, sizeOf, mosaicHeadForm, batchForm, sortingHeadForm, jobForm, flightHeadForm, passesForm}
 use Rattle.rules.specs.Mosaic.{noBatch}
 use Rattle.rules.specs.Sorting.{deskFinish}
 use Rattle.rules.specs.Flight.{flightFigure}
-use Rattle.plan_read.specs.PlanRead.{figureFrom, orderFrom, batchFrom, jobFrom, passesFrom}
+use Rattle.plan_read.specs.PlanRead.{figureFrom, orderFrom, batchFrom, jobFrom, passesFrom, blocksFrom}
 use Rattle.running.specs.Running.{freeDesks, afterJob}
 use Rattle.rules.specs.declared.Batch.{Batch}
 use Rattle.rules.specs.declared.Job.{Job}
 use Rattle.judge_rules.specs.Follows.{batchFollows, jobFollows, blockFollows, allDone, flightHead}
-use Rattle.judge_flight.specs.Starts.{passesOf}
 use Rattle.judge_layout.specs.declared.Part.{Part}
 use Rattle.judge_members.specs.declared.Progress.{Progress}
 
@@ -26,16 +26,16 @@ present s section =
     (cond (eqb section 2) (ltb 0 (stripsInAll (s .sorting)))
     (ltb 0 (s .flight .blocks)))
 
--- the bytes of a section's head, and of each of its members
-unfoldable pub headBytes : ℕ → ℕ
-headBytes section = cond (eqb section 1) 7 (cond (eqb section 2) 7 15)
+-- the forms of a section's head and of its members
+unfoldable pub headForm : ℕ → Form
+headForm section = cond (eqb section 1) mosaicHeadForm (cond (eqb section 2) sortingHeadForm flightHeadForm)
 
-unfoldable pub memberBytes : ℕ → ℕ
-memberBytes section = cond (eqb section 1) 12 (cond (eqb section 2) 13 11)
+unfoldable pub memberForm : ℕ → Form
+memberForm section = cond (eqb section 1) batchForm (cond (eqb section 2) jobForm passesForm)
 
 -- the place of member k, from 0, of a section whose head stands at an offset
 unfoldable pub memberPlace : ℕ → ℕ → ℕ → ℕ
-memberPlace section head k = head + headBytes section + k * memberBytes section
+memberPlace section head k = head + sizeOf (headForm section) + k * sizeOf (memberForm section)
 
 unfoldable pub begun : Progress
 begun = record { before = noBatch; desks = freeDesks; figure = 0 }
@@ -65,17 +65,17 @@ unfoldable pub headFollows : Sheet → List ℕ → ℕ → Part → Progress �
 headFollows s plan section part st =
     cond (eqb section 1) (eqb (st .before .last) (s .mosaic .strips))
     (cond (eqb section 2) (allDone (s .sorting .counts) (st .desks .done) (s .sorting .desks))
-    (flightHead (s .flight) (part .members) (orderFrom plan (part .head)) (passesOf plan (part .head + 15) (part .members))))
+    (flightHead (s .flight) (part .members) (orderFrom plan (part .head)) (blocksFrom plan (part .head + sizeOf flightHeadForm) (part .members))))
 
 -- the figure that the rules give
 unfoldable pub figureOf : Sheet → List ℕ → ℕ → Part → Progress → ℕ
 figureOf s plan section part st =
     cond (eqb section 1) (st .figure)
     (cond (eqb section 2) (st .figure)
-    (flightFigure (s .flight) (passesOf plan (part .head + 15) (part .members))))
+    (flightFigure (s .flight) (blocksFrom plan (part .head + sizeOf flightHeadForm) (part .members))))
 
 unfoldable pub headNumber : Sheet → List ℕ → ℕ → Part → Progress → ℕ
 headNumber s plan section part st =
     check (headFollows s plan section part st) ruleBroken
-    (check (eqb (figureFrom plan (part .head)) (figureOf s plan section part st)) figureUntrue
+    (check (eqb (figureFrom (headForm section) plan (part .head)) (figureOf s plan section part st)) figureUntrue
     0)

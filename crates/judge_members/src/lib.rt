@@ -1,6 +1,4 @@
 // The members of a plan's section, one after another, and what is checked at its head. The sections are numbered 1, mosaic; 2, sorting; 3, flight.
-use field::byte;
-use field::number;
 use judge_flight::flight_figure;
 use judge_flight::flight_head;
 use judge_layout::Part;
@@ -9,9 +7,21 @@ use judge_rules::all_done;
 use judge_rules::batch_follows;
 use judge_rules::block_follows;
 use judge_rules::job_follows;
+use plan_format::BATCH_SIZE;
+use plan_format::FLIGHT_HEAD_SIZE;
+use plan_format::JOB_SIZE;
+use plan_format::MOSAIC_HEAD_SIZE;
+use plan_format::PASSES_SIZE;
+use plan_format::SORTING_HEAD_SIZE;
+use plan_read::batch_from;
+use plan_read::flight_figure_from;
+use plan_read::job_from;
+use plan_read::mosaic_figure_from;
+use plan_read::order_from;
+use plan_read::passes_from;
+use plan_read::sorting_figure_from;
 use rules::Batch;
 use rules::Job;
-use rules::Passes;
 use running::Desks;
 use running::sorting::desk_time;
 use sheet::Sheet;
@@ -19,10 +29,12 @@ use sheet::desks::strips_in_all;
 use sheet::numbers::FIGURE_UNTRUE;
 use sheet::numbers::RULE_BROKEN;
 ghost use mathlib.Core.Path.{_≡_};
-ghost use Prim.Native.Nat.{_+_, _*_, _<_, _^_};
+ghost use Prim.Native.Nat.{_+_, _*_, _<_};
 ghost use Rattle.sheet.specs.Sound.{SheetSound};
-ghost use Rattle.judge_members.specs.Members.{present, memberPlace, begun, memberFollows, afterBatch, afterStrip, afterMember, headFollows, figureOf, headNumber};
-ghost use Rattle.judge_members.specs.Laws.{BatchRead, JobRead, PassesRead, PlaceAsked, MemberAsked, AfterAsked, AfterBatchAsked, AfterStripAsked, HeadAsked, FigureAsked};
+ghost use Rattle.plan_format.specs.Format.{sizeOf};
+ghost use Rattle.plan_read.specs.PlanRead.{figureFrom};
+ghost use Rattle.judge_members.specs.Members.{present, headForm, memberForm, memberPlace, begun, memberFollows, afterBatch, afterStrip, afterMember, headFollows, figureOf, headNumber};
+ghost use Rattle.judge_members.specs.Laws.{PlaceAsked, MemberAsked, AfterAsked, AfterBatchAsked, AfterStripAsked, HeadAsked, FigureAsked};
 
 // How far the members of a section have been judged: the batch before, the desks, the figure so far.
 pub struct Progress {
@@ -46,18 +58,38 @@ pub fn is_present(s: Sheet, section: u64) -> bool
     0 < s.flight.blocks
 }
 
-// The place of member k, from 0, of a section whose head stands at an offset.
-pub fn member_place(section: u64, head: usize, k: usize) -> usize
-    requires { ⌜ PlaceAsked head k ⌝ }
-    ensures { λ r. ⌜ r ≡ memberPlace section head k ⌝ }
+// The bytes that the head of a section takes.
+fn head_size(section: u64) -> usize
+    ensures { λ r. ⌜ r ≡ sizeOf (headForm section) ⌝ }
 {
     if section == 1 {
-        return head + 7 + k * 12;
+        return MOSAIC_HEAD_SIZE;
     }
     if section == 2 {
-        return head + 7 + k * 13;
+        return SORTING_HEAD_SIZE;
     }
-    head + 15 + k * 11
+    FLIGHT_HEAD_SIZE
+}
+
+// The bytes that each of its members takes.
+fn member_size(section: u64) -> usize
+    ensures { λ r. ⌜ r ≡ sizeOf (memberForm section) ⌝ }
+{
+    if section == 1 {
+        return BATCH_SIZE;
+    }
+    if section == 2 {
+        return JOB_SIZE;
+    }
+    PASSES_SIZE
+}
+
+// The place of member k, from 0, of a section whose head stands at an offset.
+pub fn member_place(section: u64, head: usize, k: usize) -> usize
+    requires { ⌜ PlaceAsked section head k ⌝ }
+    ensures { λ r. ⌜ r ≡ memberPlace section head k ⌝ }
+{
+    head + head_size(section) + k * member_size(section)
 }
 
 // Before the first member.
@@ -79,39 +111,6 @@ pub fn begin() -> Progress
     }
 }
 
-fn batch_from(plan: &[u8], at: usize) -> Batch
-    requires { ⌜ at + 16 < 2 ^ 64 ⌝ }
-    ensures { λ r. ⌜ BatchRead (now (plan .entry)) at r ⌝ }
-{
-    Batch {
-        last: byte(plan, at + 3),
-        start: number(plan, at + 4, 4),
-        finish: number(plan, at + 8, 4),
-    }
-}
-
-fn job_from(plan: &[u8], at: usize) -> Job
-    requires { ⌜ at + 16 < 2 ^ 64 ⌝ }
-    ensures { λ r. ⌜ JobRead (now (plan .entry)) at r ⌝ }
-{
-    Job {
-        desk: byte(plan, at + 3),
-        number: byte(plan, at + 4),
-        scan: number(plan, at + 5, 4),
-        start: number(plan, at + 9, 4),
-    }
-}
-
-fn passes_from(plan: &[u8], at: usize) -> Passes
-    requires { ⌜ at + 16 < 2 ^ 64 ⌝ }
-    ensures { λ r. ⌜ PassesRead (now (plan .entry)) at r ⌝ }
-{
-    Passes {
-        first: number(plan, at + 3, 4),
-        second: number(plan, at + 7, 4),
-    }
-}
-
 // Whether member k of a section, which stands at a place, follows what was judged before it.
 pub fn member_follows(
     s: Sheet,
@@ -121,7 +120,7 @@ pub fn member_follows(
     place: usize,
     progress: Progress,
 ) -> bool
-    requires { ⌜ MemberAsked s place progress ⌝ }
+    requires { ⌜ MemberAsked s progress ⌝ }
     ensures { λ r. ⌜ r ≡ memberFollows s (now (plan .entry)) section k place progress ⌝ }
 {
     if section == 1 {
@@ -201,7 +200,13 @@ fn head_follows(s: Sheet, plan: &[u8], section: u64, part: Part, progress: Progr
     }
     let f = s.flight;
     let head = part.head;
-    flight_head(f, part.members, number(plan, head + 7, 8), plan, head + 15)
+    flight_head(
+        f,
+        part.members,
+        order_from(plan, head),
+        plan,
+        head + FLIGHT_HEAD_SIZE,
+    )
 }
 
 // The figure that the rules give, the head judged.
@@ -216,7 +221,20 @@ fn figure_of(s: Sheet, plan: &[u8], section: u64, part: Part, progress: Progress
         return progress.figure;
     }
     let f = s.flight;
-    flight_figure(f, plan, part.head + 15)
+    flight_figure(f, plan, part.head + FLIGHT_HEAD_SIZE)
+}
+
+// The figure that the head of a section states.
+pub fn head_figure(plan: &[u8], section: u64, head: usize) -> u64
+    ensures { λ r. ⌜ r ≡ figureFrom (headForm section) (now (plan .entry)) head ⌝ }
+{
+    if section == 1 {
+        return mosaic_figure_from(plan, head);
+    }
+    if section == 2 {
+        return sorting_figure_from(plan, head);
+    }
+    flight_figure_from(plan, head)
 }
 
 // 13 or 14 at a head, 0 where it follows and its figure is true.
@@ -228,7 +246,7 @@ pub fn head_number(s: Sheet, plan: &[u8], section: u64, part: Part, progress: Pr
         return RULE_BROKEN;
     }
     let figure = figure_of(s, plan, section, part, progress);
-    if number(plan, part.head + 3, 4) != figure {
+    if head_figure(plan, section, part.head) != figure {
         return FIGURE_UNTRUE;
     }
     0

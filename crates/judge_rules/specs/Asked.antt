@@ -11,7 +11,7 @@ use Rattle.rules.specs.declared.Batch.{Batch}
 use Rattle.rules.specs.declared.Job.{Job}
 use Rattle.rules.specs.declared.Passes.{Passes}
 use Rattle.running.specs.declared.Desks.{Desks}
-use Rattle.rules_laws.specs.RoundTrip.{BatchFits, JobFits, PassesFits}
+use Rattle.plan_read.specs.PlanRead.{BatchFits, JobFits, PassesFits}
 
 -- the strips of the desks so far
 pub record DesksFit (d : Desks) : Type 0 where

@@ -5,13 +5,14 @@ use mathlib.Core.List.{List}
 use lib.ListN.{getD}
 use lib.Dec.{ltb, leb, eqb}
 use Rattle.order.specs.Order.{isProper}
+use Rattle.order.specs.Passes.{passAt}
 use Rattle.sheet.specs.Limits.{ceiling}
 use Rattle.sheet.specs.declared.MosaicSection.{MosaicSection}
 use Rattle.sheet.specs.declared.SortingSection.{SortingSection}
 use Rattle.sheet.specs.declared.FlightSection.{FlightSection}
 use Rattle.rules.specs.Mosaic.{ready, finishDue}
 use Rattle.rules.specs.Sorting.{stripsOf, scanEnd, deskFinish}
-use Rattle.rules.specs.Flight.{passStart, secondDue, clearAt, passAt}
+use Rattle.rules.specs.Flight.{passStart, secondDue, clearAt}
 use Rattle.rules.specs.declared.Batch.{Batch}
 use Rattle.rules.specs.declared.Job.{Job}
 use Rattle.rules.specs.declared.Passes.{Passes}
@@ -57,7 +58,7 @@ allDone counts done (suc desk) = allDone counts done desk && eqb (getD done desk
 
 unfoldable pub passesInOrder : FlightSection → ℕ → List Passes → ℕ → Bool
 passesInOrder f order ps zero = true
-passesInOrder f order ps (suc k) = passesInOrder f order ps k && leb (clearAt f ps (passAt f order k)) (passStart f ps (passAt f order (k + 1)))
+passesInOrder f order ps (suc k) = passesInOrder f order ps k && leb (clearAt f ps (passAt (f .blocks) order k)) (passStart f ps (passAt (f .blocks) order (k + 1)))
 
 unfoldable pub flightHead : FlightSection → ℕ → ℕ → List Passes → Bool
 flightHead f members order ps =

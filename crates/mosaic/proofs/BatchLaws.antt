@@ -4,17 +4,17 @@ use mathlib.Core.List.{List, [], _∷_, _++_, append-assoc, append-nil}
 use Prim.Native.Nat.{ℕ, _+_, _*_, _-_, _≤_, _<_, _^_, max}
 use native.Mathlib.Nat.{mul-le-mul}
 use native.Mathlib.Numerals.{add-one}
-use native.Mathlib.Decide.{decLt}
 use native.Mathlib.Omega.{arith}
-use lib.ListN.{length, getD, set, length-set, replicate, length-replicate, getD-replicate, List·getD-eq-default}
+use lib.ListN.{length, getD, set, length-set, replicate, length-replicate}
 use lib.Seq.{getD-set-same, getD-set-other}
 use Rattle.base.specs.Listed.{listed, listed-same}
+use Rattle.base.specs.Zeros.{zeros-at}
 use Rattle.batching.specs.Least.{mountStart, benchStart, finishOf}
 use Rattle.batching.specs.Chosen.{batchOf}
 use Rattle.batching.specs.Index.{leastAt, closedAt, chosenAt}
 use Rattle.mosaic.specs.Plan.{entry, batchesOf, NoMore}
-use Rattle.batching.specs.Tables.{instanceIn, FirstPre, First}
-use Rattle.mosaic.specs.Tables.{Sized, AddPre, Added, BatchesPre, BatchesTaken}
+use Rattle.batching.specs.Tables.{instanceIn, FirstBatchPre, First}
+use Rattle.mosaic.specs.Tables.{Sized, AddBatchPre, Added, ChooseBatchesPre, BatchesTaken}
 use Rattle.batching.specs.Recursion.{least-end, chosen-end}
 use Rattle.mosaic.specs.declared.MosaicPlan.{MosaicPlan}
 use Rattle.batching.specs.Bounds.{least-most}
@@ -45,7 +45,7 @@ added last start finish b u v w h₁ h₂ h₃ =
       getD-set-same finish b w 0 h₃,
     ))
 
-pub plan-added : {plan : MosaicPlan} {count finish : ℕ} → AddPre plan count finish → (last start : ℕ)
+pub plan-added : {plan : MosaicPlan} {count finish : ℕ} → AddBatchPre plan count finish → (last start : ℕ)
     → Added plan count last start finish
     (record {
       figure = plan .figure + count * finish;
@@ -72,13 +72,7 @@ plan-added {plan} {count} {finish} P last start = record {
   };
 }
 
-zeros-at : (n k : ℕ) → getD {A = ℕ} (replicate n 0) k 0 ≡ 0
-zeros-at n k = elim (decLt k n) [
-  | yes h ↦ getD-replicate n k 0 0 h
-  | no h ↦ List·getD-eq-default {A = ℕ} (replicate n 0) 0 {n = k} (omega (arith, length-replicate {A = ℕ} n 0))
-]
-
-module _ {rs sums late : List ℕ} {s n : ℕ} (P : BatchesPre rs sums late s n) where
+module _ {rs sums late : List ℕ} {s n : ℕ} (P : ChooseBatchesPre rs sums late s n) where
   pub plan-start : PlanSoFar rs sums s n (record { figure = 0; batches = 0; last = replicate 40 0; start = replicate 40 0; finish = replicate 40 0 }) 0 0
   unfolding batchesOf listed
   plan-start = record {
@@ -95,7 +89,7 @@ module _ {rs sums late : List ℕ} {s n : ℕ} (P : BatchesPre rs sums late s n)
     free-most : free + s ≤ 2 ^ 41
     free-most = omega (arith, M .most-free, P .input .most-strips, P .input .most-mount, P .input .most-sum i (omega arith))
 
-    pub plan-first : FirstPre rs sums late s n free i
+    pub plan-first : FirstBatchPre rs sums late s n free i
     plan-first = record {
       input = P .input;
       later = record { at = λ j q g k l. P .all .at j q (omega arith) k l };
@@ -125,7 +119,7 @@ module _ {rs sums late : List ℕ} {s n : ℕ} (P : BatchesPre rs sums late s n)
         product-most : (q - i) * (start + s + (getD sums q 0 - getD sums i 0)) ≤ 40 * 2 ^ 42
         product-most = mul-le-mul {n₂ = 40} {m₂ = 2 ^ 42} (omega (arith, C .last, P .input .most-strips)) finish-cap
 
-        pub plan-add : AddPre plan (q - i) (start + s + (getD sums q 0 - getD sums i 0))
+        pub plan-add : AddBatchPre plan (q - i) (start + s + (getD sums q 0 - getD sums i 0))
         plan-add = record {
           sized = M .sized;
           few = omega (arith, M .few, P .input .most-strips);

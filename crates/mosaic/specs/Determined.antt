@@ -2,11 +2,10 @@
 use mathlib.Core.Path.{_≡_, ap, _∙_, sym}
 use mathlib.Core.List.{List}
 use Prim.Native.Nat.{ℕ, _≤_, _<_}
-use native.Mathlib.Decide.{decLt}
 use native.Mathlib.Omega.{arith}
 use lib.ListN.{length, getD}
-use lib.Seq.{ext-getD}
 use Rattle.base.specs.Listed.{listed-at}
+use Rattle.base.specs.Zeros.{padded-same}
 use Rattle.sheet.specs.declared.MosaicSection.{MosaicSection}
 use Rattle.rules.specs.Mosaic.{noBatch}
 use Rattle.rules.specs.declared.Batch.{Batch}
@@ -24,13 +23,10 @@ module _ {m : MosaicSection} {p r : MosaicPlan} (P : Planned m p) (R : Planned m
       sym (listed-at (p .batches) (entry (p .last) (p .start) (p .finish)) k noBatch h) ∙ ap (λ (bs : List Batch). getD bs k noBatch) (P .batches ∙ sym (R .batches))
       ∙ listed-at (r .batches) (entry (r .last) (r .start) (r .finish)) k noBatch (omega (arith, same-count))
 
-  -- two lists of one length that agree on the batches and are zero after them
-  same-list : (l₁ l₂ : List ℕ) → length l₁ ≡ length l₂ → ((k : ℕ) → k < p .batches → getD l₁ k 0 ≡ getD l₂ k 0)
-      → ((k : ℕ) → p .batches ≤ k → getD l₁ k 0 ≡ 0) → ((k : ℕ) → r .batches ≤ k → getD l₂ k 0 ≡ 0) → l₁ ≡ l₂
-  same-list l₁ l₂ len on z₁ z₂ = ext-getD 0 l₁ l₂ len (λ k h. elim (decLt k (p .batches)) [
-    | yes l ↦ on k l
-    | no l ↦ z₁ k (omega arith) ∙ sym (z₂ k (omega (arith, same-count)))
-  ])
+  -- one of the lists of the two plans
+  same-list : (xs ys : List ℕ) → length xs ≡ length ys → ((k : ℕ) → k < p .batches → getD xs k 0 ≡ getD ys k 0)
+      → ((k : ℕ) → p .batches ≤ k → getD xs k 0 ≡ 0) → ((k : ℕ) → r .batches ≤ k → getD ys k 0 ≡ 0) → xs ≡ ys
+  same-list xs ys len on zx zy = padded-same (p .batches) xs ys len on zx (λ k h. zy k (omega (arith, same-count)))
 
   same-last : p .last ≡ r .last
   same-last = same-list (p .last) (r .last) (S .last ∙ sym (T .last)) (λ k h. ap (λ (b : Batch). b .last) (same-batch k h)) (P .no-more .last) (R .no-more .last)

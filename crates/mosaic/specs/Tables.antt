@@ -19,7 +19,7 @@ pub record Sized (plan : MosaicPlan) : Type 0 where
   pub finish : length (plan .finish) ≡ mostStrips
 
 -- what `add_batch` asks, and does
-pub record AddPre (plan : MosaicPlan) (count finish : ℕ) : Type 0 where
+pub record AddBatchPre (plan : MosaicPlan) (count finish : ℕ) : Type 0 where
   pub sized : Sized plan
   pub few : plan .batches < mostStrips
   pub fits : plan .figure + count * finish < 2 ^ 64
@@ -32,7 +32,7 @@ pub record Added (plan : MosaicPlan) (count last start finish : ℕ) (more : Mos
   pub no-more : NoMore plan → NoMore more
 
 -- what `choose_batches` asks, and does
-pub record BatchesPre (rs sums late : List ℕ) (s n : ℕ) : Type 0 where
+pub record ChooseBatchesPre (rs sums late : List ℕ) (s n : ℕ) : Type 0 where
   pub input : Input rs sums s n
   pub all : LateFrom rs sums late s n 0
   pub late-long : lateLength ≤ length late

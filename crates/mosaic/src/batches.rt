@@ -1,12 +1,12 @@
 // The batches taken, read out of the tables from the first strip on.
-ghost use Rattle.mosaic.specs.Tables.{AddPre, Added, BatchesPre, BatchesTaken};
+ghost use Rattle.mosaic.specs.Tables.{AddBatchPre, Added, ChooseBatchesPre, BatchesTaken};
 use crate::MosaicPlan;
 use base::greater;
 use batching::first_batch;
 
 // The plan with one batch more, of `count` strips.
 fn add_batch(plan: MosaicPlan, count: u64, last: u64, start: u64, finish: u64) -> MosaicPlan
-    requires { ⌜ AddPre plan count finish ⌝ }
+    requires { ⌜ AddBatchPre plan count finish ⌝ }
     ensures { λ more. ⌜ Added plan count last start finish more ⌝ }
 {
     let b = plan.batches;
@@ -21,7 +21,7 @@ fn add_batch(plan: MosaicPlan, count: u64, last: u64, start: u64, finish: u64) -
 
 // The batches taken, each mount as early as can be, and the sum of completions.
 pub fn choose_batches(rs: &[u64], sums: &[u64], late: &[u64], s: u64, n: usize) -> MosaicPlan
-    requires { ⌜ BatchesPre (now rs) (now sums) (now late) s n ⌝ }
+    requires { ⌜ ChooseBatchesPre (now rs) (now sums) (now late) s n ⌝ }
     ensures { λ plan. ⌜ BatchesTaken (now (rs .entry)) (now (sums .entry)) s n plan ⌝ }
 {
     let mut plan = MosaicPlan {

@@ -1,10 +1,12 @@
-// The planner of the mosaic: the least sum of completions over all batchings, and a batching that has it.
+// The planner of the mosaic: the least sum of completions over all batchings, and a batching that has it. In the literature: batching on one machine with
+// a setup time for each batch, where a strip's ready time is its release date.
 ghost use Rattle.sheet.specs.Sound.{MosaicSound};
 ghost use Rattle.mosaic.specs.Plan.{Planned};
 
 mod batches;
 mod ready;
 
+use running::mosaic::setup_time;
 use sheet::MosaicSection;
 
 // A plan of the mosaic: its figure, and last strip, mount start and finish of each batch, in the first `batches` entries, with zeros after them.
@@ -22,7 +24,7 @@ pub fn plan_mosaic(m: MosaicSection) -> MosaicPlan
     ensures { λ p. ⌜ Planned m p ⌝ }
 {
     let n = m.strips;
-    let s = m.mount;
+    let s = setup_time(m);
     let rs = ready::ready_times(m);
     let sums = ready::bench_sums(m);
     let mut late = [0u64; batching::LATE_LENGTH];

@@ -1,15 +1,17 @@
-// Pass orders as 64-bit numbers: bit 0 is the earliest pass, a 1 is a second pass, a 0 a first pass.
+// Pass orders as 64-bit numbers: bit 0 is the earliest pass, a 1 is a second pass, a 0 a first pass. And the passes of a flight by their numbers.
 ghost use mathlib.Core.Path.{_≡_};
-ghost use Prim.Native.Nat.{_+_, _<_, _^_};
+ghost use Prim.Native.Nat.{_+_, _*_, _≤_, _<_, _^_};
+ghost use lib.ListN.{length};
 ghost use Rattle.order.specs.Order.{bit, seconds, firsts, isProper};
+ghost use Rattle.order.specs.Passes.{passAt, timeOf};
 
 // The bits of an order number, and the blocks whose passes fill them.
 const BITS: u64 = 64;
 
 const BLOCKS: u64 = 32;
 
-// The pass at position k, from 0: 1 for a second pass, 0 for a first pass.
-pub fn pass_at(x: u64, k: u64) -> u64
+// Bit k, the pass at position k from 0: 1 for a second pass, 0 for a first pass.
+fn bit(x: u64, k: u64) -> u64
     ensures { λ r. ⌜ r ≡ bit x k ⌝ }
 {
     if k < BITS { (x >> k) % 2 } else { 0 }
@@ -61,4 +63,24 @@ pub fn proper(n: u64, x: u64) -> bool
         }
     }
     true
+}
+
+// The pass of n blocks at position k: the first pass of block i is pass i, its second pass is pass n + i.
+pub fn pass_at(n: usize, order: u64, k: usize) -> usize
+    requires { ⌜ (n ≤ 32) × (k < 64) ⌝ }
+    ensures { λ r. ⌜ r ≡ passAt n order k ⌝ }
+{
+    let at = k as u64;
+    if bit(order, at) == 1 {
+        return n + seconds_before(order, at) as usize;
+    }
+    firsts_before(order, at) as usize
+}
+
+// The time that pass p of n blocks takes.
+pub fn time_of<'a>(n: usize, first: &'a [u64], second: &'a [u64], p: usize) -> u64
+    requires { ⌜ (n ≤ length (now first)) × (n ≤ length (now second)) × (p < 2 * n) ⌝ }
+    ensures { λ r. ⌜ r ≡ timeOf n (now (first .entry)) (now (second .entry)) p ⌝ }
+{
+    if p < n { first[p] } else { second[p - n] }
 }

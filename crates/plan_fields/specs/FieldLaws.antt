@@ -1,137 +1,175 @@
 -- A field is stored by stores one behind the other: they are one store of the joined bytes.
-use Prim.Native.Nat.{ℕ, _+_, _≤_}
+-- One law for every form: with each further number that is stored, the field stands as far as that number (stored-next), and with the last whole (stored-all).
+use Prim.Native.Nat.{ℕ, suc, _+_, _≤_, _<_}
 use mathlib.Core.Path.{_≡_, refl, sym, ap, _∙_}
-use mathlib.Core.List.{List, [], _∷_, _++_, append-assoc}
-use lib.ListN.{length, set, length-append, length-set}
+use mathlib.Core.List.{List, [], _∷_, _++_, append-assoc, append-nil}
+use native.Mathlib.Omega.{arith}
+use lib.ListN.{length, set, take, length-set}
+use lib.Seq.{take-all, take-suc}
 use Rattle.field.specs.Bytes.{bytesOf}
 use Rattle.field.specs.Field.{fieldBytes}
 use Rattle.field.specs.Put.{put, put-whole, holding, put-one, put-more}
-use Rattle.sheet.specs.Tags.{planStripTag, planFlightTag, planBatchTag, planBlockTag, planRefusalTag}
+use Rattle.plan_format.specs.Format.{Form, contentLength, sizeOf, widthOf, offsetOf, numbersBytes, formBytes, mosaicHeadForm, batchForm, sortingHeadForm, jobForm, flightHeadForm, passesForm, refusalForm}
+use Rattle.plan_format.specs.FormLaws.{length-numbers, length-form}
 use Rattle.rules.specs.Plan.{batchBytes, jobBytes, passesBytes, refusalBytes}
-use native.Mathlib.Omega.{arith}
-use Rattle.field.specs.Numbers.{length-bytes}
-use Rattle.plan_fields.specs.Stored.{headBytes, stripBytes, figureBytes, flightHeadBytes, batch, job, passes}
+use Rattle.plan_fields.specs.Stored.{tagBytes, partBytes, stripBytes, batch, job, passes}
 
 -- a store, and one right behind it
 pub joined : (d d₁ d₂ : List ℕ) (at behind : ℕ) (xs ys : List ℕ) → d₁ ≡ put d at xs → d₂ ≡ put d₁ behind ys → behind ≡ at + length xs → d₂ ≡ put d at (xs ++ ys)
 joined d d₁ d₂ at behind xs ys e₁ e₂ k =
     e₂ ∙ ap (λ (l : List ℕ). put l behind ys) e₁ ∙ ap (λ (j : ℕ). put (put d at xs) j ys) k ∙ put-more d at xs ys
 
-head-long : (tag size : ℕ) → length (headBytes tag size) ≡ 3
-unfolding headBytes bytesOf
-head-long tag size = refl
-
-head-joined : (tag size : ℕ) → (tag ∷ []) ++ bytesOf 2 size ≡ headBytes tag size
-unfolding headBytes
-head-joined tag size = refl
+-- the tag and the content length
+tag-joined : (tag len : ℕ) → (tag ∷ []) ++ bytesOf 2 len ≡ tagBytes tag len
+unfolding tagBytes
+tag-joined tag len = refl
 
 module _ (d : List ℕ) (at tag : ℕ) where
-  pub head-room : at + 3 ≤ length d → at + 1 + 2 ≤ length (set d at tag)
-  head-room h = omega (arith, length-set d at tag)
+  pub tag-room : at + 3 ≤ length d → at + 1 + 2 ≤ length (set d at tag)
+  tag-room h = omega (arith, length-set d at tag)
 
-  pub head-kept : (d₁ : List ℕ) → length d₁ ≡ length (set d at tag) → length d₁ ≡ length d
-  head-kept d₁ e = e ∙ length-set d at tag
+  pub tag-kept : (d₁ : List ℕ) → length d₁ ≡ length (set d at tag) → length d₁ ≡ length d
+  tag-kept d₁ e = e ∙ length-set d at tag
 
-  pub head-stored : (d₁ : List ℕ) (size : ℕ) → d₁ ≡ put (set d at tag) (at + 1) (bytesOf 2 size) → d₁ ≡ put d at (headBytes tag size)
-  head-stored d₁ size e = joined d (set d at tag) d₁ at (at + 1) (tag ∷ []) (bytesOf 2 size) (put-one d at tag) e refl ∙ ap (put d at) (head-joined tag size)
+  pub tag-stored : (d₁ : List ℕ) (len : ℕ) → d₁ ≡ put (set d at tag) (at + 1) (bytesOf 2 len) → d₁ ≡ put d at (tagBytes tag len)
+  tag-stored d₁ len e = joined d (set d at tag) d₁ at (at + 1) (tag ∷ []) (bytesOf 2 len) (put-one d at tag) e refl ∙ ap (put d at) (tag-joined tag len)
 
-field-joined : (tag size : ℕ) (content : List ℕ) → size ≡ length content → headBytes tag size ++ content ≡ fieldBytes tag content
-unfolding headBytes fieldBytes
-field-joined tag size content e = rw e
-
--- a field's head and its content
-field-stored : (d d₁ d₂ : List ℕ) (at tag size : ℕ) (content : List ℕ) → d₁ ≡ put d at (headBytes tag size) → d₂ ≡ put d₁ (at + 3) content → size ≡ length content → d₂ ≡ put d at (fieldBytes tag content)
-field-stored d d₁ d₂ at tag size content e₁ e₂ l =
-    joined d d₁ d₂ at (at + 3) (headBytes tag size) content e₁ e₂ (omega (arith, head-long tag size)) ∙ ap (put d at) (field-joined tag size content l)
-
-refusal-is : (number place : ℕ) → fieldBytes planRefusalTag (bytesOf 2 number ++ bytesOf 4 place) ≡ refusalBytes number place
+refusal-is : (number place : ℕ) → formBytes refusalForm (number ∷ place ∷ []) ≡ refusalBytes number place
 unfolding refusalBytes
 refusal-is number place = refl
 
--- numbers one behind the other: how long they are
-length-two : (k l x y : ℕ) → length (bytesOf k x ++ bytesOf l y) ≡ k + l
-length-two k l x y = omega (arith, length-append (bytesOf k x) (bytesOf l y), length-bytes k x, length-bytes l y)
+-- as many numbers as widths, and one more of each
+numbers-last : (ws vs : List ℕ) (w v : ℕ) → length ws ≡ length vs → numbersBytes ws vs ++ bytesOf w v ≡ numbersBytes (ws ++ (w ∷ [])) (vs ++ (v ∷ []))
+unfolding numbersBytes
+numbers-last [] [] w v e = sym (append-nil (bytesOf w v))
+numbers-last [] (x ∷ vs) w v e = absurd (omega arith)
+numbers-last (y ∷ ws) [] w v e = absurd (omega arith)
+numbers-last (y ∷ ws) (x ∷ vs) w v e =
+    append-assoc (bytesOf y x) (numbersBytes ws vs) (bytesOf w v) ∙ ap (λ (l : List ℕ). bytesOf y x ++ l) (numbers-last ws vs w v (omega arith))
 
-length-more : (bytes : List ℕ) (k l x : ℕ) → length bytes ≡ k → length (bytes ++ bytesOf l x) ≡ k + l
-length-more bytes k l x e = omega (arith, length-append bytes (bytesOf l x), length-bytes l x)
+-- the field as far as its first numbers, and the next
+module _ (f : Form) (n : ℕ) (vs : List ℕ) (known : length (take n (f .widths)) ≡ length vs) where
+  part-length : length (partBytes f n vs) ≡ offsetOf f n
+  unfolding partBytes tagBytes bytesOf
+  part-length = omega (arith, length-numbers (take n (f .widths)) vs known)
 
-module _ (d d₁ d₂ d₃ : List ℕ) (at : ℕ) where
-  pub passes-stored : (first second : ℕ) → d₁ ≡ put d at (headBytes planBlockTag 8) → d₂ ≡ put d₁ (at + 3) (bytesOf 4 first) → d₃ ≡ put d₂ (at + 7) (bytesOf 4 second) → d₃ ≡ put d at (passesBytes (passes first second))
-  unfolding passesBytes
-  passes-stored first second e₁ e₂ e₃ =
-      field-stored d d₁ d₃ at planBlockTag 8 (bytesOf 4 first ++ bytesOf 4 second) e₁
-      (joined d₁ d₂ d₃ (at + 3) (at + 7) (bytesOf 4 first) (bytesOf 4 second) e₂ e₃ (omega (arith, length-bytes 4 first)))
-      (sym (length-two 4 4 first second))
+  part-longer : (v : ℕ) → n < length (f .widths) → partBytes f n vs ++ bytesOf (widthOf f n) v ≡ partBytes f (suc n) (vs ++ (v ∷ []))
+  unfolding partBytes
+  part-longer v more =
+      append-assoc (tagBytes (f .tag) (contentLength f)) (numbersBytes (take n (f .widths)) vs) (bytesOf (widthOf f n) v)
+      ∙ ap (λ (l : List ℕ). tagBytes (f .tag) (contentLength f) ++ l)
+      (numbers-last (take n (f .widths)) vs (widthOf f n) v known ∙ ap (λ (ws : List ℕ). numbersBytes ws (vs ++ (v ∷ []))) (sym (take-suc (f .widths) n 0 more)))
 
-  module _ (d₄ : List ℕ) where
-    pub batch-stored : (last start finish : ℕ) → d₁ ≡ put d at (headBytes planBatchTag 9) → d₂ ≡ put d₁ (at + 3) (bytesOf 1 last) → d₃ ≡ put d₂ (at + 4) (bytesOf 4 start) → d₄ ≡ put d₃ (at + 8) (bytesOf 4 finish) → d₄ ≡ put d at (batchBytes (batch last start finish))
+  part-whole : length (f .widths) ≤ n → partBytes f n vs ≡ formBytes f vs
+  unfolding partBytes tagBytes formBytes fieldBytes
+  part-whole h =
+      let all : take n (f .widths) ≡ f .widths = take-all n (f .widths) h in
+      ap (λ (ws : List ℕ). f .tag ∷ bytesOf 2 (contentLength f) ++ numbersBytes ws vs) all
+      ∙ ap (λ (len : ℕ). f .tag ∷ bytesOf 2 len ++ numbersBytes (f .widths) vs) (sym (length-numbers (f .widths) vs (sym (ap length all) ∙ known)))
+
+  stored-next : (d d₁ d₂ : List ℕ) (at v : ℕ) → n < length (f .widths) → d₁ ≡ put d at (partBytes f n vs)
+      → d₂ ≡ put d₁ (at + offsetOf f n) (bytesOf (widthOf f n) v)
+      → d₂ ≡ put d at (partBytes f (suc n) (vs ++ (v ∷ [])))
+  stored-next d d₁ d₂ at v more e₁ e₂ =
+      joined d d₁ d₂ at (at + offsetOf f n) (partBytes f n vs) (bytesOf (widthOf f n) v) e₁ e₂ (ap (λ (k : ℕ). at + k) (sym part-length))
+      ∙ ap (put d at) (part-longer v more)
+
+  stored-all : (d d₁ : List ℕ) (at : ℕ) → length (f .widths) ≤ n → d₁ ≡ put d at (partBytes f n vs) → d₁ ≡ put d at (formBytes f vs)
+  stored-all d d₁ at h e = e ∙ ap (put d at) (part-whole h)
+
+stored-none : (f : Form) (d d₁ : List ℕ) (at : ℕ) → d₁ ≡ put d at (tagBytes (f .tag) (contentLength f)) → d₁ ≡ put d at (partBytes f 0 [])
+unfolding partBytes numbersBytes
+stored-none f d d₁ at e = e ∙ ap (put d at) (sym (append-nil (tagBytes (f .tag) (contentLength f))))
+
+-- The fields, each by its stores: the tag, then number by number.
+module _ (d d₁ d₂ : List ℕ) (at : ℕ) where
+  pub mosaic-head-stored : (figure : ℕ) → d₁ ≡ put d at (tagBytes (mosaicHeadForm .tag) (contentLength mosaicHeadForm))
+      → d₂ ≡ put d₁ (at + offsetOf mosaicHeadForm 0) (bytesOf (widthOf mosaicHeadForm 0) figure)
+      → d₂ ≡ put d at (formBytes mosaicHeadForm (figure ∷ []))
+  mosaic-head-stored figure e₁ e₂ =
+      stored-all mosaicHeadForm 1 (figure ∷ []) refl d d₂ at (omega arith)
+      (stored-next mosaicHeadForm 0 [] refl d d₁ d₂ at figure (omega arith) (stored-none mosaicHeadForm d d₁ at e₁) e₂)
+
+  pub sorting-head-stored : (figure : ℕ) → d₁ ≡ put d at (tagBytes (sortingHeadForm .tag) (contentLength sortingHeadForm))
+      → d₂ ≡ put d₁ (at + offsetOf sortingHeadForm 0) (bytesOf (widthOf sortingHeadForm 0) figure)
+      → d₂ ≡ put d at (formBytes sortingHeadForm (figure ∷ []))
+  sorting-head-stored figure e₁ e₂ =
+      stored-all sortingHeadForm 1 (figure ∷ []) refl d d₂ at (omega arith)
+      (stored-next sortingHeadForm 0 [] refl d d₁ d₂ at figure (omega arith) (stored-none sortingHeadForm d d₁ at e₁) e₂)
+
+  module _ (d₃ : List ℕ) where
+    pub flight-head-stored : (figure order : ℕ) → d₁ ≡ put d at (tagBytes (flightHeadForm .tag) (contentLength flightHeadForm))
+        → d₂ ≡ put d₁ (at + offsetOf flightHeadForm 0) (bytesOf (widthOf flightHeadForm 0) figure)
+        → d₃ ≡ put d₂ (at + offsetOf flightHeadForm 1) (bytesOf (widthOf flightHeadForm 1) order)
+        → d₃ ≡ put d at (formBytes flightHeadForm (figure ∷ order ∷ []))
+    flight-head-stored figure order e₁ e₂ e₃ =
+        stored-all flightHeadForm 2 (figure ∷ order ∷ []) refl d d₃ at (omega arith)
+        (stored-next flightHeadForm 1 (figure ∷ []) refl d d₂ d₃ at order (omega arith)
+        (stored-next flightHeadForm 0 [] refl d d₁ d₂ at figure (omega arith) (stored-none flightHeadForm d d₁ at e₁) e₂)
+        e₃)
+
+    pub passes-stored : (first second : ℕ) → d₁ ≡ put d at (tagBytes (passesForm .tag) (contentLength passesForm))
+        → d₂ ≡ put d₁ (at + offsetOf passesForm 0) (bytesOf (widthOf passesForm 0) first)
+        → d₃ ≡ put d₂ (at + offsetOf passesForm 1) (bytesOf (widthOf passesForm 1) second)
+        → d₃ ≡ put d at (passesBytes (passes first second))
+    unfolding passesBytes
+    passes-stored first second e₁ e₂ e₃ =
+        stored-all passesForm 2 (first ∷ second ∷ []) refl d d₃ at (omega arith)
+        (stored-next passesForm 1 (first ∷ []) refl d d₂ d₃ at second (omega arith)
+        (stored-next passesForm 0 [] refl d d₁ d₂ at first (omega arith) (stored-none passesForm d d₁ at e₁) e₂)
+        e₃)
+
+    pub batch-stored : (d₄ : List ℕ) (last start finish : ℕ) → d₁ ≡ put d at (tagBytes (batchForm .tag) (contentLength batchForm))
+        → d₂ ≡ put d₁ (at + offsetOf batchForm 0) (bytesOf (widthOf batchForm 0) last)
+        → d₃ ≡ put d₂ (at + offsetOf batchForm 1) (bytesOf (widthOf batchForm 1) start)
+        → d₄ ≡ put d₃ (at + offsetOf batchForm 2) (bytesOf (widthOf batchForm 2) finish)
+        → d₄ ≡ put d at (batchBytes (batch last start finish))
     unfolding batchBytes
-    batch-stored last start finish e₁ e₂ e₃ e₄ =
-        field-stored d d₁ d₄ at planBatchTag 9 (bytesOf 1 last ++ bytesOf 4 start ++ bytesOf 4 finish) e₁
-        (joined d₁ d₃ d₄ (at + 3) (at + 8) (bytesOf 1 last ++ bytesOf 4 start) (bytesOf 4 finish)
-        (joined d₁ d₂ d₃ (at + 3) (at + 4) (bytesOf 1 last) (bytesOf 4 start) e₂ e₃ (omega (arith, length-bytes 1 last)))
-        e₄ (omega (arith, length-two 1 4 last start)))
-        (sym (length-more (bytesOf 1 last ++ bytesOf 4 start) 5 4 finish (length-two 1 4 last start)))
+    batch-stored d₄ last start finish e₁ e₂ e₃ e₄ =
+        stored-all batchForm 3 (last ∷ start ∷ finish ∷ []) refl d d₄ at (omega arith)
+        (stored-next batchForm 2 (last ∷ start ∷ []) refl d d₃ d₄ at finish (omega arith)
+        (stored-next batchForm 1 (last ∷ []) refl d d₂ d₃ at start (omega arith)
+        (stored-next batchForm 0 [] refl d d₁ d₂ at last (omega arith) (stored-none batchForm d d₁ at e₁) e₂)
+        e₃)
+        e₄)
 
-  pub strip-stored : (desk number : ℕ) → d₁ ≡ put d at (headBytes planStripTag 10) → d₂ ≡ put d₁ (at + 3) (bytesOf 1 desk) → d₃ ≡ put d₂ (at + 4) (bytesOf 1 number) → d₃ ≡ put d at (stripBytes desk number)
-  unfolding stripBytes
-  strip-stored desk number e₁ e₂ e₃ =
-      joined d d₂ d₃ at (at + 4) (headBytes planStripTag 10 ++ bytesOf 1 desk) (bytesOf 1 number)
-      (joined d d₁ d₂ at (at + 3) (headBytes planStripTag 10) (bytesOf 1 desk) e₁ e₂ (omega (arith, head-long planStripTag 10)))
-      e₃ (omega (arith, length-more (headBytes planStripTag 10) 3 1 desk (head-long planStripTag 10)))
+    pub strip-stored : (desk number : ℕ) → d₁ ≡ put d at (tagBytes (jobForm .tag) (contentLength jobForm))
+        → d₂ ≡ put d₁ (at + offsetOf jobForm 0) (bytesOf (widthOf jobForm 0) desk)
+        → d₃ ≡ put d₂ (at + offsetOf jobForm 1) (bytesOf (widthOf jobForm 1) number)
+        → d₃ ≡ put d at (stripBytes desk number)
+    strip-stored desk number e₁ e₂ e₃ =
+        stored-next jobForm 1 (desk ∷ []) refl d d₂ d₃ at number (omega arith)
+        (stored-next jobForm 0 [] refl d d₁ d₂ at desk (omega arith) (stored-none jobForm d d₁ at e₁) e₂)
+        e₃
 
-  strip-long : (desk number : ℕ) → length (stripBytes desk number) ≡ 5
-  unfolding stripBytes
-  strip-long desk number = length-more (headBytes planStripTag 10 ++ bytesOf 1 desk) 4 1 number (length-more (headBytes planStripTag 10) 3 1 desk (head-long planStripTag 10))
+    pub job-stored : (desk number scan start : ℕ) → d₁ ≡ put d at (stripBytes desk number)
+        → d₂ ≡ put d₁ (at + offsetOf jobForm 2) (bytesOf (widthOf jobForm 2) scan)
+        → d₃ ≡ put d₂ (at + offsetOf jobForm 3) (bytesOf (widthOf jobForm 3) start)
+        → d₃ ≡ put d at (jobBytes (job desk number scan start))
+    unfolding jobBytes
+    job-stored desk number scan start e₁ e₂ e₃ =
+        stored-all jobForm 4 (desk ∷ number ∷ scan ∷ start ∷ []) refl d d₃ at (omega arith)
+        (stored-next jobForm 3 (desk ∷ number ∷ scan ∷ []) refl d d₂ d₃ at start (omega arith)
+        (stored-next jobForm 2 (desk ∷ number ∷ []) refl d d₁ d₂ at scan (omega arith) e₁ e₂)
+        e₃)
 
-  job-joined : (desk number scan start : ℕ) → stripBytes desk number ++ bytesOf 4 scan ++ bytesOf 4 start ≡ jobBytes (job desk number scan start)
-  unfolding stripBytes jobBytes
-  job-joined desk number scan start = regroup (headBytes planStripTag 10) (bytesOf 1 desk) (bytesOf 1 number) (bytesOf 4 scan) (bytesOf 4 start)
-      ∙ field-joined planStripTag 10 (bytesOf 1 desk ++ bytesOf 1 number ++ bytesOf 4 scan ++ bytesOf 4 start)
-      (sym (length-more (bytesOf 1 desk ++ bytesOf 1 number ++ bytesOf 4 scan) 6 4 start (length-more (bytesOf 1 desk ++ bytesOf 1 number) 2 4 scan (length-two 1 1 desk number))))
-    where
-      regroup : (h a b e f : List ℕ) → h ++ a ++ b ++ e ++ f ≡ h ++ (a ++ b ++ e ++ f)
-      regroup h a b e f = simp append-assoc
+pub length-refusal : (number place : ℕ) → length (refusalBytes number place) ≡ sizeOf refusalForm
+unfolding refusalBytes
+length-refusal number place = length-form refusalForm (number ∷ place ∷ []) refl
 
-  pub job-stored : (desk number scan start : ℕ) → d₁ ≡ put d at (stripBytes desk number) → d₂ ≡ put d₁ (at + 5) (bytesOf 4 scan) → d₃ ≡ put d₂ (at + 9) (bytesOf 4 start) → d₃ ≡ put d at (jobBytes (job desk number scan start))
-  job-stored desk number scan start e₁ e₂ e₃ =
-      joined d d₂ d₃ at (at + 9) (stripBytes desk number ++ bytesOf 4 scan) (bytesOf 4 start)
-      (joined d d₁ d₂ at (at + 5) (stripBytes desk number) (bytesOf 4 scan) e₁ e₂ (omega (arith, strip-long desk number)))
-      e₃ (omega (arith, length-more (stripBytes desk number) 5 4 scan (strip-long desk number)))
-      ∙ ap (put d at) (job-joined desk number scan start)
-
-  pub flight-head-stored : (figure order : ℕ) → d₁ ≡ put d at (headBytes planFlightTag 12) → d₂ ≡ put d₁ (at + 3) (bytesOf 4 figure) → d₃ ≡ put d₂ (at + 7) (bytesOf 8 order) → d₃ ≡ put d at (flightHeadBytes figure order)
-  unfolding flightHeadBytes
-  flight-head-stored figure order e₁ e₂ e₃ =
-      field-stored d d₁ d₃ at planFlightTag 12 (bytesOf 4 figure ++ bytesOf 8 order) e₁
-      (joined d₁ d₂ d₃ (at + 3) (at + 7) (bytesOf 4 figure) (bytesOf 8 order) e₂ e₃ (omega (arith, length-bytes 4 figure)))
-      (sym (length-two 4 8 figure order))
-
-pub length-refusal : (number place : ℕ) → length (refusalBytes number place) ≡ 9
-unfolding refusalBytes fieldBytes bytesOf
-length-refusal number place = refl
-
-pub refusal-stored : (d d₁ d₂ d₃ : List ℕ) (number place : ℕ) → 9 ≤ length d → d₁ ≡ put d 0 (headBytes planRefusalTag 6) → d₂ ≡ put d₁ 3 (bytesOf 2 number) → d₃ ≡ put d₂ 5 (bytesOf 4 place) → d₃ ≡ holding (refusalBytes number place) d
+pub refusal-stored : (d d₁ d₂ d₃ : List ℕ) (number place : ℕ) → sizeOf refusalForm ≤ length d
+    → d₁ ≡ put d 0 (tagBytes (refusalForm .tag) (contentLength refusalForm))
+    → d₂ ≡ put d₁ (offsetOf refusalForm 0) (bytesOf (widthOf refusalForm 0) number)
+    → d₃ ≡ put d₂ (offsetOf refusalForm 1) (bytesOf (widthOf refusalForm 1) place)
+    → d₃ ≡ holding (refusalBytes number place) d
 refusal-stored d d₁ d₂ d₃ number place h e₁ e₂ e₃ = stored ∙ put-whole d (refusalBytes number place) (omega (arith, length-refusal number place))
   where
-    content : d₃ ≡ put d₁ 3 (bytesOf 2 number ++ bytesOf 4 place)
-    content = joined d₁ d₂ d₃ 3 5 (bytesOf 2 number) (bytesOf 4 place) e₂ e₃ (omega (arith, length-bytes 2 number))
-
-    field : d₃ ≡ put d 0 (fieldBytes planRefusalTag (bytesOf 2 number ++ bytesOf 4 place))
-    field = field-stored d d₁ d₃ 0 planRefusalTag 6 (bytesOf 2 number ++ bytesOf 4 place) e₁ content (sym (length-two 2 4 number place))
+    field : d₃ ≡ put d 0 (formBytes refusalForm (number ∷ place ∷ []))
+    field =
+        stored-all refusalForm 2 (number ∷ place ∷ []) refl d d₃ 0 (omega arith)
+        (stored-next refusalForm 1 (number ∷ []) refl d d₂ d₃ 0 place (omega arith)
+        (stored-next refusalForm 0 [] refl d d₁ d₂ 0 number (omega arith) (stored-none refusalForm d d₁ 0 e₁) e₂)
+        e₃)
 
     stored : d₃ ≡ put d 0 (refusalBytes number place)
     stored = field ∙ ap (put d 0) (refusal-is number place)
-
-pub figure-stored : (d d₁ d₂ : List ℕ) (at tag figure : ℕ) → d₁ ≡ put d at (headBytes tag 4) → d₂ ≡ put d₁ (at + 3) (bytesOf 4 figure) → d₂ ≡ put d at (figureBytes tag figure)
-unfolding figureBytes
-figure-stored d d₁ d₂ at tag figure e₁ e₂ = field-stored d d₁ d₂ at tag 4 (bytesOf 4 figure) e₁ e₂ (sym (length-bytes 4 figure))
-
--- how long the heads are
-pub length-figure : (tag figure : ℕ) → length (figureBytes tag figure) ≡ 7
-unfolding figureBytes fieldBytes bytesOf
-length-figure tag figure = refl
-
-pub length-flight-head : (figure order : ℕ) → length (flightHeadBytes figure order) ≡ 15
-unfolding flightHeadBytes fieldBytes bytesOf
-length-flight-head figure order = refl

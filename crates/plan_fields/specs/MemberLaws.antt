@@ -3,10 +3,10 @@ use Prim.Native.Nat.{ℕ, zero, suc, _+_, _*_, _≤_, _<_}
 use mathlib.Core.Path.{_≡_, refl, sym, ap, _∙_}
 use mathlib.Core.List.{List, _++_}
 use lib.ListN.{length, getD, length-append}
-use Rattle.field.specs.Bytes.{bytesOf}
-use Rattle.field.specs.Field.{fieldBytes}
 use Rattle.field.specs.Put.{put, put-none, length-put}
-use Rattle.rules.specs.Plan.{batchBytes, jobBytes, passesBytes}
+use Rattle.plan_format.specs.Format.{sizeOf, batchForm, jobForm, passesForm}
+use Rattle.plan_format.specs.FormLaws.{length-form}
+use Rattle.rules.specs.Plan.{batchValues, batchBytes, jobValues, jobBytes, passesValues, passesBytes}
 use Rattle.rules.specs.declared.Batch.{Batch}
 use Rattle.rules.specs.declared.Job.{Job}
 use Rattle.rules.specs.declared.Passes.{Passes}
@@ -17,20 +17,21 @@ use Rattle.plan_fields.specs.Stored.{batch, job, passes, batchIn, jobIn,
 use Rattle.plan_fields.specs.FieldLaws.{joined}
 
 -- the length of each field
-pub length-batch : (b : Batch) → length (batchBytes b) ≡ 12
-unfolding batchBytes fieldBytes bytesOf
-length-batch b = refl
+pub length-batch : (b : Batch) → length (batchBytes b) ≡ sizeOf batchForm
+unfolding batchBytes
+length-batch b = length-form batchForm (batchValues b) refl
 
-pub length-job : (j : Job) → length (jobBytes j) ≡ 13
-unfolding jobBytes fieldBytes bytesOf
-length-job j = refl
+pub length-job : (j : Job) → length (jobBytes j) ≡ sizeOf jobForm
+unfolding jobBytes
+length-job j = length-form jobForm (jobValues j) refl
 
-pub length-passes : (p : Passes) → length (passesBytes p) ≡ 11
-unfolding passesBytes fieldBytes bytesOf
-length-passes p = refl
+pub length-passes : (p : Passes) → length (passesBytes p) ≡ sizeOf passesForm
+unfolding passesBytes
+length-passes p = length-form passesForm (passesValues p) refl
 
 -- members of one size
-pub length-members : {A : Type 0} (bytes : A → List ℕ) (size : ℕ) → ((x : A) → length (bytes x) ≡ size) → (member : ℕ → A) (n : ℕ) → length (membersTo bytes member n) ≡ size * n
+pub length-members : {A : Type 0} (bytes : A → List ℕ) (size : ℕ) → ((x : A) → length (bytes x) ≡ size) → (member : ℕ → A) (n : ℕ)
+    → length (membersTo bytes member n) ≡ size * n
 unfolding membersTo
 length-members bytes size each member zero = sym (mul-zero size)
 length-members bytes size each member (suc n) =
@@ -54,7 +55,8 @@ module _ {A : Type 0} (bytes : A → List ℕ) (member : ℕ → A) where
   unfolding membersTo
   members-next n = rw (add-one n)
 
-  storing-more : (size : ℕ) → ((x : A) → length (bytes x) ≡ size) → (d₀ d d₁ : List ℕ) (at n i : ℕ) → Storing bytes member d₀ d at n i → i < n → d₁ ≡ put d (at + size * i) (bytes (member i)) → Storing bytes member d₀ d₁ at n (i + 1)
+  storing-more : (size : ℕ) → ((x : A) → length (bytes x) ≡ size) → (d₀ d d₁ : List ℕ) (at n i : ℕ) → Storing bytes member d₀ d at n i → i < n
+      → d₁ ≡ put d (at + size * i) (bytes (member i)) → Storing bytes member d₀ d₁ at n (i + 1)
   storing-more size each d₀ d d₁ at n i s l e =
       record {
         within = omega arith;
@@ -75,11 +77,13 @@ module _ (last start finish : List ℕ) (d₀ : List ℕ) (at n : ℕ) where
   batches-none = storing-none batchBytes (batchIn last start finish) d₀ at n
 
   pub batches-more : (d d₁ : List ℕ) (i : ℕ) → Storing batchBytes (batchIn last start finish) d₀ d at n i → i < n
-      → d₁ ≡ put d (at + 12 * i) (batchBytes (batch (getD last i 0) (getD start i 0) (getD finish i 0))) → Storing batchBytes (batchIn last start finish) d₀ d₁ at n (i + 1)
+      → d₁ ≡ put d (at + sizeOf batchForm * i) (batchBytes (batch (getD last i 0) (getD start i 0) (getD finish i 0)))
+      → Storing batchBytes (batchIn last start finish) d₀ d₁ at n (i + 1)
   unfolding batchIn
-  batches-more d d₁ i s l e = storing-more batchBytes (batchIn last start finish) 12 length-batch d₀ d d₁ at n i s l e
+  batches-more d d₁ i s l e = storing-more batchBytes (batchIn last start finish) (sizeOf batchForm) length-batch d₀ d d₁ at n i s l e
 
-  pub batches-all : (d : List ℕ) (i : ℕ) → Storing batchBytes (batchIn last start finish) d₀ d at n i → n ≤ i → d ≡ put d₀ at (membersTo batchBytes (batchIn last start finish) n)
+  pub batches-all : (d : List ℕ) (i : ℕ) → Storing batchBytes (batchIn last start finish) d₀ d at n i → n ≤ i
+      → d ≡ put d₀ at (membersTo batchBytes (batchIn last start finish) n)
   batches-all d i s l = storing-all batchBytes (batchIn last start finish) d₀ d at n i s l
 
 module _ (desk number scan start : List ℕ) (d₀ : List ℕ) (at n : ℕ) where
@@ -87,11 +91,13 @@ module _ (desk number scan start : List ℕ) (d₀ : List ℕ) (at n : ℕ) wher
   jobs-none = storing-none jobBytes (jobIn desk number scan start) d₀ at n
 
   pub jobs-more : (d d₁ : List ℕ) (i : ℕ) → Storing jobBytes (jobIn desk number scan start) d₀ d at n i → i < n
-      → d₁ ≡ put d (at + 13 * i) (jobBytes (job (getD desk i 0) (getD number i 0) (getD scan i 0) (getD start i 0))) → Storing jobBytes (jobIn desk number scan start) d₀ d₁ at n (i + 1)
+      → d₁ ≡ put d (at + sizeOf jobForm * i) (jobBytes (job (getD desk i 0) (getD number i 0) (getD scan i 0) (getD start i 0)))
+      → Storing jobBytes (jobIn desk number scan start) d₀ d₁ at n (i + 1)
   unfolding jobIn
-  jobs-more d d₁ i s l e = storing-more jobBytes (jobIn desk number scan start) 13 length-job d₀ d d₁ at n i s l e
+  jobs-more d d₁ i s l e = storing-more jobBytes (jobIn desk number scan start) (sizeOf jobForm) length-job d₀ d d₁ at n i s l e
 
-  pub jobs-all : (d : List ℕ) (i : ℕ) → Storing jobBytes (jobIn desk number scan start) d₀ d at n i → n ≤ i → d ≡ put d₀ at (membersTo jobBytes (jobIn desk number scan start) n)
+  pub jobs-all : (d : List ℕ) (i : ℕ) → Storing jobBytes (jobIn desk number scan start) d₀ d at n i → n ≤ i
+      → d ≡ put d₀ at (membersTo jobBytes (jobIn desk number scan start) n)
   jobs-all d i s l = storing-all jobBytes (jobIn desk number scan start) d₀ d at n i s l
 
 module _ (first second : List ℕ) (d₀ : List ℕ) (at n : ℕ) where
@@ -99,9 +105,11 @@ module _ (first second : List ℕ) (d₀ : List ℕ) (at n : ℕ) where
   blocks-none = storing-none passesBytes (passesIn first second) d₀ at n
 
   pub blocks-more : (d d₁ : List ℕ) (i : ℕ) → Storing passesBytes (passesIn first second) d₀ d at n i → i < n
-      → d₁ ≡ put d (at + 11 * i) (passesBytes (passes (getD first i 0) (getD second i 0))) → Storing passesBytes (passesIn first second) d₀ d₁ at n (i + 1)
+      → d₁ ≡ put d (at + sizeOf passesForm * i) (passesBytes (passes (getD first i 0) (getD second i 0)))
+      → Storing passesBytes (passesIn first second) d₀ d₁ at n (i + 1)
   unfolding passesIn
-  blocks-more d d₁ i s l e = storing-more passesBytes (passesIn first second) 11 length-passes d₀ d d₁ at n i s l e
+  blocks-more d d₁ i s l e = storing-more passesBytes (passesIn first second) (sizeOf passesForm) length-passes d₀ d d₁ at n i s l e
 
-  pub blocks-all : (d : List ℕ) (i : ℕ) → Storing passesBytes (passesIn first second) d₀ d at n i → n ≤ i → d ≡ put d₀ at (membersTo passesBytes (passesIn first second) n)
+  pub blocks-all : (d : List ℕ) (i : ℕ) → Storing passesBytes (passesIn first second) d₀ d at n i → n ≤ i
+      → d ≡ put d₀ at (membersTo passesBytes (passesIn first second) n)
   blocks-all d i s l = storing-all passesBytes (passesIn first second) d₀ d at n i s l

@@ -1,28 +1,24 @@
 -- What each function stores, and what it asks. The layout itself is that of crate rules (specs/Plan.antt).
 use Prim.Native.Nat.{ℕ, zero, suc, _+_, _*_, _≤_}
 use mathlib.Core.List.{List, [], _∷_, _++_}
-use lib.ListN.{length, getD}
+use lib.ListN.{length, getD, take}
 use Rattle.field.specs.Bytes.{bytesOf}
-use Rattle.field.specs.Field.{fieldBytes}
-use Rattle.sheet.specs.Tags.{planStripTag, planFlightTag}
+use Rattle.plan_format.specs.Format.{Form, contentLength, sizeOf, numbersBytes, batchForm, jobForm, passesForm}
 use Rattle.rules.specs.declared.Batch.{Batch}
 use Rattle.rules.specs.declared.Job.{Job}
 use Rattle.rules.specs.declared.Passes.{Passes}
 
 -- tag and content length of a field
-unfoldable pub headBytes : ℕ → ℕ → List ℕ
-headBytes tag size = tag ∷ bytesOf 2 size
+unfoldable pub tagBytes : ℕ → ℕ → List ℕ
+tagBytes tag len = tag ∷ bytesOf 2 len
+
+-- a field as far as its first n numbers
+unfoldable pub partBytes : Form → ℕ → List ℕ → List ℕ
+partBytes f n values = tagBytes (f .tag) (contentLength f) ++ numbersBytes (take n (f .widths)) values
 
 -- a job's field as far as its number within the desk
-unfoldable pub stripBytes : ℕ → ℕ → List ℕ
-stripBytes desk number = headBytes planStripTag 10 ++ bytesOf 1 desk ++ bytesOf 1 number
-
--- the heads of the sections
-unfoldable pub figureBytes : ℕ → ℕ → List ℕ
-figureBytes tag figure = fieldBytes tag (bytesOf 4 figure)
-
-unfoldable pub flightHeadBytes : ℕ → ℕ → List ℕ
-flightHeadBytes figure order = fieldBytes planFlightTag (bytesOf 4 figure ++ bytesOf 8 order)
+abbrev pub stripBytes : ℕ → ℕ → List ℕ
+stripBytes desk number = partBytes jobForm 2 (desk ∷ number ∷ [])
 
 abbrev pub batch : ℕ → ℕ → ℕ → Batch
 batch last start finish = record { last = last; start = start; finish = finish }
@@ -53,16 +49,16 @@ pub record BatchLists (d : List ℕ) (at : ℕ) (last start finish : List ℕ) (
   pub last-long : n ≤ length last
   pub start-long : n ≤ length start
   pub finish-long : n ≤ length finish
-  pub room : at + 12 * n ≤ length d
+  pub room : at + sizeOf batchForm * n ≤ length d
 
 pub record JobLists (d : List ℕ) (at : ℕ) (desk number scan start : List ℕ) (n : ℕ) : Type 0 where
   pub desk-long : n ≤ length desk
   pub number-long : n ≤ length number
   pub scan-long : n ≤ length scan
   pub start-long : n ≤ length start
-  pub room : at + 13 * n ≤ length d
+  pub room : at + sizeOf jobForm * n ≤ length d
 
 pub record PassLists (d : List ℕ) (at : ℕ) (first second : List ℕ) (n : ℕ) : Type 0 where
   pub first-long : n ≤ length first
   pub second-long : n ≤ length second
-  pub room : at + 11 * n ≤ length d
+  pub room : at + sizeOf passesForm * n ≤ length d

@@ -3,22 +3,38 @@ ghost use mathlib.Core.Path.{_≡_};
 ghost use Prim.Native.Nat.{_+_, _≤_};
 ghost use lib.ListN.{length};
 ghost use Rattle.field.specs.Put.{put};
+ghost use Rattle.plan_format.specs.Format.{sizeOf, offsetOf, batchForm, jobForm, passesForm};
 ghost use Rattle.rules.specs.Plan.{batchBytes, jobBytes, passesBytes};
 ghost use Rattle.plan_fields.specs.Stored.{stripBytes, batch, job, passes, batchIn, jobIn, passesIn, membersTo, BatchLists, JobLists, PassLists};
-use crate::tag::put_head;
+use crate::tag::put_tag;
 use field::put_number;
+use plan_format::BATCH_FINISH;
+use plan_format::BATCH_LENGTH;
+use plan_format::BATCH_SIZE;
+use plan_format::BATCH_START;
+use plan_format::CONTENT;
+use plan_format::JOB_LENGTH;
+use plan_format::JOB_NUMBER;
+use plan_format::JOB_SCAN;
+use plan_format::JOB_SIZE;
+use plan_format::JOB_START;
+use plan_format::NUMBER_WIDTH;
+use plan_format::PASSES_LENGTH;
+use plan_format::PASSES_SECOND;
+use plan_format::PASSES_SIZE;
+use plan_format::TIME_WIDTH;
 use sheet::tags::PLAN_BATCH;
 use sheet::tags::PLAN_BLOCK;
 use sheet::tags::PLAN_STRIP;
 
 fn put_batch(d: &mut [u8], at: usize, last: u64, start: u64, finish: u64)
-    requires { ⌜ at + 12 ≤ length (now d) ⌝ }
+    requires { ⌜ at + sizeOf batchForm ≤ length (now d) ⌝ }
     ensures { λ _. ⌜ now (d .exit) ≡ put (now (d .entry)) at (batchBytes (batch last start finish)) ⌝ }
 {
-    put_head(d, at, PLAN_BATCH, 9);
-    put_number(d, at + 3, 1, last);
-    put_number(d, at + 4, 4, start);
-    put_number(d, at + 8, 4, finish);
+    put_tag(d, at, PLAN_BATCH, BATCH_LENGTH);
+    put_number(d, at + CONTENT, NUMBER_WIDTH, last);
+    put_number(d, at + BATCH_START, TIME_WIDTH, start);
+    put_number(d, at + BATCH_FINISH, TIME_WIDTH, finish);
 }
 
 // The first n batches of the lists.
@@ -35,28 +51,28 @@ pub fn put_batches<'a>(
 {
     let mut i: usize = 0;
     while i < n {
-        put_batch(d, at + 12 * i, last[i], start[i], finish[i]);
+        put_batch(d, at + BATCH_SIZE * i, last[i], start[i], finish[i]);
         i += 1;
     }
 }
 
 // The field of a job as far as its number within the desk.
 fn put_strip(d: &mut [u8], at: usize, desk: u64, number: u64)
-    requires { ⌜ at + 5 ≤ length (now d) ⌝ }
+    requires { ⌜ at + offsetOf jobForm 2 ≤ length (now d) ⌝ }
     ensures { λ _. ⌜ now (d .exit) ≡ put (now (d .entry)) at (stripBytes desk number) ⌝ }
 {
-    put_head(d, at, PLAN_STRIP, 10);
-    put_number(d, at + 3, 1, desk);
-    put_number(d, at + 4, 1, number);
+    put_tag(d, at, PLAN_STRIP, JOB_LENGTH);
+    put_number(d, at + CONTENT, NUMBER_WIDTH, desk);
+    put_number(d, at + JOB_NUMBER, NUMBER_WIDTH, number);
 }
 
 fn put_job(d: &mut [u8], at: usize, desk: u64, number: u64, scan: u64, start: u64)
-    requires { ⌜ at + 13 ≤ length (now d) ⌝ }
+    requires { ⌜ at + sizeOf jobForm ≤ length (now d) ⌝ }
     ensures { λ _. ⌜ now (d .exit) ≡ put (now (d .entry)) at (jobBytes (job desk number scan start)) ⌝ }
 {
     put_strip(d, at, desk, number);
-    put_number(d, at + 5, 4, scan);
-    put_number(d, at + 9, 4, start);
+    put_number(d, at + JOB_SCAN, TIME_WIDTH, scan);
+    put_number(d, at + JOB_START, TIME_WIDTH, start);
 }
 
 // The first n jobs of the lists.
@@ -74,18 +90,18 @@ pub fn put_jobs<'a>(
 {
     let mut i: usize = 0;
     while i < n {
-        put_job(d, at + 13 * i, desk[i], number[i], scan[i], start[i]);
+        put_job(d, at + JOB_SIZE * i, desk[i], number[i], scan[i], start[i]);
         i += 1;
     }
 }
 
 fn put_passes(d: &mut [u8], at: usize, first: u64, second: u64)
-    requires { ⌜ at + 11 ≤ length (now d) ⌝ }
+    requires { ⌜ at + sizeOf passesForm ≤ length (now d) ⌝ }
     ensures { λ _. ⌜ now (d .exit) ≡ put (now (d .entry)) at (passesBytes (passes first second)) ⌝ }
 {
-    put_head(d, at, PLAN_BLOCK, 8);
-    put_number(d, at + 3, 4, first);
-    put_number(d, at + 7, 4, second);
+    put_tag(d, at, PLAN_BLOCK, PASSES_LENGTH);
+    put_number(d, at + CONTENT, TIME_WIDTH, first);
+    put_number(d, at + PASSES_SECOND, TIME_WIDTH, second);
 }
 
 // The first n pairs of starts of the lists.
@@ -95,7 +111,7 @@ pub fn put_blocks<'a>(d: &mut [u8], at: usize, first: &'a [u64], second: &'a [u6
 {
     let mut i: usize = 0;
     while i < n {
-        put_passes(d, at + 11 * i, first[i], second[i]);
+        put_passes(d, at + PASSES_SIZE * i, first[i], second[i]);
         i += 1;
     }
 }

@@ -1,2 +1,3 @@
--- The members of a plan, read from its bytes.
+-- The heads and members of a plan, read from its bytes.
 pub mod PlanRead
+pub mod Laws

@@ -13,6 +13,7 @@ use Rattle.field.specs.Put.{holding}
 use Rattle.sheet.specs.Limits.{tableLength, planLength}
 use Rattle.sheet.specs.Read.{readSheet}
 use Rattle.sheet.specs.declared.Sheet.{Sheet}
+use Rattle.plan_format.specs.Format.{sizeOf, refusalForm}
 use Rattle.rules.specs.Plan.{refusalBytes}
 use Rattle.flight.specs.Choice.{isPossible}
 use Rattle.plan_fields.specs.FieldLaws.{length-refusal}
@@ -75,9 +76,9 @@ module _ (sheet out table after tableEnd : List ℕ) (a : Answer) (large : Large
     untouched : after ≡ out
     untouched = call-refused sheet out table after tableEnd a called z .0
 
-    pub reply-refused : (end : List ℕ) → end ≡ holding (refusalBytes (a .number) (a .place)) after → Replied sheet out end 9
+    pub reply-refused : (end : List ℕ) → end ≡ holding (refusalBytes (a .number) (a .place)) after → Replied sheet out end (sizeOf refusalForm)
     reply-refused end e =
-        record { buffer = buffer; length-is = long; counts = counted (replyBytes sheet) out end 9 buffer long }
+        record { buffer = buffer; length-is = long; counts = counted (replyBytes sheet) out end (sizeOf refusalForm) buffer long }
       where
         bytes : refusalBytes (a .number) (a .place) ≡ replyBytes sheet
         bytes = ap (λ (x : Answer). refusalBytes (x .number) (x .place)) answer-is ∙ sym (reply-turned-back sheet (λ e. z (sym number-is ∙ e)))
@@ -85,5 +86,5 @@ module _ (sheet out table after tableEnd : List ℕ) (a : Answer) (large : Large
         buffer : end ≡ holding (replyBytes sheet) out
         buffer = e ∙ ap (λ (l : List ℕ). holding l after) bytes ∙ ap (λ (l : List ℕ). holding (replyBytes sheet) l) untouched
 
-        long : 9 ≡ length (replyBytes sheet)
+        long : sizeOf refusalForm ≡ length (replyBytes sheet)
         long = sym (length-refusal (a .number) (a .place)) ∙ ap length bytes

@@ -1,4 +1,5 @@
 // Reads a sheet from standard input, at most its first 65,536 bytes, and writes its plan, or the field of its refusal.
+use plan_format::REFUSAL_SIZE;
 use sheet::limits::PLAN_LENGTH;
 use sheet::limits::TABLE_LENGTH;
 ghost use Rattle.planner.specs.Outcomes.{Large};
@@ -14,7 +15,7 @@ fn reply(sheet: &[u8], out: &mut [u8], table: &mut [u64]) -> usize
         return answer.length;
     }
     plan_fields::heads::put_refusal(out, answer.number, answer.place as u64);
-    9
+    REFUSAL_SIZE
 }
 
 fn main() {

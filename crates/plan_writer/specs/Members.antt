@@ -8,7 +8,7 @@ use Rattle.mosaic.specs.Plan.{batchesOf}
 use Rattle.mosaic.specs.declared.MosaicPlan.{MosaicPlan}
 use Rattle.sorting.specs.Plan.{jobsOfPlan}
 use Rattle.sorting.specs.declared.SortingPlan.{SortingPlan}
-use Rattle.flight.specs.Choice.{passesOf}
+use Rattle.flight.specs.Choice.{passesOfPlan}
 use Rattle.flight.specs.declared.FlightPlan.{FlightPlan}
 use Rattle.plan_fields.specs.Stored.{batchIn, jobIn, passesIn, membersTo}
 
@@ -39,6 +39,6 @@ pub jobs-bytes : (p : SortingPlan) → membersBytes jobBytes (jobsOfPlan p) ≡ 
 unfolding jobsOfPlan jobIn
 jobs-bytes p = members-listed jobBytes (p .jobs) (jobIn (p .desk) (p .number) (p .scan) (p .start))
 
-pub passes-bytes : (n : ℕ) (p : FlightPlan) → membersBytes passesBytes (passesOf n p) ≡ membersTo passesBytes (passesIn (p .first) (p .second)) n
-unfolding passesOf passesIn
+pub passes-bytes : (n : ℕ) (p : FlightPlan) → membersBytes passesBytes (passesOfPlan n p) ≡ membersTo passesBytes (passesIn (p .first) (p .second)) n
+unfolding passesOfPlan passesIn
 passes-bytes n p = members-listed passesBytes n (passesIn (p .first) (p .second))

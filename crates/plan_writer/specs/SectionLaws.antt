@@ -1,21 +1,22 @@
 -- A section is its head and its members, stored one behind the other; an absent one is nothing.
 use Prim.Native.Nat.{ℕ, zero, suc, _+_, _*_, _≤_, _<_}
-use mathlib.Core.Path.{_≡_, sym, ap, _∙_}
-use mathlib.Core.List.{List, [], _++_}
+use mathlib.Core.Path.{_≡_, refl, sym, ap, _∙_}
+use mathlib.Core.List.{List, [], _∷_, _++_}
 use lib.ListN.{length, length-append}
 use Rattle.field.specs.Put.{put, put-none}
-use Rattle.sheet.specs.Tags.{planMosaicTag, planSortingTag}
+use Rattle.plan_format.specs.Format.{sizeOf, formBytes, mosaicHeadForm, batchForm, sortingHeadForm, jobForm, flightHeadForm, passesForm}
+use Rattle.plan_format.specs.FormLaws.{length-form}
 use Rattle.rules.specs.Plan.{mosaicBytes, sortingBytes, flightBytes, ifPresent, membersBytes, batchBytes, jobBytes, passesBytes}
 use Rattle.mosaic.specs.Plan.{batchesOf}
 use Rattle.mosaic.specs.declared.MosaicPlan.{MosaicPlan}
 use Rattle.sorting.specs.Plan.{jobsOfPlan}
 use Rattle.sorting.specs.declared.SortingPlan.{SortingPlan}
-use Rattle.flight.specs.Choice.{passesOf}
+use Rattle.flight.specs.Choice.{passesOfPlan}
 use Rattle.flight.specs.declared.FlightPlan.{FlightPlan}
 use native.Mathlib.Omega.{arith}
 use borrow.Author.Tests.{lt-ltb, le-ltb}
-use Rattle.plan_fields.specs.Stored.{figureBytes, flightHeadBytes, batchIn, jobIn, passesIn, membersTo}
-use Rattle.plan_fields.specs.FieldLaws.{joined, length-figure, length-flight-head}
+use Rattle.plan_fields.specs.Stored.{batchIn, jobIn, passesIn, membersTo}
+use Rattle.plan_fields.specs.FieldLaws.{joined}
 use Rattle.plan_fields.specs.MemberLaws.{length-batch, length-job, length-passes, length-members}
 use Rattle.plan_writer.specs.Written.{Written}
 use Rattle.plan_writer.specs.Members.{batches-bytes, jobs-bytes, passes-bytes}
@@ -41,17 +42,20 @@ mosaic-absent d at n p h = absent d at n (mosaicBytes (p .figure) (batchesOf p))
 pub sorting-absent : (d : List ℕ) (at n : ℕ) (p : SortingPlan) → n < 1 → Written d d at (ifPresent n (sortingBytes (p .figure) (jobsOfPlan p))) at
 sorting-absent d at n p h = absent d at n (sortingBytes (p .figure) (jobsOfPlan p)) h
 
-pub flight-absent : (d : List ℕ) (at n : ℕ) (p : FlightPlan) → n < 1 → Written d d at (ifPresent n (flightBytes (p .figure) (p .order) (passesOf n p))) at
-flight-absent d at n p h = absent d at n (flightBytes (p .figure) (p .order) (passesOf n p)) h
+pub flight-absent : (d : List ℕ) (at n : ℕ) (p : FlightPlan) → n < 1 → Written d d at (ifPresent n (flightBytes (p .figure) (p .order) (passesOfPlan n p))) at
+flight-absent d at n p h = absent d at n (flightBytes (p .figure) (p .order) (passesOfPlan n p)) h
 
 -- The members of a plan's lists are its members.
-pub batches-stored : (p : MosaicPlan) (d d₁ : List ℕ) (at : ℕ) → d₁ ≡ put d at (membersTo batchBytes (batchIn (p .last) (p .start) (p .finish)) (p .batches)) → d₁ ≡ put d at (membersBytes batchBytes (batchesOf p))
+pub batches-stored : (p : MosaicPlan) (d d₁ : List ℕ) (at : ℕ) → d₁ ≡ put d at (membersTo batchBytes (batchIn (p .last) (p .start) (p .finish)) (p .batches))
+    → d₁ ≡ put d at (membersBytes batchBytes (batchesOf p))
 batches-stored p d d₁ at e = e ∙ ap (put d at) (sym (batches-bytes p))
 
-pub jobs-stored : (p : SortingPlan) (d d₁ : List ℕ) (at : ℕ) → d₁ ≡ put d at (membersTo jobBytes (jobIn (p .desk) (p .number) (p .scan) (p .start)) (p .jobs)) → d₁ ≡ put d at (membersBytes jobBytes (jobsOfPlan p))
+pub jobs-stored : (p : SortingPlan) (d d₁ : List ℕ) (at : ℕ) → d₁ ≡ put d at (membersTo jobBytes (jobIn (p .desk) (p .number) (p .scan) (p .start)) (p .jobs))
+    → d₁ ≡ put d at (membersBytes jobBytes (jobsOfPlan p))
 jobs-stored p d d₁ at e = e ∙ ap (put d at) (sym (jobs-bytes p))
 
-pub blocks-stored : (p : FlightPlan) (d d₁ : List ℕ) (at n : ℕ) → d₁ ≡ put d at (membersTo passesBytes (passesIn (p .first) (p .second)) n) → d₁ ≡ put d at (membersBytes passesBytes (passesOf n p))
+pub blocks-stored : (p : FlightPlan) (d d₁ : List ℕ) (at n : ℕ) → d₁ ≡ put d at (membersTo passesBytes (passesIn (p .first) (p .second)) n)
+    → d₁ ≡ put d at (membersBytes passesBytes (passesOfPlan n p))
 blocks-stored p d d₁ at n e = e ∙ ap (put d at) (sym (passes-bytes n p))
 
 -- A section: its head and its members.
@@ -61,33 +65,36 @@ section d d₁ d₂ at n skip size head members h l m e₁ e₂ =
     rw (present-is n (head ++ members) h)
     (record { buffer = joined d d₁ d₂ at (at + skip) head members e₁ e₂ (omega arith); end = omega (arith, length-append head members) })
 
-batches-long : (p : MosaicPlan) → length (membersBytes batchBytes (batchesOf p)) ≡ 12 * p .batches
-batches-long p = ap length (batches-bytes p) ∙ length-members batchBytes 12 length-batch (batchIn (p .last) (p .start) (p .finish)) (p .batches)
+batches-long : (p : MosaicPlan) → length (membersBytes batchBytes (batchesOf p)) ≡ sizeOf batchForm * p .batches
+batches-long p = ap length (batches-bytes p) ∙ length-members batchBytes (sizeOf batchForm) length-batch (batchIn (p .last) (p .start) (p .finish)) (p .batches)
 
-jobs-long : (p : SortingPlan) → length (membersBytes jobBytes (jobsOfPlan p)) ≡ 13 * p .jobs
-jobs-long p = ap length (jobs-bytes p) ∙ length-members jobBytes 13 length-job (jobIn (p .desk) (p .number) (p .scan) (p .start)) (p .jobs)
+jobs-long : (p : SortingPlan) → length (membersBytes jobBytes (jobsOfPlan p)) ≡ sizeOf jobForm * p .jobs
+jobs-long p = ap length (jobs-bytes p) ∙ length-members jobBytes (sizeOf jobForm) length-job (jobIn (p .desk) (p .number) (p .scan) (p .start)) (p .jobs)
 
-blocks-long : (n : ℕ) (p : FlightPlan) → length (membersBytes passesBytes (passesOf n p)) ≡ 11 * n
-blocks-long n p = ap length (passes-bytes n p) ∙ length-members passesBytes 11 length-passes (passesIn (p .first) (p .second)) n
+blocks-long : (n : ℕ) (p : FlightPlan) → length (membersBytes passesBytes (passesOfPlan n p)) ≡ sizeOf passesForm * n
+blocks-long n p = ap length (passes-bytes n p) ∙ length-members passesBytes (sizeOf passesForm) length-passes (passesIn (p .first) (p .second)) n
 
 module _ (d d₁ d₂ : List ℕ) (at n : ℕ) where
-  pub mosaic-written : (p : MosaicPlan) → 1 ≤ n → d₁ ≡ put d at (figureBytes planMosaicTag (p .figure)) → d₂ ≡ put d₁ (at + 7) (membersBytes batchBytes (batchesOf p))
-      → Written d d₂ at (ifPresent n (mosaicBytes (p .figure) (batchesOf p))) (at + 7 + 12 * p .batches)
-  unfolding mosaicBytes figureBytes
+  pub mosaic-written : (p : MosaicPlan) → 1 ≤ n → d₁ ≡ put d at (formBytes mosaicHeadForm (p .figure ∷ []))
+      → d₂ ≡ put d₁ (at + sizeOf mosaicHeadForm) (membersBytes batchBytes (batchesOf p))
+      → Written d d₂ at (ifPresent n (mosaicBytes (p .figure) (batchesOf p))) (at + sizeOf mosaicHeadForm + sizeOf batchForm * p .batches)
+  unfolding mosaicBytes
   mosaic-written p h e₁ e₂ =
-      section d d₁ d₂ at n 7 (12 * p .batches) (figureBytes planMosaicTag (p .figure)) (membersBytes batchBytes (batchesOf p)) h (length-figure planMosaicTag (p .figure)) (batches-long p) e₁ e₂
+      section d d₁ d₂ at n (sizeOf mosaicHeadForm) (sizeOf batchForm * p .batches) (formBytes mosaicHeadForm (p .figure ∷ [])) (membersBytes batchBytes (batchesOf p)) h (length-form mosaicHeadForm (p .figure ∷ []) refl) (batches-long p) e₁ e₂
 
-  pub sorting-written : (p : SortingPlan) → 1 ≤ n → d₁ ≡ put d at (figureBytes planSortingTag (p .figure)) → d₂ ≡ put d₁ (at + 7) (membersBytes jobBytes (jobsOfPlan p))
-      → Written d d₂ at (ifPresent n (sortingBytes (p .figure) (jobsOfPlan p))) (at + 7 + 13 * p .jobs)
-  unfolding sortingBytes figureBytes
+  pub sorting-written : (p : SortingPlan) → 1 ≤ n → d₁ ≡ put d at (formBytes sortingHeadForm (p .figure ∷ []))
+      → d₂ ≡ put d₁ (at + sizeOf sortingHeadForm) (membersBytes jobBytes (jobsOfPlan p))
+      → Written d d₂ at (ifPresent n (sortingBytes (p .figure) (jobsOfPlan p))) (at + sizeOf sortingHeadForm + sizeOf jobForm * p .jobs)
+  unfolding sortingBytes
   sorting-written p h e₁ e₂ =
-      section d d₁ d₂ at n 7 (13 * p .jobs) (figureBytes planSortingTag (p .figure)) (membersBytes jobBytes (jobsOfPlan p)) h (length-figure planSortingTag (p .figure)) (jobs-long p) e₁ e₂
+      section d d₁ d₂ at n (sizeOf sortingHeadForm) (sizeOf jobForm * p .jobs) (formBytes sortingHeadForm (p .figure ∷ [])) (membersBytes jobBytes (jobsOfPlan p)) h (length-form sortingHeadForm (p .figure ∷ []) refl) (jobs-long p) e₁ e₂
 
-  pub flight-written : (p : FlightPlan) → 1 ≤ n → d₁ ≡ put d at (flightHeadBytes (p .figure) (p .order)) → d₂ ≡ put d₁ (at + 15) (membersBytes passesBytes (passesOf n p))
-      → Written d d₂ at (ifPresent n (flightBytes (p .figure) (p .order) (passesOf n p))) (at + 15 + 11 * n)
-  unfolding flightBytes flightHeadBytes
+  pub flight-written : (p : FlightPlan) → 1 ≤ n → d₁ ≡ put d at (formBytes flightHeadForm (p .figure ∷ p .order ∷ []))
+      → d₂ ≡ put d₁ (at + sizeOf flightHeadForm) (membersBytes passesBytes (passesOfPlan n p))
+      → Written d d₂ at (ifPresent n (flightBytes (p .figure) (p .order) (passesOfPlan n p))) (at + sizeOf flightHeadForm + sizeOf passesForm * n)
+  unfolding flightBytes
   flight-written p h e₁ e₂ =
-      section d d₁ d₂ at n 15 (11 * n) (flightHeadBytes (p .figure) (p .order)) (membersBytes passesBytes (passesOf n p)) h (length-flight-head (p .figure) (p .order)) (blocks-long n p) e₁ e₂
+      section d d₁ d₂ at n (sizeOf flightHeadForm) (sizeOf passesForm * n) (formBytes flightHeadForm (p .figure ∷ p .order ∷ [])) (membersBytes passesBytes (passesOfPlan n p)) h (length-form flightHeadForm (p .figure ∷ p .order ∷ []) refl) (blocks-long n p) e₁ e₂
 
 -- How long a section is at most.
 present-long : (n most : ℕ) (bytes : List ℕ) → length bytes ≤ most → length (ifPresent n bytes) ≤ most
@@ -95,20 +102,23 @@ unfolding ifPresent
 present-long zero most bytes h = omega arith
 present-long (suc n) most bytes h = rw (lt-ltb 0 (suc n) (omega arith)) h
 
-pub mosaic-long : (n : ℕ) (p : MosaicPlan) → length (ifPresent n (mosaicBytes (p .figure) (batchesOf p))) ≤ 7 + 12 * p .batches
-unfolding mosaicBytes figureBytes
+pub mosaic-long : (n : ℕ) (p : MosaicPlan)
+    → length (ifPresent n (mosaicBytes (p .figure) (batchesOf p))) ≤ sizeOf mosaicHeadForm + sizeOf batchForm * p .batches
+unfolding mosaicBytes
 mosaic-long n p =
-    present-long n (7 + 12 * p .batches) (figureBytes planMosaicTag (p .figure) ++ membersBytes batchBytes (batchesOf p))
-    (omega (arith, length-append (figureBytes planMosaicTag (p .figure)) (membersBytes batchBytes (batchesOf p)), length-figure planMosaicTag (p .figure), batches-long p))
+    present-long n (sizeOf mosaicHeadForm + sizeOf batchForm * p .batches) (formBytes mosaicHeadForm (p .figure ∷ []) ++ membersBytes batchBytes (batchesOf p))
+    (omega (arith, length-append (formBytes mosaicHeadForm (p .figure ∷ [])) (membersBytes batchBytes (batchesOf p)), length-form mosaicHeadForm (p .figure ∷ []) refl, batches-long p))
 
-pub sorting-long : (n : ℕ) (p : SortingPlan) → length (ifPresent n (sortingBytes (p .figure) (jobsOfPlan p))) ≤ 7 + 13 * p .jobs
-unfolding sortingBytes figureBytes
+pub sorting-long : (n : ℕ) (p : SortingPlan)
+    → length (ifPresent n (sortingBytes (p .figure) (jobsOfPlan p))) ≤ sizeOf sortingHeadForm + sizeOf jobForm * p .jobs
+unfolding sortingBytes
 sorting-long n p =
-    present-long n (7 + 13 * p .jobs) (figureBytes planSortingTag (p .figure) ++ membersBytes jobBytes (jobsOfPlan p))
-    (omega (arith, length-append (figureBytes planSortingTag (p .figure)) (membersBytes jobBytes (jobsOfPlan p)), length-figure planSortingTag (p .figure), jobs-long p))
+    present-long n (sizeOf sortingHeadForm + sizeOf jobForm * p .jobs) (formBytes sortingHeadForm (p .figure ∷ []) ++ membersBytes jobBytes (jobsOfPlan p))
+    (omega (arith, length-append (formBytes sortingHeadForm (p .figure ∷ [])) (membersBytes jobBytes (jobsOfPlan p)), length-form sortingHeadForm (p .figure ∷ []) refl, jobs-long p))
 
-pub flight-long : (n : ℕ) (p : FlightPlan) → length (ifPresent n (flightBytes (p .figure) (p .order) (passesOf n p))) ≤ 15 + 11 * n
-unfolding flightBytes flightHeadBytes
+pub flight-long : (n : ℕ) (p : FlightPlan)
+    → length (ifPresent n (flightBytes (p .figure) (p .order) (passesOfPlan n p))) ≤ sizeOf flightHeadForm + sizeOf passesForm * n
+unfolding flightBytes
 flight-long n p =
-    present-long n (15 + 11 * n) (flightHeadBytes (p .figure) (p .order) ++ membersBytes passesBytes (passesOf n p))
-    (omega (arith, length-append (flightHeadBytes (p .figure) (p .order)) (membersBytes passesBytes (passesOf n p)), length-flight-head (p .figure) (p .order), blocks-long n p))
+    present-long n (sizeOf flightHeadForm + sizeOf passesForm * n) (formBytes flightHeadForm (p .figure ∷ p .order ∷ []) ++ membersBytes passesBytes (passesOfPlan n p))
+    (omega (arith, length-append (formBytes flightHeadForm (p .figure ∷ p .order ∷ [])) (membersBytes passesBytes (passesOfPlan n p)), length-form flightHeadForm (p .figure ∷ p .order ∷ []) refl, blocks-long n p))

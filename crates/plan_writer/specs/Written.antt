@@ -7,39 +7,40 @@ use Rattle.field.specs.Put.{put}
 use Rattle.sheet.specs.Limits.{mostStrips, mostBlocks, planLength}
 use Rattle.sheet.specs.Sound.{SortingSound, stripsInAll}
 use Rattle.sheet.specs.declared.Sheet.{Sheet}
+use Rattle.plan_format.specs.Format.{sizeOf, mosaicHeadForm, batchForm, sortingHeadForm, jobForm, flightHeadForm, passesForm}
 use Rattle.rules.specs.Plan.{mosaicBytes, sortingBytes, flightBytes, ifPresent}
 use Rattle.mosaic.specs.Plan.{batchesOf}
 use Rattle.mosaic.specs.declared.MosaicPlan.{MosaicPlan}
 use Rattle.sorting.specs.Plan.{jobsOfPlan}
 use Rattle.sorting.specs.declared.SortingPlan.{SortingPlan}
-use Rattle.flight.specs.Choice.{passesOf}
+use Rattle.flight.specs.Choice.{passesOfPlan}
 use Rattle.flight.specs.declared.FlightPlan.{FlightPlan}
 
 -- a plan of no more members than a sheet may have, and room for their fields
 pub record BatchesAsked (d : List ℕ) (at : ℕ) (p : MosaicPlan) : Type 0 where
   pub few : p .batches ≤ mostStrips
-  pub room : at + 12 * p .batches ≤ length d
+  pub room : at + sizeOf batchForm * p .batches ≤ length d
 
 pub record JobsAsked (d : List ℕ) (at : ℕ) (p : SortingPlan) : Type 0 where
   pub few : p .jobs ≤ 18
-  pub room : at + 13 * p .jobs ≤ length d
+  pub room : at + sizeOf jobForm * p .jobs ≤ length d
 
 pub record BlocksAsked (d : List ℕ) (at n : ℕ) : Type 0 where
   pub few : n ≤ mostBlocks
-  pub room : at + 11 * n ≤ length d
+  pub room : at + sizeOf passesForm * n ≤ length d
 
 -- the same with room for the section's head
 pub record MosaicAsked (d : List ℕ) (at : ℕ) (p : MosaicPlan) : Type 0 where
   pub few : p .batches ≤ mostStrips
-  pub room : at + 7 + 12 * p .batches ≤ length d
+  pub room : at + sizeOf mosaicHeadForm + sizeOf batchForm * p .batches ≤ length d
 
 pub record SortingAsked (d : List ℕ) (at : ℕ) (p : SortingPlan) : Type 0 where
   pub few : p .jobs ≤ 18
-  pub room : at + 7 + 13 * p .jobs ≤ length d
+  pub room : at + sizeOf sortingHeadForm + sizeOf jobForm * p .jobs ≤ length d
 
 pub record FlightAsked (d : List ℕ) (at n : ℕ) : Type 0 where
   pub few : n ≤ mostBlocks
-  pub room : at + 15 + 11 * n ≤ length d
+  pub room : at + sizeOf flightHeadForm + sizeOf passesForm * n ≤ length d
 
 -- the bytes are stored at the offset, and the answer is the offset behind them
 pub record Written (before after : List ℕ) (at : ℕ) (bytes : List ℕ) (behind : ℕ) : Type 0 where
@@ -59,4 +60,4 @@ unfoldable pub planOf : Sheet → MosaicPlan → SortingPlan → FlightPlan → 
 planOf s m t f =
     ifPresent (s .mosaic .strips) (mosaicBytes (m .figure) (batchesOf m))
     ++ ifPresent (stripsInAll (s .sorting)) (sortingBytes (t .figure) (jobsOfPlan t))
-    ++ ifPresent (s .flight .blocks) (flightBytes (f .figure) (f .order) (passesOf (s .flight .blocks) f))
+    ++ ifPresent (s .flight .blocks) (flightBytes (f .figure) (f .order) (passesOfPlan (s .flight .blocks) f))

@@ -4,19 +4,24 @@ ghost use Rattle.field.specs.Put.{put};
 ghost use Rattle.rules.specs.Plan.{membersBytes, batchBytes, jobBytes, passesBytes, mosaicBytes, sortingBytes, flightBytes, ifPresent};
 ghost use Rattle.mosaic.specs.Plan.{batchesOf};
 ghost use Rattle.sorting.specs.Plan.{jobsOfPlan};
-ghost use Rattle.flight.specs.Choice.{passesOf};
+ghost use Rattle.flight.specs.Choice.{passesOfPlan};
 ghost use Rattle.plan_writer.specs.Written.{BatchesAsked, JobsAsked, BlocksAsked, MosaicAsked, SortingAsked, FlightAsked, PlanAsked, Written, planOf};
 use flight::FlightPlan;
 use mosaic::MosaicPlan;
-use plan_fields::heads::put_figure;
 use plan_fields::heads::put_flight_head;
+use plan_fields::heads::put_mosaic_head;
+use plan_fields::heads::put_sorting_head;
 use plan_fields::members::put_batches;
 use plan_fields::members::put_blocks;
 use plan_fields::members::put_jobs;
+use plan_format::BATCH_SIZE;
+use plan_format::FLIGHT_HEAD_SIZE;
+use plan_format::JOB_SIZE;
+use plan_format::MOSAIC_HEAD_SIZE;
+use plan_format::PASSES_SIZE;
+use plan_format::SORTING_HEAD_SIZE;
 use sheet::Sheet;
 use sheet::desks::strips_in_all;
-use sheet::tags::PLAN_MOSAIC;
-use sheet::tags::PLAN_SORTING;
 use sorting::SortingPlan;
 
 fn put_mosaic_batches(d: &mut [u8], at: usize, p: MosaicPlan)
@@ -42,7 +47,7 @@ fn put_sorting_jobs(d: &mut [u8], at: usize, p: SortingPlan)
 
 fn put_flight_blocks(d: &mut [u8], at: usize, n: usize, p: FlightPlan)
     requires { ⌜ BlocksAsked (now d) at n ⌝ }
-    ensures { λ _. ⌜ now (d .exit) ≡ put (now (d .entry)) at (membersBytes passesBytes (passesOf n p)) ⌝ }
+    ensures { λ _. ⌜ now (d .exit) ≡ put (now (d .entry)) at (membersBytes passesBytes (passesOfPlan n p)) ⌝ }
 {
     let first = p.first;
     let second = p.second;
@@ -57,9 +62,9 @@ fn write_mosaic(d: &mut [u8], at: usize, strips: usize, p: MosaicPlan) -> usize
     if strips < 1 {
         return at;
     }
-    put_figure(d, at, PLAN_MOSAIC, p.figure);
-    put_mosaic_batches(d, at + 7, p);
-    at + 7 + 12 * p.batches
+    put_mosaic_head(d, at, p.figure);
+    put_mosaic_batches(d, at + MOSAIC_HEAD_SIZE, p);
+    at + MOSAIC_HEAD_SIZE + BATCH_SIZE * p.batches
 }
 
 // The sorting section of a plan, none where the sheet has no strip of it. Returns the offset behind it.
@@ -70,22 +75,22 @@ fn write_sorting(d: &mut [u8], at: usize, strips: usize, p: SortingPlan) -> usiz
     if strips < 1 {
         return at;
     }
-    put_figure(d, at, PLAN_SORTING, p.figure);
-    put_sorting_jobs(d, at + 7, p);
-    at + 7 + 13 * p.jobs
+    put_sorting_head(d, at, p.figure);
+    put_sorting_jobs(d, at + SORTING_HEAD_SIZE, p);
+    at + SORTING_HEAD_SIZE + JOB_SIZE * p.jobs
 }
 
 // The flight section of a plan of n blocks, none where the sheet has no block. Returns the offset behind it.
 fn write_flight(d: &mut [u8], at: usize, n: usize, p: FlightPlan) -> usize
     requires { ⌜ FlightAsked (now d) at n ⌝ }
-    ensures { λ r. ⌜ Written (now (d .entry)) (now (d .exit)) at (ifPresent n (flightBytes (p .figure) (p .order) (passesOf n p))) r ⌝ }
+    ensures { λ r. ⌜ Written (now (d .entry)) (now (d .exit)) at (ifPresent n (flightBytes (p .figure) (p .order) (passesOfPlan n p))) r ⌝ }
 {
     if n < 1 {
         return at;
     }
     put_flight_head(d, at, p.figure, p.order);
-    put_flight_blocks(d, at + 15, n, p);
-    at + 15 + 11 * n
+    put_flight_blocks(d, at + FLIGHT_HEAD_SIZE, n, p);
+    at + FLIGHT_HEAD_SIZE + PASSES_SIZE * n
 }
 
 // The plan of a sheet from the plans of its sections, at the start of the buffer. Returns its length.

@@ -69,7 +69,7 @@ pub record Called (sheet plan working planAfter tableEnd : List ℕ) (r : Answer
   pub table : tableEnd ≡ tableAfter (length plan) working
 
 -- The same of a call whose buffers are large enough, with just the part of the table that it works in.
-pub record WithinAsked (plan table : List ℕ) : Type 0 where
+pub record PlanWithinPre (plan table : List ℕ) : Type 0 where
   pub room : planLength ≤ length plan
   pub size : length table ≡ tableLength
 
@@ -79,7 +79,7 @@ pub record Within (sheet plan planAfter tableEnd : List ℕ) (r : Answer) : Type
   pub table : tableEnd ≡ zeros tableLength
 
 -- And of a sheet that was read.
-pub record PlanAsked (s : Sheet) (plan table : List ℕ) : Type 0 where
+pub record PlanSectionsPre (s : Sheet) (plan table : List ℕ) : Type 0 where
   pub sound : s .number ≡ 0 → SheetSound s
   pub room : planLength ≤ length plan
   pub size : length table ≡ tableLength

@@ -28,7 +28,7 @@ use Rattle.sorting.specs.Plan.{jobsOfPlan, chosenJobs}
 use Rattle.sorting.specs.Contracts as sorting
 use Rattle.sorting.specs.Theorems.{sorting-figure}
 use Rattle.sorting.specs.declared.SortingPlan.{SortingPlan}
-use Rattle.flight.specs.Choice.{passesOf, chosenOrder, chosenPasses, isPossible}
+use Rattle.flight.specs.Choice.{passesOfPlan, chosenOrder, chosenPasses, isPossible}
 use Rattle.flight.specs.Choice as flight
 use Rattle.flight.specs.Theorems.{flight-figure}
 use Rattle.flight.specs.declared.FlightPlan.{FlightPlan}
@@ -36,7 +36,7 @@ use Rattle.plan_writer.specs.Written.{Written, planOf}
 use Rattle.plan_writer.specs.Written as writer
 use Rattle.plan_writer.specs.SectionLaws.{mosaic-long, sorting-long, flight-long}
 use Rattle.sheet.specs.Decode.{zeros}
-use Rattle.planner.specs.Call.{chosenPlan, answer, sheetAnswer, sheetPlan, answerOf, plannedBytes, clearedTo, tableAfter, Called, WithinAsked, Within, PlanAsked, Planned}
+use Rattle.planner.specs.Call.{chosenPlan, answer, sheetAnswer, sheetPlan, answerOf, plannedBytes, clearedTo, tableAfter, Called, PlanWithinPre, Within, PlanSectionsPre, Planned}
 use Rattle.planner.specs.declared.Answer.{Answer}
 
 -- a cleared table, in the word of the contract
@@ -78,17 +78,17 @@ module _ (s : Sheet) (sound : SheetSound s) (possible : isPossible (s .flight) �
   sorting-same : sortingBytes (t .figure) (jobsOfPlan t) ≡ sortingBytes (sortingFigure (s .sorting) (chosenJobs (s .sorting))) (chosenJobs (s .sorting))
   sorting-same = rw (sorting-figure (s .sorting) (sound .sorting), ← sorting-planned .figure, sorting-planned .jobs)
 
-  flight-same : flightBytes (f .figure) (f .order) (passesOf (s .flight .blocks) f) ≡ flightBytes (flightFigure (s .flight) (chosenPasses (s .flight))) (chosenOrder (s .flight)) (chosenPasses (s .flight))
+  flight-same : flightBytes (f .figure) (f .order) (passesOfPlan (s .flight .blocks) f) ≡ flightBytes (flightFigure (s .flight) (chosenPasses (s .flight))) (chosenOrder (s .flight)) (chosenPasses (s .flight))
   flight-same =
-      ap (λ (x : ℕ). flightBytes x (f .order) (passesOf (s .flight .blocks) f)) (flight-planned .figure ∙ sym (flight-figure (s .flight) (sound .flight) possible))
-      ∙ ap (λ (x : ℕ). flightBytes (flightFigure (s .flight) (chosenPasses (s .flight))) x (passesOf (s .flight .blocks) f)) (flight-planned .order)
+      ap (λ (x : ℕ). flightBytes x (f .order) (passesOfPlan (s .flight .blocks) f)) (flight-planned .figure ∙ sym (flight-figure (s .flight) (sound .flight) possible))
+      ∙ ap (λ (x : ℕ). flightBytes (flightFigure (s .flight) (chosenPasses (s .flight))) x (passesOfPlan (s .flight .blocks) f)) (flight-planned .order)
       ∙ ap (λ (x : List Passes). flightBytes (flightFigure (s .flight) (chosenPasses (s .flight))) (chosenOrder (s .flight)) x) (flight-planned .passes)
 
   plan-same : planOf s m t f ≡ planBytes s (chosenPlan s)
   unfolding planOf planBytes chosenPlan
   plan-same =
-      ap (λ (l : List ℕ). ifPresent (s .mosaic .strips) l ++ ifPresent (stripsInAll (s .sorting)) (sortingBytes (t .figure) (jobsOfPlan t)) ++ ifPresent (s .flight .blocks) (flightBytes (f .figure) (f .order) (passesOf (s .flight .blocks) f))) mosaic-same
-      ∙ ap (λ (l : List ℕ). ifPresent (s .mosaic .strips) (mosaicBytes (mosaicFigure (s .mosaic) (chosenBatches (s .mosaic))) (chosenBatches (s .mosaic))) ++ ifPresent (stripsInAll (s .sorting)) l ++ ifPresent (s .flight .blocks) (flightBytes (f .figure) (f .order) (passesOf (s .flight .blocks) f))) sorting-same
+      ap (λ (l : List ℕ). ifPresent (s .mosaic .strips) l ++ ifPresent (stripsInAll (s .sorting)) (sortingBytes (t .figure) (jobsOfPlan t)) ++ ifPresent (s .flight .blocks) (flightBytes (f .figure) (f .order) (passesOfPlan (s .flight .blocks) f))) mosaic-same
+      ∙ ap (λ (l : List ℕ). ifPresent (s .mosaic .strips) (mosaicBytes (mosaicFigure (s .mosaic) (chosenBatches (s .mosaic))) (chosenBatches (s .mosaic))) ++ ifPresent (stripsInAll (s .sorting)) l ++ ifPresent (s .flight .blocks) (flightBytes (f .figure) (f .order) (passesOfPlan (s .flight .blocks) f))) sorting-same
       ∙ ap (λ (l : List ℕ). ifPresent (s .mosaic .strips) (mosaicBytes (mosaicFigure (s .mosaic) (chosenBatches (s .mosaic))) (chosenBatches (s .mosaic))) ++ ifPresent (stripsInAll (s .sorting)) (sortingBytes (sortingFigure (s .sorting) (chosenJobs (s .sorting))) (chosenJobs (s .sorting))) ++ ifPresent (s .flight .blocks) l) flight-same
 
   plan-long : length (planOf s m t f) ≤ planLength
@@ -96,7 +96,7 @@ module _ (s : Sheet) (sound : SheetSound s) (possible : isPossible (s .flight) �
   plan-long =
       omega (
         arith,
-        length-append (ifPresent (s .mosaic .strips) (mosaicBytes (m .figure) (batchesOf m)) ++ ifPresent (stripsInAll (s .sorting)) (sortingBytes (t .figure) (jobsOfPlan t))) (ifPresent (s .flight .blocks) (flightBytes (f .figure) (f .order) (passesOf (s .flight .blocks) f))),
+        length-append (ifPresent (s .mosaic .strips) (mosaicBytes (m .figure) (batchesOf m)) ++ ifPresent (stripsInAll (s .sorting)) (sortingBytes (t .figure) (jobsOfPlan t))) (ifPresent (s .flight .blocks) (flightBytes (f .figure) (f .order) (passesOfPlan (s .flight .blocks) f))),
         length-append (ifPresent (s .mosaic .strips) (mosaicBytes (m .figure) (batchesOf m))) (ifPresent (stripsInAll (s .sorting)) (sortingBytes (t .figure) (jobsOfPlan t))),
         mosaic-long (s .mosaic .strips) m,
         sorting-long (stripsInAll (s .sorting)) t,
@@ -107,48 +107,48 @@ module _ (s : Sheet) (sound : SheetSound s) (possible : isPossible (s .flight) �
       )
 
 -- What the calls ask.
-module _ (s : Sheet) (plan table : List ℕ) (asked : PlanAsked s plan table) (e : s .number ≡ 0) where
-  pub flight-asked : FlightSound (s .flight)
-  flight-asked = asked .sound e .flight
+module _ (s : Sheet) (plan table : List ℕ) (pre : PlanSectionsPre s plan table) (e : s .number ≡ 0) where
+  pub plan-flight-pre : FlightSound (s .flight)
+  plan-flight-pre = pre .sound e .flight
 
-  pub mosaic-asked : MosaicSound (s .mosaic)
-  mosaic-asked = asked .sound e .mosaic
+  pub plan-mosaic-pre : MosaicSound (s .mosaic)
+  plan-mosaic-pre = pre .sound e .mosaic
 
-  pub sorting-asked : sorting.Lent (s .sorting) table
-  sorting-asked = record { sound = asked .sound e .sorting; size = asked .size }
+  pub plan-sorting-pre : sorting.PlanSortingPre (s .sorting) table
+  plan-sorting-pre = record { sound = pre .sound e .sorting; size = pre .size }
 
   module _ (m : MosaicPlan) (mosaic-planned : mosaic.Planned (s .mosaic) m) (t : SortingPlan) (tableEnd : List ℕ) (sorting-planned : sorting.Planned (s .sorting) table tableEnd t) where
-    pub writer-asked : writer.PlanAsked plan s m t
-    writer-asked =
+    pub write-plan-pre : writer.PlanAsked plan s m t
+    write-plan-pre =
         record {
-          room = asked .room;
+          room = pre .room;
           batches = mosaic-planned .few;
           jobs = sorting-planned .most;
-          blocks = asked .sound e .flight .most-blocks;
-          sorting = asked .sound e .sorting;
+          blocks = pre .sound e .flight .most-blocks;
+          sorting = pre .sound e .sorting;
         }
 
     pub sheet-planned : (f : FlightPlan) → flight.Planned (s .flight) f → not (f .possible) ≡ false → (after : List ℕ) (k : ℕ) → Written plan after 0 (planOf s m t f) k → Planned s plan after (answer 0 0 k)
     sheet-planned f flight-planned h after k w =
         accepted s plan after k e possible
-        (rw (← same) (omega (arith, asked .room, plan-long s (asked .sound e) possible m mosaic-planned t table tableEnd sorting-planned f flight-planned)))
+        (rw (← same) (omega (arith, pre .room, plan-long s (pre .sound e) possible m mosaic-planned t table tableEnd sorting-planned f flight-planned)))
         (rw same at w)
       where
         possible : isPossible (s .flight) ≡ true
         possible = sym (flight-planned .possible) ∙ not-false (f .possible) h
 
         same : planOf s m t f ≡ planBytes s (chosenPlan s)
-        same = plan-same s (asked .sound e) possible m mosaic-planned t table tableEnd sorting-planned f flight-planned
+        same = plan-same s (pre .sound e) possible m mosaic-planned t table tableEnd sorting-planned f flight-planned
 
 -- A call whose buffers are large enough.
-pub sections-asked : (sheet plan table : List ℕ) (s : Sheet) → WithinAsked plan table → s ≡ readSheet sheet → PlanAsked s plan table
-sections-asked sheet plan table s asked e =
-    record { sound = λ z. rw e (read-sound sheet (ap (λ (x : Sheet). x .number) (sym e) ∙ z)); room = asked .room; size = asked .size }
+pub plan-sections-pre : (sheet plan table : List ℕ) (s : Sheet) → PlanWithinPre plan table → s ≡ readSheet sheet → PlanSectionsPre s plan table
+plan-sections-pre sheet plan table s pre e =
+    record { sound = λ z. rw e (read-sound sheet (ap (λ (x : Sheet). x .number) (sym e) ∙ z)); room = pre .room; size = pre .size }
 
-pub call-within : (sheet plan after table used cleared : List ℕ) (s : Sheet) (r : Answer) → WithinAsked plan table → s ≡ readSheet sheet → Planned s plan after r → length used ≡ length table → cleared ≡ replicate (length used) 0
+pub call-within : (sheet plan after table used cleared : List ℕ) (s : Sheet) (r : Answer) → PlanWithinPre plan table → s ≡ readSheet sheet → Planned s plan after r → length used ≡ length table → cleared ≡ replicate (length used) 0
     → Within sheet plan after cleared r
-call-within sheet plan after table used cleared s r asked e p l z =
-    record { answer = p .answer ∙ ap sheetAnswer e; buffer = p .buffer ∙ ap (λ (x : Sheet). holding (sheetPlan x) plan) e; table = zeros-are (length used) cleared z ∙ ap zeros (l ∙ asked .size) }
+call-within sheet plan after table used cleared s r pre e p l z =
+    record { answer = p .answer ∙ ap sheetAnswer e; buffer = p .buffer ∙ ap (λ (x : Sheet). holding (sheetPlan x) plan) e; table = zeros-are (length used) cleared z ∙ ap zeros (l ∙ pre .size) }
 
 -- A whole call.
 module _ (sheet plan table : List ℕ) where
@@ -164,8 +164,8 @@ module _ (sheet plan table : List ℕ) where
     pub part-long : tableLength ≡ length (take tableLength table)
     part-long = sym (length-take-le tableLength table h)
 
-    pub within-asked : WithinAsked plan (take tableLength table)
-    within-asked = record { room = k; size = length-take-le tableLength table h }
+    pub plan-within-pre : PlanWithinPre plan (take tableLength table)
+    plan-within-pre = record { room = k; size = length-take-le tableLength table h }
 
     pub called : (after part : List ℕ) (r : Answer) → Within sheet plan after part r → Called sheet plan table after (part ++ drop tableLength table) r
     unfolding answerOf plannedBytes tableAfter clearedTo

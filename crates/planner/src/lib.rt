@@ -1,6 +1,5 @@
 // The planner whole: a sheet read, its sections planned, and the plan written into the lent buffer.
-ghost use mathlib.Core.Path.{_≡_};
-ghost use Rattle.planner.specs.Call.{Called, PlanAsked, WithinAsked, Within, Planned};
+ghost use Rattle.planner.specs.Call.{Called, PlanSectionsPre, PlanWithinPre, Within, Planned};
 use sheet::Sheet;
 use sheet::limits::PLAN_LENGTH;
 use sheet::limits::TABLE_LENGTH;
@@ -18,7 +17,7 @@ pub struct Answer {
 
 // A sheet that was read. The flight is planned first: where it is impossible, nothing has been written.
 fn plan_sections(s: Sheet, plan: &mut [u8], table: &mut [u64]) -> Answer
-    requires { ⌜ PlanAsked s (now plan) (now table) ⌝ }
+    requires { ⌜ PlanSectionsPre s (now plan) (now table) ⌝ }
     ensures { λ r. ⌜ Planned s (now (plan .entry)) (now (plan .exit)) r ⌝ }
 {
     if s.number != 0 {
@@ -48,7 +47,7 @@ fn plan_sections(s: Sheet, plan: &mut [u8], table: &mut [u64]) -> Answer
 
 // A call whose buffers are large enough, with the part of the table that it works in.
 fn plan_within(sheet: &[u8], plan: &mut [u8], table: &mut [u64]) -> Answer
-    requires { ⌜ WithinAsked (now plan) (now table) ⌝ }
+    requires { ⌜ PlanWithinPre (now plan) (now table) ⌝ }
     ensures { λ r. ⌜ Within (now (sheet .entry)) (now (plan .entry)) (now (plan .exit)) (now (table .exit)) r ⌝ }
 {
     let s = sheet_reader::read(sheet);

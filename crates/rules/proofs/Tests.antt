@@ -12,13 +12,14 @@ use borrow.Author.Tests.{lt-ltb, le-leb, eq-eqb, ltb-true, leb-true, eqb-true}
 use Rattle.base.specs.Branch.{both}
 use Rattle.order.specs.Order.{isProper, Decides}
 use Rattle.order.specs.Decided.{proper-true, true-proper}
+use Rattle.order.specs.Passes.{passAt}
 use Rattle.sheet.specs.Limits.{ceiling}
 use Rattle.sheet.specs.declared.MosaicSection.{MosaicSection}
 use Rattle.sheet.specs.declared.SortingSection.{SortingSection}
 use Rattle.sheet.specs.declared.FlightSection.{FlightSection}
 use Rattle.rules.specs.Mosaic.{ready, batchAt, batchBefore, finishDue, BatchLawful, MosaicLawful}
 use Rattle.rules.specs.Sorting.{stripsOf, scanEnd, deskFinish, jobAt, jobsOf, JobLawful, SortingLawful}
-use Rattle.rules.specs.Flight.{passesAt, passStart, passEnd, secondDue, clearAt, Clear, FlightLawful, passAt, Keeps, OrderAllowed}
+use Rattle.rules.specs.Flight.{passesAt, passStart, passEnd, secondDue, clearAt, Clear, FlightLawful, Keeps, OrderAllowed}
 use Rattle.rules.specs.declared.Batch.{Batch}
 use Rattle.rules.specs.declared.Job.{Job}
 use Rattle.rules.specs.declared.Passes.{Passes}
@@ -225,7 +226,7 @@ isFlight f ps =
 
 -- the pass at position k starts after each pass before it in the order
 unfoldable pub startTest : FlightSection → ℕ → List Passes → ℕ → ℕ → Bool
-startTest f order ps k j = ltb (passStart f ps (passAt f order j)) (passStart f ps (passAt f order k))
+startTest f order ps k j = ltb (passStart f ps (passAt (f .blocks) order j)) (passStart f ps (passAt (f .blocks) order k))
 
 unfoldable pub keepsOrder : FlightSection → ℕ → List Passes → Bool
 keepsOrder f order ps = allBelow (2 * f .blocks) (λ k. allBelow k (startTest f order ps k))

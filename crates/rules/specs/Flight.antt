@@ -5,8 +5,9 @@ use mathlib.Core.Bool.{true, cond}
 use mathlib.Core.List.{List}
 use mathlib.Core.Logic.{_⊎_}
 use lib.ListN.{length, getD}
-use lib.Dec.{ltb, eqb}
-use Rattle.order.specs.Order.{bit, seconds, firsts, Proper}
+use lib.Dec.{ltb}
+use Rattle.order.specs.Order.{Proper}
+use Rattle.order.specs.Passes.{passAt, timeOf}
 use Rattle.sheet.specs.Limits.{ceiling}
 use Rattle.sheet.specs.declared.FlightSection.{FlightSection}
 use Rattle.base.specs.Sums.{greatestOver}
@@ -24,7 +25,7 @@ unfoldable pub passStart : FlightSection → List Passes → ℕ → ℕ
 passStart f ps p = cond (ltb p (f .blocks)) (passesAt ps p .first) (passesAt ps (p - f .blocks) .second)
 
 unfoldable pub passTime : FlightSection → ℕ → ℕ
-passTime f p = cond (ltb p (f .blocks)) (getD (f .first) p 0) (getD (f .second) (p - f .blocks) 0)
+passTime f p = timeOf (f .blocks) (f .first) (f .second) p
 
 unfoldable pub passEnd : FlightSection → List Passes → ℕ → ℕ
 passEnd f ps p = passStart f ps p + passTime f p
@@ -52,13 +53,9 @@ pub record FlightLawful (f : FlightSection) (ps : List Passes) : Type 0 where
   -- "all starts and finishes are whole numbers from 0 to 10,000,000"
   pub within : (p : ℕ) → p < 2 * f .blocks → passEnd f ps p ≤ ceiling
 
--- the pass that an order number has at position k: "a 1 is a second pass, a 0 a first pass. .. First passes take the blocks in sheet order, and so do second passes."
-unfoldable pub passAt : FlightSection → ℕ → ℕ → ℕ
-passAt f order k = cond (eqb (bit order k) 1) (f .blocks + seconds order k) (firsts order k)
-
 -- "a flight timetable keeps an order where its passes, taken by start, come in that order"
 pub record Keeps (f : FlightSection) (order : ℕ) (ps : List Passes) : Type 0 where
-  pub by-start : (j k : ℕ) → j < k → k < 2 * f .blocks → passStart f ps (passAt f order j) < passStart f ps (passAt f order k)
+  pub by-start : (j k : ℕ) → j < k → k < 2 * f .blocks → passStart f ps (passAt (f .blocks) order j) < passStart f ps (passAt (f .blocks) order k)
 
 -- "A given order must be kept; otherwise any proper order may be chosen."
 pub record OrderAllowed (f : FlightSection) (order : ℕ) : Type 0 where

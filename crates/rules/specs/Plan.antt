@@ -4,9 +4,7 @@ use mathlib.Core.Path.{_≡_}
 use mathlib.Core.Bool.{cond}
 use mathlib.Core.List.{List, [], _∷_, _++_}
 use lib.Dec.{ltb}
-use Rattle.field.specs.Bytes.{bytesOf}
-use Rattle.field.specs.Field.{fieldBytes}
-use Rattle.sheet.specs.Tags.{planMosaicTag, planBatchTag, planSortingTag, planStripTag, planFlightTag, planBlockTag, planRefusalTag}
+use Rattle.plan_format.specs.Format.{formBytes, mosaicHeadForm, batchForm, sortingHeadForm, jobForm, flightHeadForm, passesForm, refusalForm}
 use Rattle.sheet.specs.Read.{readSheet}
 use Rattle.sheet.specs.Sound.{stripsInAll}
 use Rattle.sheet.specs.declared.Sheet.{Sheet}
@@ -23,29 +21,39 @@ membersBytes bytes [] = []
 membersBytes bytes (x ∷ xs) = bytes x ++ membersBytes bytes xs
 
 -- "90: mosaic figure (4 bytes), then 91 per batch: number of its last strip (1 byte), mount start, finish (4 bytes each)."
+-- The forms have the tags and the widths (crate plan_format, specs/Format.antt); here stand the values, in the same order.
+abbrev pub batchValues : Batch → List ℕ
+batchValues b = b .last ∷ b .start ∷ b .finish ∷ []
+
 unfoldable pub batchBytes : Batch → List ℕ
-batchBytes b = fieldBytes planBatchTag (bytesOf 1 (b .last) ++ bytesOf 4 (b .start) ++ bytesOf 4 (b .finish))
+batchBytes b = formBytes batchForm (batchValues b)
 
 unfoldable pub mosaicBytes : ℕ → List Batch → List ℕ
-mosaicBytes figure bs = fieldBytes planMosaicTag (bytesOf 4 figure) ++ membersBytes batchBytes bs
+mosaicBytes figure bs = formBytes mosaicHeadForm (figure ∷ []) ++ membersBytes batchBytes bs
 
 -- "A0: sorting figure (4), then A1 per strip in scanner order: desk, number within the desk (1 byte each), scan start, desk start (4 each)."
+abbrev pub jobValues : Job → List ℕ
+jobValues j = j .desk ∷ j .number ∷ j .scan ∷ j .start ∷ []
+
 unfoldable pub jobBytes : Job → List ℕ
-jobBytes j = fieldBytes planStripTag (bytesOf 1 (j .desk) ++ bytesOf 1 (j .number) ++ bytesOf 4 (j .scan) ++ bytesOf 4 (j .start))
+jobBytes j = formBytes jobForm (jobValues j)
 
 unfoldable pub sortingBytes : ℕ → List Job → List ℕ
-sortingBytes figure js = fieldBytes planSortingTag (bytesOf 4 figure) ++ membersBytes jobBytes js
+sortingBytes figure js = formBytes sortingHeadForm (figure ∷ []) ++ membersBytes jobBytes js
 
 -- "B0: flight figure (4), order number (8), then B1 per block: first and second start (4 each)."
+abbrev pub passesValues : Passes → List ℕ
+passesValues p = p .first ∷ p .second ∷ []
+
 unfoldable pub passesBytes : Passes → List ℕ
-passesBytes p = fieldBytes planBlockTag (bytesOf 4 (p .first) ++ bytesOf 4 (p .second))
+passesBytes p = formBytes passesForm (passesValues p)
 
 unfoldable pub flightBytes : ℕ → ℕ → List Passes → List ℕ
-flightBytes figure order ps = fieldBytes planFlightTag (bytesOf 4 figure ++ bytesOf 8 order) ++ membersBytes passesBytes ps
+flightBytes figure order ps = formBytes flightHeadForm (figure ∷ order ∷ []) ++ membersBytes passesBytes ps
 
 -- "E0: refusal number (2), place (4)."
 unfoldable pub refusalBytes : ℕ → ℕ → List ℕ
-refusalBytes number place = fieldBytes planRefusalTag (bytesOf 2 number ++ bytesOf 4 place)
+refusalBytes number place = formBytes refusalForm (number ∷ place ∷ [])
 
 -- "Sections are the sheet's, in its order": a section of no member is absent
 unfoldable pub ifPresent : ℕ → List ℕ → List ℕ

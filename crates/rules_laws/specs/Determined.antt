@@ -12,13 +12,14 @@ use borrow.Author.Tests.{lt-ltb}
 use Rattle.sheet.specs.Limits.{planLength}
 use Rattle.sheet.specs.Sound.{SheetSound, stripsInAll}
 use Rattle.sheet.specs.declared.Sheet.{Sheet}
+use Rattle.plan_format.specs.Format.{sizeOf, mosaicHeadForm, batchForm, sortingHeadForm, jobForm, flightHeadForm, passesForm}
 use Rattle.rules.specs.Mosaic.{mosaicFigure}
 use Rattle.rules.specs.Sorting.{sortingFigure}
 use Rattle.rules.specs.Flight.{flightFigure}
 use Rattle.rules.specs.Plan.{mosaicBytes, sortingBytes, flightBytes, ifPresent, Plan, planBytes, PlanLawful}
-use Rattle.plan_read.specs.PlanRead.{orderFrom, batchFrom, jobFrom, passesFrom, membersFrom}
+use Rattle.plan_read.specs.PlanRead.{orderFrom, batchesFrom, jobsFrom, blocksFrom}
 use Rattle.rules_laws.specs.Sections.{length-mosaic, length-sorting, length-flight, mosaic-back, sorting-back, flight-back, flight-order-back}
-use Rattle.rules_laws.specs.Fits.{batches-most, batch-fits, jobs-all, job-fits, passes-fits, order-fits}
+use Rattle.rules_laws.specs.Fits.{batches-most, batch-fits, jobs-all, job-fits, passes-fits, flight-head-fits}
 
 -- the bytes of each section of a plan
 abbrev pub mosaicOf : Sheet → Plan → List ℕ
@@ -90,49 +91,52 @@ module _ (s : Sheet) (sound : SheetSound s) where
           sound .flight .most-blocks,
         )
 
-    pub sorting-size : length (sortingOf s p) ≡ cond (ltb 0 (stripsInAll (s .sorting))) (7 + 13 * stripsInAll (s .sorting)) 0
+    pub sorting-size : length (sortingOf s p) ≡ cond (ltb 0 (stripsInAll (s .sorting))) (sizeOf sortingHeadForm + sizeOf jobForm * stripsInAll (s .sorting)) 0
     sorting-size =
         present-length (stripsInAll (s .sorting)) (sortingBytes (sortingFigure (s .sorting) (p .jobs)) (p .jobs))
         ∙ ap (λ (k : ℕ). cond (ltb 0 (stripsInAll (s .sorting))) k 0)
-        (length-sorting (sortingFigure (s .sorting) (p .jobs)) (p .jobs) ∙ ap (λ (k : ℕ). 7 + 13 * k) (jobs-all (s .sorting) (p .jobs) (sound .sorting) (L .sorting)))
+        (length-sorting (sortingFigure (s .sorting) (p .jobs)) (p .jobs) ∙ ap (λ (k : ℕ). sizeOf sortingHeadForm + sizeOf jobForm * k) (jobs-all (s .sorting) (p .jobs) (sound .sorting) (L .sorting)))
 
-    pub flight-size : length (flightOf s p) ≡ cond (ltb 0 (s .flight .blocks)) (15 + 11 * s .flight .blocks) 0
+    pub flight-size : length (flightOf s p) ≡ cond (ltb 0 (s .flight .blocks)) (sizeOf flightHeadForm + sizeOf passesForm * s .flight .blocks) 0
     flight-size =
         present-length (s .flight .blocks) (flightBytes (flightFigure (s .flight) (p .passes)) (p .order) (p .passes))
         ∙ ap (λ (k : ℕ). cond (ltb 0 (s .flight .blocks)) k 0)
-        (length-flight (flightFigure (s .flight) (p .passes)) (p .order) (p .passes) ∙ ap (λ (k : ℕ). 15 + 11 * k) (L .flight .every-block))
+        (length-flight (flightFigure (s .flight) (p .passes)) (p .order) (p .passes) ∙ ap (λ (k : ℕ). sizeOf flightHeadForm + sizeOf passesForm * k) (L .flight .every-block))
 
-    pub mosaic-size : 0 < s .mosaic .strips → length (mosaicOf s p) ≡ 7 + 12 * length (p .batches)
+    pub mosaic-size : 0 < s .mosaic .strips → length (mosaicOf s p) ≡ sizeOf mosaicHeadForm + sizeOf batchForm * length (p .batches)
     mosaic-size h = ap length (present-some (s .mosaic .strips) (mosaicBytes (mosaicFigure (s .mosaic) (p .batches)) (p .batches)) h) ∙ length-mosaic (mosaicFigure (s .mosaic) (p .batches)) (p .batches)
 
-    pub batches-read : 0 < s .mosaic .strips → membersFrom batchFrom 12 (planBytes s p) 7 (length (p .batches)) ≡ p .batches
+    pub batches-read : 0 < s .mosaic .strips → batchesFrom (planBytes s p) (sizeOf mosaicHeadForm) (length (p .batches)) ≡ p .batches
     batches-read h =
-        ap (λ (l : List ℕ). membersFrom batchFrom 12 l 7 (length (p .batches)))
+        ap (λ (l : List ℕ). batchesFrom l (sizeOf mosaicHeadForm) (length (p .batches)))
         (plan-is s p ∙ append-assoc (mosaicOf s p) (sortingOf s p) (flightOf s p)
         ∙ ap (λ (l : List ℕ). l ++ (sortingOf s p ++ flightOf s p)) (present-some (s .mosaic .strips) (mosaicBytes (mosaicFigure (s .mosaic) (p .batches)) (p .batches)) h))
         ∙ mosaic-back (mosaicFigure (s .mosaic) (p .batches)) (p .batches) [] (sortingOf s p ++ flightOf s p) (batch-fits (s .mosaic) (p .batches) (sound .mosaic) (L .mosaic))
 
-    pub jobs-read : 0 < stripsInAll (s .sorting) → membersFrom jobFrom 13 (planBytes s p) (length (mosaicOf s p) + 7) (length (p .jobs)) ≡ p .jobs
+    pub jobs-read : 0 < stripsInAll (s .sorting) → jobsFrom (planBytes s p) (length (mosaicOf s p) + sizeOf sortingHeadForm) (length (p .jobs)) ≡ p .jobs
     jobs-read h =
-        ap (λ (l : List ℕ). membersFrom jobFrom 13 l (length (mosaicOf s p) + 7) (length (p .jobs)))
+        ap (λ (l : List ℕ). jobsFrom l (length (mosaicOf s p) + sizeOf sortingHeadForm) (length (p .jobs)))
         (plan-is s p ∙ ap (λ (l : List ℕ). mosaicOf s p ++ l ++ flightOf s p) (present-some (stripsInAll (s .sorting)) (sortingBytes (sortingFigure (s .sorting) (p .jobs)) (p .jobs)) h))
         ∙ sorting-back (sortingFigure (s .sorting) (p .jobs)) (p .jobs) (mosaicOf s p) (flightOf s p) (job-fits (s .sorting) (p .jobs) (sound .sorting) (L .sorting))
 
-    flight-last : 0 < s .flight .blocks → planBytes s p ≡ mosaicOf s p ++ sortingOf s p ++ flightBytes (flightFigure (s .flight) (p .passes)) (p .order) (p .passes) ++ []
+    flight-last : 0 < s .flight .blocks
+        → planBytes s p ≡ mosaicOf s p ++ sortingOf s p ++ flightBytes (flightFigure (s .flight) (p .passes)) (p .order) (p .passes) ++ []
     flight-last h =
         plan-is s p
         ∙ ap (λ (l : List ℕ). mosaicOf s p ++ sortingOf s p ++ l) (present-some (s .flight .blocks) (flightBytes (flightFigure (s .flight) (p .passes)) (p .order) (p .passes)) h)
         ∙ sym (append-nil (mosaicOf s p ++ sortingOf s p ++ flightBytes (flightFigure (s .flight) (p .passes)) (p .order) (p .passes)))
 
-    pub passes-read : 0 < s .flight .blocks → membersFrom passesFrom 11 (planBytes s p) (length (mosaicOf s p ++ sortingOf s p) + 15) (length (p .passes)) ≡ p .passes
+    pub passes-read : 0 < s .flight .blocks
+        → blocksFrom (planBytes s p) (length (mosaicOf s p ++ sortingOf s p) + sizeOf flightHeadForm) (length (p .passes)) ≡ p .passes
     passes-read h =
-        ap (λ (l : List ℕ). membersFrom passesFrom 11 l (length (mosaicOf s p ++ sortingOf s p) + 15) (length (p .passes))) (flight-last h)
+        ap (λ (l : List ℕ). blocksFrom l (length (mosaicOf s p ++ sortingOf s p) + sizeOf flightHeadForm) (length (p .passes))) (flight-last h)
         ∙ flight-back (flightFigure (s .flight) (p .passes)) (p .order) (p .passes) (mosaicOf s p ++ sortingOf s p) [] (passes-fits (s .flight) (p .passes) (sound .flight) (L .flight))
 
     pub order-read : 0 < s .flight .blocks → orderFrom (planBytes s p) (length (mosaicOf s p ++ sortingOf s p)) ≡ p .order
     order-read h =
         ap (λ (l : List ℕ). orderFrom l (length (mosaicOf s p ++ sortingOf s p))) (flight-last h)
-        ∙ flight-order-back (flightFigure (s .flight) (p .passes)) (p .order) (p .passes) (mosaicOf s p ++ sortingOf s p) [] (order-fits (s .flight) (p .order) (sound .flight) (L .order))
+        ∙ flight-order-back (flightFigure (s .flight) (p .passes)) (p .order) (p .passes) (mosaicOf s p ++ sortingOf s p) []
+        (flight-head-fits (s .flight) (p .passes) (sound .flight) (L .flight) (p .order) (L .order))
 
     -- without blocks the order number is 0
     no-order : (0 < s .flight .blocks → ⊥) → p .order ≡ 0
@@ -161,7 +165,7 @@ module _ (s : Sheet) (sound : SheetSound s) where
         count h = omega (arith, mosaic-size p P h, mosaic-size q Q h, same-mosaic)
 
         go : Dec (0 < s .mosaic .strips) → p .batches ≡ q .batches
-        go (yes h) = sym (batches-read p P h) ∙ ap₂ (λ (l : List ℕ) (n : ℕ). membersFrom batchFrom 12 l 7 n) same (count h) ∙ batches-read q Q h
+        go (yes h) = sym (batches-read p P h) ∙ ap₂ (λ (l : List ℕ) (n : ℕ). batchesFrom l (sizeOf mosaicHeadForm) n) same (count h) ∙ batches-read q Q h
         go (no h) =
             both-none (p .batches) (q .batches)
             (omega (arith, h, batches-most (s .mosaic) (p .batches) (sound .mosaic) (P .mosaic)))
@@ -179,8 +183,8 @@ module _ (s : Sheet) (sound : SheetSound s) where
         go : Dec (0 < stripsInAll (s .sorting)) → p .jobs ≡ q .jobs
         go (yes h) =
             sym (jobs-read p P h)
-            ∙ ap₂ (λ (l : List ℕ) (k : ℕ). membersFrom jobFrom 13 l (k + 7) (length (p .jobs))) same same-mosaic
-            ∙ ap (membersFrom jobFrom 13 (planBytes s q) (length (mosaicOf s q) + 7)) (countP ∙ sym countQ)
+            ∙ ap₂ (λ (l : List ℕ) (k : ℕ). jobsFrom l (k + sizeOf sortingHeadForm) (length (p .jobs))) same same-mosaic
+            ∙ ap (jobsFrom (planBytes s q) (length (mosaicOf s q) + sizeOf sortingHeadForm)) (countP ∙ sym countQ)
             ∙ jobs-read q Q h
         go (no h) = both-none (p .jobs) (q .jobs) (omega (arith, h, countP)) (omega (arith, h, countQ))
 
@@ -190,8 +194,8 @@ module _ (s : Sheet) (sound : SheetSound s) where
         go : Dec (0 < s .flight .blocks) → p .passes ≡ q .passes
         go (yes h) =
             sym (passes-read p P h)
-            ∙ ap₂ (λ (l : List ℕ) (k : ℕ). membersFrom passesFrom 11 l (k + 15) (length (p .passes))) same same-front
-            ∙ ap (membersFrom passesFrom 11 (planBytes s q) (length (mosaicOf s q ++ sortingOf s q) + 15)) (P .flight .every-block ∙ sym (Q .flight .every-block))
+            ∙ ap₂ (λ (l : List ℕ) (k : ℕ). blocksFrom l (k + sizeOf flightHeadForm) (length (p .passes))) same same-front
+            ∙ ap (blocksFrom (planBytes s q) (length (mosaicOf s q ++ sortingOf s q) + sizeOf flightHeadForm)) (P .flight .every-block ∙ sym (Q .flight .every-block))
             ∙ passes-read q Q h
         go (no h) = both-none (p .passes) (q .passes) (omega (arith, h, P .flight .every-block)) (omega (arith, h, Q .flight .every-block))
 

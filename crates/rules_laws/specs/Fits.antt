@@ -20,6 +20,8 @@ use Rattle.rules.specs.Mosaic.{benchSum, noBatch, batchAt, batchBefore, MosaicL
 use Rattle.rules.specs.Sorting.{stripsOf, slot, deskTime, scanEnd, deskFinish, jobAt, jobsOf, SortingLawful, sortingFigure}
 use Rattle.rules.specs.Flight.{passesAt, passEnd, FlightLawful, OrderAllowed, flightFigure}
 use Rattle.running.specs.Running.{BatchFollows, MosaicRuns, none, more}
+use Rattle.plan_format.specs.Format.{widthOf, EachFits, mosaicHeadForm, sortingHeadForm, flightHeadForm}
+use Rattle.plan_read.specs.PlanRead.{BatchFits, JobFits, PassesFits}
 use Rattle.rules.specs.declared.Batch.{Batch}
 use Rattle.rules.specs.declared.Job.{Job}
 use Rattle.rules.specs.declared.Passes.{Passes}
@@ -29,7 +31,6 @@ use Rattle.rules_laws.specs.MosaicRunning.{count-within, follows-at, run
 use Rattle.rules_laws.specs.Equivalent.{mosaic-runs, mosaic-figure}
 use Rattle.rules_laws.specs.SortingRunning.{jobs-same, jobs-other, number-known}
 use Rattle.rules_laws.specs.FlightRunning.{first-ended, second-start, end-is, time-some}
-use Rattle.rules_laws.specs.RoundTrip.{BatchFits, JobFits, PassesFits}
 
 -- The mosaic.
 completion-most : (bs : List Batch) (j : ℕ) → ((i : ℕ) → i < length bs → getD bs i noBatch .finish ≤ ceiling) → completion bs j ≤ ceiling
@@ -82,6 +83,11 @@ module _ (m : MosaicSection) (bs : List Batch) (sound : MosaicSound m) (L : Mosa
 
   pub batch-fits : (i : ℕ) → i < length bs → BatchFits (batchAt bs i)
   batch-fits i l = record { last = omega (arith, batch-last i l); start = omega (arith, batch-start i l); finish = omega (arith, L .each i l .within) }
+
+  pub mosaic-head-fits : EachFits (mosaicHeadForm .widths) (mosaicFigure m bs ∷ [])
+  mosaic-head-fits =
+      let h : mosaicFigure m bs < 2 ^ (8 * widthOf mosaicHeadForm 0) = omega (arith, mosaic-figure-most) in
+      EachFits.more h EachFits.none
 
 -- The sorting.
 module _ (s : SortingSection) (js : List Job) (sound : SortingSound s) (L : SortingLawful s js) where
@@ -160,7 +166,15 @@ module _ (s : SortingSection) (js : List Job) (sound : SortingSound s) (L : Sort
   pub job-fits : (i : ℕ) → i < length js → JobFits (jobAt js i)
   job-fits i l = record { desk = omega (arith, job-desk i l); number = omega (arith, job-number i l); scan = omega (arith, job-scan i l); start = omega (arith, job-start i l) }
 
+  pub sorting-head-fits : EachFits (sortingHeadForm .widths) (sortingFigure s js ∷ [])
+  sorting-head-fits =
+      let h : sortingFigure s js < 2 ^ (8 * widthOf sortingHeadForm 0) = omega (arith, sorting-figure-most) in
+      EachFits.more h EachFits.none
+
 -- The flight.
+pub order-fits : (f : FlightSection) (order : ℕ) → FlightSound f → OrderAllowed f order → order < 2 ^ (8 * widthOf flightHeadForm 1)
+order-fits f order sound allowed = proper-fits (allowed .proper) (sound .most-blocks)
+
 module _ (f : FlightSection) (ps : List Passes) (sound : FlightSound f) (L : FlightLawful f ps) where
   pub flight-figure-most : flightFigure f ps ≤ ceiling
   unfolding flightFigure
@@ -180,5 +194,7 @@ module _ (f : FlightSection) (ps : List Passes) (sound : FlightSound f) (L : Fli
   pub passes-fits : (i : ℕ) → i < length ps → PassesFits (passesAt ps i)
   passes-fits i l = record { first = omega (arith, passes-first i l); second = omega (arith, passes-second i l) }
 
-pub order-fits : (f : FlightSection) (order : ℕ) → FlightSound f → OrderAllowed f order → order < 2 ^ 64
-order-fits f order sound allowed = proper-fits (allowed .proper) (sound .most-blocks)
+  pub flight-head-fits : (order : ℕ) → OrderAllowed f order → EachFits (flightHeadForm .widths) (flightFigure f ps ∷ order ∷ [])
+  flight-head-fits order allowed =
+      let h : flightFigure f ps < 2 ^ (8 * widthOf flightHeadForm 0) = omega (arith, flight-figure-most) in
+      EachFits.more h (EachFits.more (order-fits f order sound allowed) EachFits.none)

@@ -5,7 +5,6 @@ pub mod MosaicRunning
 pub mod SortingRunning
 pub mod FlightRunning
 pub mod Equivalent
-pub mod ByteLaws
 pub mod Members
 pub mod RoundTrip
 pub mod Sections

@@ -2,20 +2,20 @@
 use Prim.Native.Nat.{ℕ, suc, _+_, _-_, _*_, _^_, _≤_, _<_, max}
 use mathlib.Core.Path.{_≡_, refl, sym, ap, _∙_}
 use native.Mathlib.Numerals.{add-one}
+use native.Mathlib.Decide.{decLt}
 use native.Mathlib.Omega.{arith}
 use lib.ListN.{getD}
-use borrow.Author.Tests.{lt-ltb, le-ltb, eq-eqb, ne-eqb}
-use Rattle.order.specs.Order.{bit, seconds, firsts}
-use Rattle.order.specs.Seconds.{seconds-le}
+use Rattle.order.specs.Passes.{timeOf}
+use Rattle.order.specs.PassLaws.{first-time, second-time}
 use Rattle.sheet.specs.Limits.{mostTime, mostStrips, mostDesks, mostStripsOfDesk}
 use Rattle.sheet.specs.Sound.{MosaicSound, SortingSound, FlightSound}
 use Rattle.sheet.specs.declared.MosaicSection.{MosaicSection}
 use Rattle.sheet.specs.declared.SortingSection.{SortingSection}
 use Rattle.sheet.specs.declared.FlightSection.{FlightSection}
 use Rattle.base.specs.Sums.{sumOver, greatestOver}
-use Rattle.rules.specs.Mosaic.{stationSum, ready, benchSum, finishDue}
+use Rattle.rules.specs.Mosaic.{stationSum, ready, benchSum, setupTime, mostSetup, finishDue}
 use Rattle.rules.specs.Sorting.{slot, scanTime, deskTime}
-use Rattle.rules.specs.Flight.{passTime, passAt}
+use Rattle.rules.specs.Flight.{passTime}
 use Rattle.rules.specs.declared.Batch.{Batch}
 use Rattle.rules.specs.declared.Job.{Job}
 
@@ -39,6 +39,14 @@ pub record FinishPre (m : MosaicSection) (before b : Batch) : Type 0 where
   pub strips : b .last ≤ mostStrips
   pub fits : b .start < 2 ^ 32
 
+pub record SetupTold (m : MosaicSection) (r : ℕ) : Type 0 where
+  pub is : r ≡ setupTime m
+  pub fits : r ≤ mostSetup
+
+pub setup-told : (m : MosaicSection) → MosaicSound m → SetupTold m (m .mount)
+unfolding setupTime
+setup-told m sound = record { is = refl; fits = sound .most-mount }
+
 -- a sum of at most 40 times
 pub record SumTold (value r : ℕ) : Type 0 where
   pub is : r ≡ value
@@ -58,10 +66,6 @@ pub record SlotPre (s : SortingSection) (j : Job) : Type 0 where
 pub record PassPre (f : FlightSection) (p : ℕ) : Type 0 where
   pub sound : FlightSound f
   pub known : p < 2 * f .blocks
-
-pub record PositionPre (f : FlightSection) (order k : ℕ) : Type 0 where
-  pub sound : FlightSound f
-  pub known : k < 2 * f .blocks
 
 -- the first i of n terms, each at most so large, are added up
 pub record Summed (f : ℕ → ℕ) (most n i sum : ℕ) : Type 0 where
@@ -122,15 +126,17 @@ module _ (m : MosaicSection) (before b : Batch) (a : FinishPre m before b) where
   pub finish-bench : BenchPre m (before .last) (b .last - before .last)
   finish-bench = let h = a .rises in let l = a .strips in record { sound = a .sound; strips = omega arith }
 
-  pub finish-mounted : b .start + m .mount < 2 ^ 64
-  finish-mounted = let f = a .fits in omega (arith, a .sound .most-mount)
+  module _ (setup : ℕ) (u : SetupTold m setup) where
+    pub finish-mounted : b .start + setup < 2 ^ 64
+    finish-mounted = omega (arith, a .fits, u .fits)
 
-  pub finish-fits : (sum : ℕ) → SumTold (benchSum m (before .last) (b .last - before .last)) sum → b .start + m .mount + sum < 2 ^ 64
-  finish-fits sum t = let f = a .fits in let l = t .fits in omega (arith, a .sound .most-mount)
+    module _ (sum : ℕ) (t : SumTold (benchSum m (before .last) (b .last - before .last)) sum) where
+      pub finish-fits : b .start + setup + sum < 2 ^ 64
+      finish-fits = omega (arith, a .fits, u .fits, t .fits)
 
-  pub finish-is : (sum : ℕ) → SumTold (benchSum m (before .last) (b .last - before .last)) sum → b .start + m .mount + sum ≡ finishDue m before b
-  unfolding finishDue
-  finish-is sum t = ap (λ (n : ℕ). b .start + m .mount + n) (t .is)
+      pub finish-is : b .start + setup + sum ≡ finishDue m before b
+      unfolding finishDue
+      finish-is = rw (u .is, t .is)
 
 -- the greatest of the first k stations' sums
 pub record Greatest (m : MosaicSection) (j k value : ℕ) : Type 0 where
@@ -169,23 +175,13 @@ pub desk-told : (s : SortingSection) (j : Job) → SlotPre s j → TimeTold (des
 unfolding deskTime slot
 desk-told s j a = record { is = refl; fits = a .sound .most-desk _ }
 
-module _ (f : FlightSection) (p : ℕ) (a : PassPre f p) where
-  pub first-told : p < f .blocks → TimeTold (passTime f p) (getD (f .first) p 0)
-  unfolding passTime
-  first-told h = record { is = rw (lt-ltb _ _ h); fits = a .sound .most-first p }
-
-  pub second-told : f .blocks ≤ p → TimeTold (passTime f p) (getD (f .second) (p - f .blocks) 0)
-  unfolding passTime
-  second-told h = record { is = rw (le-ltb _ _ h); fits = a .sound .most-second (p - f .blocks) }
-
-module _ (f : FlightSection) (order k b n : ℕ) (eb : b ≡ bit order k) where
-  pub second-at : b ≡ 1 → n ≡ seconds order k → f .blocks + n ≡ passAt f order k
-  unfolding passAt
-  second-at h e = rw (eq-eqb (bit order k) 1 (sym eb ∙ h), e)
-
-  pub first-at : (b ≡ 1 → ⊥) → n ≡ firsts order k → n ≡ passAt f order k
-  unfolding passAt
-  first-at h e = rw (ne-eqb (bit order k) 1 (λ q. h (eb ∙ q))) e
-
-pub position-fits : (f : FlightSection) (order k n : ℕ) → PositionPre f order k → n ≡ seconds order k → f .blocks + n < 2 ^ 64
-position-fits f order k n a e = let b = a .sound .most-blocks in let h = a .known in omega (arith, seconds-le order k)
+-- the time of a pass
+pub time-told : (f : FlightSection) (p r : ℕ) → PassPre f p → r ≡ timeOf (f .blocks) (f .first) (f .second) p → TimeTold (passTime f p) r
+unfolding passTime
+time-told f p r a e = record {
+  is = e;
+  fits = elim (decLt p (f .blocks)) [
+    | yes h ↦ omega (arith, first-time (f .blocks) (f .first) (f .second) p h, a .sound .most-first p)
+    | no h ↦ omega (arith, second-time (f .blocks) (f .first) (f .second) p (omega arith), a .sound .most-second (p - f .blocks))
+  ];
+}

@@ -3,13 +3,14 @@ use Prim.Native.Nat.{ℕ, _+_, _-_, _*_, _≤_, _<_}
 use mathlib.Core.Path.{_≡_}
 use mathlib.Core.List.{List, [], _∷_}
 use lib.ListN.{length, getD, set}
+use Rattle.order.specs.Passes.{passAt}
 use Rattle.sheet.specs.Limits.{ceiling}
 use Rattle.sheet.specs.declared.MosaicSection.{MosaicSection}
 use Rattle.sheet.specs.declared.SortingSection.{SortingSection}
 use Rattle.sheet.specs.declared.FlightSection.{FlightSection}
 use Rattle.rules.specs.Mosaic.{BatchLawful}
 use Rattle.rules.specs.Sorting.{stripsOf, scanEnd, deskFinish, JobLawful}
-use Rattle.rules.specs.Flight.{passesAt, DelayKept, Clear, passAt, OrderAllowed}
+use Rattle.rules.specs.Flight.{passesAt, DelayKept, Clear, OrderAllowed}
 use Rattle.rules.specs.declared.Batch.{Batch}
 use Rattle.rules.specs.declared.Job.{Job}
 use Rattle.rules.specs.declared.Passes.{Passes}
@@ -62,7 +63,7 @@ pub record BlockFollows (f : FlightSection) (i : ℕ) (p : Passes) : Type 0 wher
 pub record FlightHead (f : FlightSection) (order : ℕ) (ps : List Passes) : Type 0 where
   pub every-block : length ps ≡ f .blocks
   pub allowed : OrderAllowed f order
-  pub in-order : (k : ℕ) → k + 1 < 2 * f .blocks → Clear f ps (passAt f order k) (passAt f order (k + 1))
+  pub in-order : (k : ℕ) → k + 1 < 2 * f .blocks → Clear f ps (passAt (f .blocks) order k) (passAt (f .blocks) order (k + 1))
 
 pub record FlightRuns (f : FlightSection) (order : ℕ) (ps : List Passes) : Type 0 where
   pub members : (i : ℕ) → i < length ps → BlockFollows f i (passesAt ps i)

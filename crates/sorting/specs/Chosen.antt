@@ -72,7 +72,8 @@ module _ (J : List ℕ) (j : Instance J) where
       go (inr a) c = a
 
   module _ (a : Attained J (startState J .left) (startState J) (firstBest J)) where
-    step-at : (i : ℕ) → i < startState J .left → Completes J (startState J .left - i) (chosenState J i) (a .end) → Step J (startState J .left - suc i) (chosenState J i) (a .end) (listedDesk (firstBest J .path) (startState J .left) i)
+    step-at : (i : ℕ) → i < startState J .left → Completes J (startState J .left - i) (chosenState J i) (a .end)
+        → Step J (startState J .left - suc i) (chosenState J i) (a .end) (listedDesk (firstBest J .path) (startState J .left) i)
     unfolding listedDesk
     step-at i l c =
         step-of J (startState J .left - suc i) (chosenState J i) (a .end) _ (ap (λ (x : ℕ). x / 4 ^ (startState J .left - suc i) % 4) (sym (a .path))) (subst (λ (k : ℕ). Completes J k (chosenState J i) (a .end)) (more l) c)

@@ -14,11 +14,11 @@ use Rattle.sorting.specs.Plan.{instanceOf, leastFigure, jobsOfList, chos
 use Rattle.sorting.specs.Lawful.{chosen-length}
 use Rattle.sorting.specs.Theorems.{sorting-count}
 use Rattle.sorting.specs.Instance.{instance-sound}
-use Rattle.sorting.specs.Writing.{writtenPlan, Listed, Written}
+use Rattle.sorting.specs.Writing.{writtenPlan, PlanOfPre, Written}
 use Rattle.sorting_search.specs.Found as search
 
 -- a sound section, and a working table of the length that the search takes
-pub record Lent (s : SortingSection) (table : List ℕ) : Type 0 where
+pub record PlanSortingPre (s : SortingSection) (table : List ℕ) : Type 0 where
   pub sound : SortingSound s
   pub size : length table ≡ tableLength
 
@@ -33,17 +33,18 @@ pub record Planned (s : SortingSection) (table after : List ℕ) (r : SortingPla
   pub working : search.Used (instanceOf s) table after (leastFigure s)
 
 -- what is known once the instance is written, and once the search is done
-pub lent-search : {s : SortingSection} {J M : List ℕ} → Lent s M → J ≡ instanceOf s → search.Lent J M
-lent-search {s} {J} {M} h e = record { jobs = rw e (instance-sound s (h .sound)); size = h .size }
+pub search-pre : {s : SortingSection} {J M : List ℕ} → PlanSortingPre s M → J ≡ instanceOf s → search.BestInterleavingPre J M
+search-pre {s} {J} {M} h e = record { jobs = rw e (instance-sound s (h .sound)); size = h .size }
 
-pub search-listed : {s : SortingSection} {J M N : List ℕ} {b : Incumbent} → Lent s M → J ≡ instanceOf s → search.Found J M N b → Listed J b
-search-listed {s} {J} {M} {N} {b} h e f = record { jobs = rw e (instance-sound s (h .sound)); best = f .found }
+pub plan-of-pre : {s : SortingSection} {J M N : List ℕ} {b : Incumbent} → PlanSortingPre s M → J ≡ instanceOf s → search.Found J M N b → PlanOfPre J b
+plan-of-pre {s} {J} {M} {N} {b} h e f = record { jobs = rw e (instance-sound s (h .sound)); best = f .found }
 
 chosen-is : (s : SortingSection) → chosenJobs s ≡ jobsOfList (instanceOf s) (firstBest (instanceOf s) .path)
 unfolding chosenJobs
 chosen-is s = refl
 
-pub planned : {s : SortingSection} {J M N : List ℕ} {b : Incumbent} {r : SortingPlan} → Lent s M → J ≡ instanceOf s → search.Found J M N b → Written J b r → Planned s M N r
+pub planned : {s : SortingSection} {J M N : List ℕ} {b : Incumbent} {r : SortingPlan} → PlanSortingPre s M → J ≡ instanceOf s → search.Found J M N b
+    → Written J b r → Planned s M N r
 unfolding leastFigure
 planned {s} {J} {M} {N} {b} {r} h e f w = record {
   plan = w .exact ∙ ap writtenPlan e;

@@ -126,7 +126,8 @@ timed-start a b c scan desk = record {
   weights = λ i l. counted-behind a b c (39 + i) (omega arith) (omega arith);
 }
 
-pub timed-more : {begun scan desk J : List ℕ} {k : ℕ} → Timed begun scan desk J k → k < 18 → Timed begun scan desk (set (set J (3 + k) (getD scan k 0)) (21 + k) (getD desk k 0)) (k + 1)
+pub timed-more : {begun scan desk J : List ℕ} {k : ℕ} → Timed begun scan desk J k → k < 18
+    → Timed begun scan desk (set (set J (3 + k) (getD scan k 0)) (21 + k) (getD desk k 0)) (k + 1)
 timed-more {begun} {scan} {desk} {J} {k} w l = record {
   within = omega arith;
   size = simp length-set (w .size);
@@ -148,7 +149,8 @@ timed-more {begun} {scan} {desk} {J} {k} w l = record {
     desks i m (yes e) = rw e (getD-set-same (set J (3 + k) (getD scan k 0)) (21 + k) (getD desk k 0) 0 (simp length-set (omega (arith, w .size))))
     desks i m (no e) = other (21 + i) (λ z. omega (arith, w .within)) (λ z. omega arith) ∙ w .desks i (omega arith)
 
-pub timed-end : {s : SortingSection} {J : List ℕ} {k : ℕ} → SortingSound s → Timed (counted (getD (s .counts) 0 0) (getD (s .counts) 1 0) (getD (s .counts) 2 0)) (s .scan) (s .desk) J k → 18 ≤ k → J ≡ instanceOf s
+pub timed-end : {s : SortingSection} {J : List ℕ} {k : ℕ} → SortingSound s
+    → Timed (counted (getD (s .counts) 0 0) (getD (s .counts) 1 0) (getD (s .counts) 2 0)) (s .scan) (s .desk) J k → 18 ≤ k → J ≡ instanceOf s
 timed-end {s} {J} {k} h w l = ext-getD 0 J (instanceOf s) (w .size ∙ sym (instance-length s h)) (λ x m. go x (omega (arith, w .size)) (decLt x 3) (decLt x 21) (decLt x 39))
   where
     join : (x y z : ℕ) → x ≡ y → z ≡ x → getD J y 0 ≡ getD (instanceOf s) z 0 → getD J x 0 ≡ getD (instanceOf s) x 0

@@ -187,7 +187,8 @@ module _ (s : SortingSection) (h : SortingSound s) where
       low : desk - 1 < 3
       low = omega (arith, h .most-desks)
 
-  one-job : (i k : ℕ) → i < k → k < N → jobAt (chosenJobs s) i .desk ≡ jobAt (chosenJobs s) k .desk → deskFinish s (jobAt (chosenJobs s) i) ≤ jobAt (chosenJobs s) k .start
+  one-job : (i k : ℕ) → i < k → k < N → jobAt (chosenJobs s) i .desk ≡ jobAt (chosenJobs s) k .desk
+      → deskFinish s (jobAt (chosenJobs s) i) ≤ jobAt (chosenJobs s) k .start
   one-job i k l m e =
       omega (arith, finish-is i (omega arith), free-after i (omega arith), free-mono (suc i) k (F i) (omega arith) (omega arith), ap (λ (x : ℕ). getD (S k .free) x 0) same, job-after-desk J (S k) (F k), start-is k m)
     where

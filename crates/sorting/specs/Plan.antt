@@ -13,7 +13,7 @@ use Rattle.sorting.specs.declared.SortingPlan.{SortingPlan}
 unfoldable pub instanceOf : SortingSection → List ℕ
 instanceOf s = s .counts ++ (s .scan ++ (s .desk ++ replicate 18 1))
 
--- the figure of the first best interleaving
+-- the figure of the first best interleaving (in the literature: the least sum of completion times)
 unfoldable pub leastFigure : SortingSection → ℕ
 leastFigure s = firstBest (instanceOf s) .figure
 

@@ -82,11 +82,13 @@ module _ (J : List ℕ) (s : State) (f : ℕ → ℕ) (n : ℕ) (h : Serves J s 
   pub path-begins : (i : ℕ) → i ≤ n → reached J s f n .path / 4 ^ (n - i) ≡ reached J s f i .path
   path-begins i l = go (path-range J (n - i) (reached J s f i) (reached J s f n) (reached-rest (n - i) i (omega arith)))
     where
-      go : (reached J s f i .path * 4 ^ (n - i) ≤ reached J s f n .path) × (reached J s f n .path < (reached J s f i .path + 1) * 4 ^ (n - i)) → reached J s f n .path / 4 ^ (n - i) ≡ reached J s f i .path
+      go : (reached J s f i .path * 4 ^ (n - i) ≤ reached J s f n .path) × (reached J s f n .path < (reached J s f i .path + 1) * 4 ^ (n - i))
+          → reached J s f n .path / 4 ^ (n - i) ≡ reached J s f i .path
       go w = div-eq-of-lt-le (4 ^ (n - i)) (w .0) (w .1)
 
 -- the lists of a state keep their lengths
-pub reached-lengths : (J : List ℕ) (s : State) (f : ℕ → ℕ) → length (s .free) ≡ 3 → length (s .taken) ≡ 3 → (i : ℕ) → (length (reached J s f i .free) ≡ 3) × (length (reached J s f i .taken) ≡ 3)
+pub reached-lengths : (J : List ℕ) (s : State) (f : ℕ → ℕ) → length (s .free) ≡ 3 → length (s .taken) ≡ 3 → (i : ℕ)
+    → (length (reached J s f i .free) ≡ 3) × (length (reached J s f i .taken) ≡ 3)
 unfolding reached stepOf
 reached-lengths J s f p q zero = (p, q)
 reached-lengths J s f p q (suc i) = (simp length-set (reached-lengths J s f p q i .0), simp length-set (reached-lengths J s f p q i .1))
@@ -100,7 +102,9 @@ completion J j (suc k) s g e = go (decLt (getD (s .taken) 0 0) (getD J 0 0)) (de
     less : s .left - 1 ≡ k
     less = omega arith
 
-    go : Dec (getD (s .taken) 0 0 < getD J 0 0) → Dec (getD (s .taken) 1 0 < getD J 1 0) → ((d : ℕ) → d < 3 → StripLeft J s d → (e : State) × Completes J k (stepOf J s d) e × Consistent J e) → (e : State) × Completes J (suc k) s e × Consistent J e
+    go : Dec (getD (s .taken) 0 0 < getD J 0 0) → Dec (getD (s .taken) 1 0 < getD J 1 0)
+        → ((d : ℕ) → d < 3 → StripLeft J s d → (e : State) × Completes J k (stepOf J s d) e × Consistent J e)
+        → (e : State) × Completes J (suc k) s e × Consistent J e
     go (yes m) q rest = let r = rest 0 (omega arith) m in (r .0, (0, omega arith, m, r .1), r .2)
     go (no n) (yes m) rest = let r = rest 1 (omega arith) m in (r .0, (1, omega arith, m, r .1), r .2)
     go (no n) (no o) rest = let r = rest 2 (omega arith) third in (r .0, (2, omega arith, third, r .1), r .2)
@@ -140,13 +144,15 @@ unfolding jobsOf sumOver
 jobs-none js desk = refl
 
 -- the strips taken of a desk are its jobs so far, in a list of jobs with the same desks
-pub taken-is : (J : List ℕ) (s : State) (f : ℕ → ℕ) (js : List Job) (n : ℕ) → length (s .free) ≡ 3 → length (s .taken) ≡ 3 → ((d : ℕ) → getD (s .taken) d 0 ≡ 0) → ((i : ℕ) → i < n → (jobAt js i .desk ≡ f i + 1) × (f i < 3))
+pub taken-is : (J : List ℕ) (s : State) (f : ℕ → ℕ) (js : List Job) (n : ℕ) → length (s .free) ≡ 3 → length (s .taken) ≡ 3
+    → ((d : ℕ) → getD (s .taken) d 0 ≡ 0) → ((i : ℕ) → i < n → (jobAt js i .desk ≡ f i + 1) × (f i < 3))
     → (i : ℕ) → i ≤ n → (d : ℕ) → d < 3 → getD (reached J s f i .taken) d 0 ≡ jobsOf js (d + 1) i
 unfolding reached
 taken-is J s f js n a b z h zero l d p = z d ∙ sym (jobs-none js (d + 1))
 taken-is J s f js n a b z h (suc i) l d p = go (h i (omega arith)) (taken-is J s f js n a b z h i (omega arith) d p) (ℕ-discrete d (f i))
   where
-    go : (jobAt js i .desk ≡ f i + 1) × (f i < 3) → getD (reached J s f i .taken) d 0 ≡ jobsOf js (d + 1) i → Dec (d ≡ f i) → getD (stepOf J (reached J s f i) (f i) .taken) d 0 ≡ jobsOf js (d + 1) (suc i)
+    go : (jobAt js i .desk ≡ f i + 1) × (f i < 3) → getD (reached J s f i .taken) d 0 ≡ jobsOf js (d + 1) i → Dec (d ≡ f i)
+        → getD (stepOf J (reached J s f i) (f i) .taken) d 0 ≡ jobsOf js (d + 1) (suc i)
     go w before (yes e) =
         omega (arith, subst (λ (y : ℕ). getD (stepOf J (reached J s f i) (f i) .taken) y 0 ≡ getD (reached J s f i .taken) y 0 + 1) (sym e) (taken-same J (reached J s f i) (f i) (omega (arith, reached-lengths J s f a b i))), jobs-same js (d + 1) i (omega (arith, w .0)))
     go w before (no e) = omega (arith, taken-other J (reached J s f i) (f i) d e, jobs-other js (d + 1) i (λ q. e (omega (arith, w .0))))

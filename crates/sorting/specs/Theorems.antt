@@ -29,7 +29,8 @@ pub sorting-least : (s : SortingSection) → SortingSound s → (js : List Job) 
 sorting-least s sound js law = lawful-least s sound js law
 
 -- Each scan and each desk job starts as early as the scanner list allows: no sooner in any timetable with the same desk at each place.
-pub sorting-earliest : (s : SortingSection) → SortingSound s → (js : List Job) → SortingLawful s js → ((i : ℕ) → i < length js → jobAt js i .desk ≡ jobAt (chosenJobs s) i .desk)
+pub sorting-earliest : (s : SortingSection) → SortingSound s → (js : List Job) → SortingLawful s js
+    → ((i : ℕ) → i < length js → jobAt js i .desk ≡ jobAt (chosenJobs s) i .desk)
     → (i : ℕ) → i < length js → (jobAt (chosenJobs s) i .scan ≤ jobAt js i .scan) × (jobAt (chosenJobs s) i .start ≤ jobAt js i .start)
 sorting-earliest s sound js law same i l = lawful-later s sound js law same i l
 
@@ -38,7 +39,8 @@ pub sorting-first : (s : SortingSection) → SortingSound s → (js : List Job) 
     → (i : ℕ) → i < length js → ((k : ℕ) → k < i → jobAt js k .desk ≡ jobAt (chosenJobs s) k .desk) → (jobAt js i .desk ≡ jobAt (chosenJobs s) i .desk → ⊥) → jobAt (chosenJobs s) i .desk < jobAt js i .desk
 sorting-first s sound js law least i l same parts = below (lawful-first s sound js law least i l same) parts
   where
-    below : jobAt (chosenJobs s) i .desk ≤ jobAt js i .desk → (jobAt js i .desk ≡ jobAt (chosenJobs s) i .desk → ⊥) → jobAt (chosenJobs s) i .desk < jobAt js i .desk
+    below : jobAt (chosenJobs s) i .desk ≤ jobAt js i .desk → (jobAt js i .desk ≡ jobAt (chosenJobs s) i .desk → ⊥)
+        → jobAt (chosenJobs s) i .desk < jobAt js i .desk
     below l n = omega arith
 
 -- Every timetable has as many jobs, one for each strip, at most 18.

@@ -14,7 +14,7 @@ use Rattle.interleaving.specs.declared.Incumbent.{Incumbent}
 use Rattle.interleaving.specs.Instance.{Instance}
 use Rattle.interleaving.specs.Search.{scanned, stepOf, startState, firstBest}
 use Rattle.interleaving.specs.SearchLaws.{step-left}
-use Rattle.interleaving.specs.Caps.{CanServe, StepCapped, can-serve-capped}
+use Rattle.interleaving.specs.Caps.{StepPre, StepCapped, step-pre-capped}
 use Rattle.interleaving.specs.Consistent.{Consistent, consistent-start}
 use Rattle.sorting.specs.declared.SortingPlan.{SortingPlan}
 use Rattle.sorting.specs.Plan.{reached, jobOf, listedDesk, jobsOfList, planJob, jobsOfPlan}
@@ -53,12 +53,12 @@ writtenTo J (suc i) = withJob J (chosenState J i) (chosenDesk J i) (writtenTo J 
 abbrev pub writtenPlan : List ℕ → SortingPlan
 writtenPlan J = writtenTo J (startState J .left)
 
-pub record Appending (J : List ℕ) (s : State) (d : ℕ) (p : SortingPlan) : Type 0 where
-  pub serves : CanServe J s d
+pub record WithJobPre (J : List ℕ) (s : State) (d : ℕ) (p : SortingPlan) : Type 0 where
+  pub serves : StepPre J s d
   pub room : p .jobs < 18
   pub capped : StepCapped J s d
 
-pub with-job-is : {J : List ℕ} {s : State} {d : ℕ} {p : SortingPlan} {m : ℕ} → Appending J s d p → m ≡ max (getD (s .free) d 0) (scanned J s d) → record {
+pub with-job-is : {J : List ℕ} {s : State} {d : ℕ} {p : SortingPlan} {m : ℕ} → WithJobPre J s d p → m ≡ max (getD (s .free) d 0) (scanned J s d) → record {
   figure = p .figure;
   jobs = p .jobs + 1;
   desk = set (p .desk) (p .jobs) (d + 1);
@@ -70,7 +70,7 @@ unfolding withJob
 with-job-is h e = rw e
 
 -- what the plan's writer asks and gives
-pub record Listed (J : List ℕ) (b : Incumbent) : Type 0 where
+pub record PlanOfPre (J : List ℕ) (b : Incumbent) : Type 0 where
   pub jobs : Instance J
   pub best : b ≡ firstBest J
 
@@ -101,7 +101,7 @@ pub record Begun (J : List ℕ) (b : Incumbent) (p : SortingPlan) (s : State) : 
   pub figure : p .figure ≡ b .figure
   pub listed : listed (p .jobs) (planJob p) ≡ listed (p .jobs) (chosenJob J)
 
-pub begun-start : {J : List ℕ} {b : Incumbent} {s : State} → Listed J b → s ≡ startState J → Begun J b (record { figure = b .figure; jobs = 0; desk = replicate 18 0; number = replicate 18 0; scan = replicate 18 0; start = replicate 18 0 }) s
+pub begun-start : {J : List ℕ} {b : Incumbent} {s : State} → PlanOfPre J b → s ≡ startState J → Begun J b (record { figure = b .figure; jobs = 0; desk = replicate 18 0; number = replicate 18 0; scan = replicate 18 0; start = replicate 18 0 }) s
 unfolding reached listed writtenTo
 begun-start h e = record {
   jobs = h .jobs;
@@ -121,7 +121,7 @@ record Next (J : List ℕ) (p : SortingPlan) (s : State) (digit : ℕ) : Type 0 
   pub desk : digit - 1 ≡ chosenDesk J (p .jobs)
   pub more : p .jobs < startState J .left
   pub room : p .jobs < 18
-  pub serves : CanServe J s (digit - 1)
+  pub serves : StepPre J s (digit - 1)
 
 module _ {J : List ℕ} {b : Incumbent} {p : SortingPlan} {s : State} where
   left-is : Begun J b p s → s .left + p .jobs ≡ startState J .left
@@ -232,16 +232,17 @@ module _ {J : List ℕ} {b : Incumbent} {p : SortingPlan} {s : State} {digit : �
   pub loop-digit : Begun J b p s → 0 < s .left → digit ≡ b .path / 4 ^ (s .left - 1) % 4 → 1 ≤ digit
   loop-digit h l e = next h l e .least
 
-  pub loop-appending : Begun J b p s → 0 < s .left → digit ≡ b .path / 4 ^ (s .left - 1) % 4 → Appending J s (digit - 1) p
-  loop-appending h l e = let w = next h l e in record { serves = w .serves; room = w .room; capped = can-serve-capped (w .serves) }
+  pub loop-with-job-pre : Begun J b p s → 0 < s .left → digit ≡ b .path / 4 ^ (s .left - 1) % 4 → WithJobPre J s (digit - 1) p
+  loop-with-job-pre h l e = let w = next h l e in record { serves = w .serves; room = w .room; capped = step-pre-capped (w .serves) }
 
-  pub loop-serves : Begun J b p s → 0 < s .left → digit ≡ b .path / 4 ^ (s .left - 1) % 4 → CanServe J s (digit - 1)
+  pub loop-serves : Begun J b p s → 0 < s .left → digit ≡ b .path / 4 ^ (s .left - 1) % 4 → StepPre J s (digit - 1)
   loop-serves h l e = next h l e .serves
 
   pub loop-falls : {t : State} → Begun J b p s → 0 < s .left → digit ≡ b .path / 4 ^ (s .left - 1) % 4 → t ≡ stepOf J s (digit - 1) → t .left < s .left
   loop-falls {t} h l e f = omega (arith, ap (λ (x : State). x .left) f, step-left J s (digit - 1))
 
-  pub loop-more : {q : SortingPlan} {t : State} → Begun J b p s → 0 < s .left → digit ≡ b .path / 4 ^ (s .left - 1) % 4 → q ≡ withJob J s (digit - 1) p → t ≡ stepOf J s (digit - 1) → Begun J b q t
+  pub loop-more : {q : SortingPlan} {t : State} → Begun J b p s → 0 < s .left → digit ≡ b .path / 4 ^ (s .left - 1) % 4 → q ≡ withJob J s (digit - 1) p
+      → t ≡ stepOf J s (digit - 1) → Begun J b q t
   loop-more h l e f g = begun-more h (next h l e) f g
 
 pub begun-end : {J : List ℕ} {b : Incumbent} {p : SortingPlan} {s : State} → Begun J b p s → s .left ≤ 0 → Written J b p

@@ -1,5 +1,6 @@
-// The sorting planner: the first best interleaving of a section, as a plan.
-ghost use Rattle.sorting.specs.Contracts.{Lent, Planned};
+// The sorting planner: the first best interleaving of a section, as a plan. In the literature: the differentiation flowshop of two stages, one common
+// machine and then dedicated machines, for the least sum of completion times.
+ghost use Rattle.sorting.specs.Contracts.{PlanSortingPre, Planned};
 use sheet::SortingSection;
 
 mod instance;
@@ -18,7 +19,7 @@ pub struct SortingPlan {
 
 // The caller clears the table.
 pub fn plan_sorting(s: SortingSection, table: &mut [u64]) -> SortingPlan
-    requires { ⌜ Lent s (now table) ⌝ }
+    requires { ⌜ PlanSortingPre s (now table) ⌝ }
     ensures { λ r. ⌜ Planned s (now (table .entry)) (now (table .exit)) r ⌝ }
 {
     let jobs = instance::instance_of(s);

@@ -1,7 +1,7 @@
 // The plan of the incumbent's scanner list: each scan and each desk job as early as the list allows.
 ghost use mathlib.Core.Path.{_≡_};
 ghost use Prim.Native.Nat.{_/_, _%_, _^_};
-ghost use Rattle.sorting.specs.Writing.{Listed, Appending, Written, withJob};
+ghost use Rattle.sorting.specs.Writing.{PlanOfPre, WithJobPre, Written, withJob};
 use super::SortingPlan;
 use interleaving::Incumbent;
 use interleaving::State;
@@ -21,7 +21,7 @@ fn digit(path: u64, k: usize) -> u64
 
 // The plan with one more job: the next strip of desk d in the state s.
 fn with_job(jobs: &[u64], s: State, d: usize, p: SortingPlan) -> SortingPlan
-    requires { ⌜ Appending (now jobs) s d p ⌝ }
+    requires { ⌜ WithJobPre (now jobs) s d p ⌝ }
     ensures { λ r. ⌜ r ≡ withJob (now (jobs .entry)) s d p ⌝ }
 {
     let at = p.jobs;
@@ -47,7 +47,7 @@ fn with_job(jobs: &[u64], s: State, d: usize, p: SortingPlan) -> SortingPlan
 }
 
 pub fn plan_of(jobs: &[u64], best: Incumbent) -> SortingPlan
-    requires { ⌜ Listed (now jobs) best ⌝ }
+    requires { ⌜ PlanOfPre (now jobs) best ⌝ }
     ensures { λ r. ⌜ Written (now (jobs .entry)) best r ⌝ }
 {
     let none = [0u64; 18];

@@ -51,7 +51,8 @@ alone-mono J d (suc k) i t u f g p q =
     more : max f (t + scanOf J d i) ≤ max g (u + scanOf J d i) → finishAlone J d i t f ≤ finishAlone J d i u g
     more w = omega arith
 
-pub alone-one : (J : List ℕ) (d n i t f : ℕ) → i < n → aloneSum J d (n - i) i t f ≡ weightOf J d i * finishAlone J d i t f + aloneSum J d (n - (i + 1)) (i + 1) (t + scanOf J d i) (finishAlone J d i t f)
+pub alone-one : (J : List ℕ) (d n i t f : ℕ) → i < n
+    → aloneSum J d (n - i) i t f ≡ weightOf J d i * finishAlone J d i t f + aloneSum J d (n - (i + 1)) (i + 1) (t + scanOf J d i) (finishAlone J d i t f)
 unfolding aloneSum
 alone-one J d n i t f l = ap (λ (k : ℕ). aloneSum J d k i t f) e
   where

@@ -3,10 +3,10 @@
 use mathlib.Core.Path.{_≡_, refl, sym, _∙_}
 use mathlib.Core.Bool.{cond}
 use mathlib.Core.List.{List}
-use Prim.Native.Nat.{ℕ, zero, suc, _+_, _-_, _*_, _/_, _%_, _≤_, _<_}
+use Prim.Native.Nat.{ℕ, zero, suc, _+_, _-_, _*_, _/_, _%_, _≤_, _<_, min}
 use native.Mathlib.Nat.{mul-le-mul-left}
 use native.Mathlib.Omega.{arith}
-use lib.Dec.{ltb, leb}
+use lib.Dec.{leb}
 use lib.ListN.{getD, set}
 use lib.Seq.{getD-set-same, getD-set-other}
 use Rattle.interleaving.specs.declared.State.{State}
@@ -41,19 +41,15 @@ share J t d i = weightOf J d i * (t + scanOf J d i + deskOf J d i)
 abbrev pub entryAt : List ℕ → ℕ → ℕ
 entryAt M k = getD M (labelsLength + k) 0
 
--- the lesser of two
-unfoldable pub lesserOf : ℕ → ℕ → ℕ
-lesserOf a b = cond (ltb a b) a b
-
 -- the rest that starts with strip i of desk d, and goes on with the rest behind it; the cap where there is no such strip
 unfoldable pub throughOf : List ℕ → ℕ → ℕ → ℕ → ℕ → ℕ
-throughOf J t d i rest = cond (leb (getD J d 0) i) entryCap (lesserOf (share J t d i + rest) entryCap)
+throughOf J t d i rest = cond (leb (getD J d 0) i) entryCap (min (share J t d i + rest) entryCap)
 
 -- the least rest at the count vector k, from the entries behind it
 unfoldable pub entryOf : List ℕ → List ℕ → ℕ → ℕ
 entryOf J M k =
     cond (leb (getD J 0 0 + getD J 1 0 + getD J 2 0) (firstCount k + secondCount k + thirdCount k)) 0
-    (lesserOf (lesserOf (throughOf J (timeAt J k) 0 (firstCount k) (entryAt M (k + 49))) (throughOf J (timeAt J k) 1 (secondCount k) (entryAt M (k + 7)))) (throughOf J (timeAt J k) 2 (thirdCount k) (entryAt M (k + 1))))
+    (min (min (throughOf J (timeAt J k) 0 (firstCount k) (entryAt M (k + 49))) (throughOf J (timeAt J k) 1 (secondCount k) (entryAt M (k + 7)))) (throughOf J (timeAt J k) 2 (thirdCount k) (entryAt M (k + 1))))
 
 -- the table with its last n entries written, from the last count vector, 342, down
 unfoldable pub filledFrom : List ℕ → List ℕ → ℕ → List ℕ
@@ -102,7 +98,8 @@ module _ (J M : List ℕ) (j : Instance J) (t : EntriesFrom J M 0) where
     unfolding share
     share-least d = mul-le-mul-left (weightOf J d (getD (s .taken) d 0)) (omega (arith, max-right (getD (s .free) d 0) (scanned J s d)))
 
-    step-key : (d v : ℕ) → countKey (stepOf J s d) ≡ v → scannerBound M (stepOf J s d) ≡ s .cost + weightOf J d (getD (s .taken) d 0) * finish J s d + entryAt M v
+    step-key : (d v : ℕ) → countKey (stepOf J s d) ≡ v
+        → scannerBound M (stepOf J s d) ≡ s .cost + weightOf J d (getD (s .taken) d 0) * finish J s d + entryAt M v
     unfolding stepOf
     step-key d v e = rw e refl
 

@@ -2,22 +2,22 @@
 use mathlib.Core.Path.{_≡_, refl, sym, ap, subst, _∙_}
 use mathlib.Core.Bool.{cond}
 use mathlib.Core.List.{List}
-use Prim.Native.Nat.{ℕ, zero, suc, _+_, _-_, _*_, _≤_, _<_}
+use Prim.Native.Nat.{ℕ, zero, suc, _+_, _-_, _*_, _≤_, _<_, min}
 use native.Mathlib.Nat.{le-refl, le-trans, mul-le-mul-right}
 use native.Mathlib.Numerals.{add-one}
 use native.Mathlib.Decide.{decLt, ℕ-discrete}
 use native.Mathlib.Omega.{arith}
-use lib.Dec.{ltb, leb}
+use lib.Dec.{leb}
 use lib.ListN.{length, getD, set, length-set}
 use lib.Seq.{getD-set-same, getD-set-other}
-use borrow.Author.Tests.{lt-ltb, le-ltb, le-leb, lt-leb}
+use borrow.Author.Tests.{le-leb, lt-leb}
 use Rattle.sheet.specs.Limits.{tableLength}
 use Rattle.interleaving.specs.declared.State.{State}
 use Rattle.interleaving.specs.Instance.{Instance, desk-capped, scanOf, deskOf, weightOf, timeCap, scannerCap}
 use Rattle.interleaving.specs.Consistent.{Consistent, scanSum}
 use Rattle.sorting_bounds.specs.Layout.{countKey, labelsLength, searchLength}
 use Rattle.sorting_bounds.specs.DeskBound.{boundCap}
-use Rattle.sorting_bounds.specs.ScannerBound.{entryCap, firstCount, secondCount, thirdCount, timeAt, share, entryAt, lesserOf, throughOf, entryOf, filledFrom, Entry, EntriesFrom, scannerBound}
+use Rattle.sorting_bounds.specs.ScannerBound.{entryCap, firstCount, secondCount, thirdCount, timeAt, share, entryAt, throughOf, entryOf, filledFrom, Entry, EntriesFrom, scannerBound}
 
 -- scan_sum
 pub record ScanSum (J : List ℕ) (d n r : ℕ) : Type 0 where
@@ -55,7 +55,7 @@ sum-end {J} {d} {n} {sum} {i} s l = record { is = s .is ∙ ap (scanSum J d) (sa
     same s l = omega (arith, s .within)
 
 -- through: strip i of desk d, scanned from a time on, with the rest behind it
-pub record Strip (J : List ℕ) (t d i rest : ℕ) : Type 0 where
+pub record ThroughPre (J : List ℕ) (t d i rest : ℕ) : Type 0 where
   pub jobs : Instance J
   pub desk : d < 3
   pub most : i ≤ 6
@@ -74,7 +74,7 @@ pub record StripSums (J : List ℕ) (time d i next : ℕ) : Type 0 where
   pub desk : deskOf J d i ≤ timeCap
   pub weighted : weightOf J d i * (time + scanOf J d i + deskOf J d i) ≤ 1024 * (scannerCap + 2 * timeCap)
 
-pub strip-sums : {J : List ℕ} {time d i next : ℕ} → Strip J time d i next → StripSums J time d i next
+pub strip-sums : {J : List ℕ} {time d i next : ℕ} → ThroughPre J time d i next → StripSums J time d i next
 strip-sums {J} {time} {d} {i} h = record {
   size = h .jobs .size;
   place = omega (arith, h .desk, h .most);
@@ -89,19 +89,15 @@ strip-sums {J} {time} {d} {i} h = record {
     small-desk : deskOf J d i ≤ timeCap
     small-desk = desk-capped (h .jobs) d i
 
-lesser-least : (a b : ℕ) → (lesserOf a b ≤ a) × (lesserOf a b ≤ b)
-unfolding lesserOf
-lesser-least a b = go (decLt a b)
-  where
-    go : Dec (a < b) → (cond (ltb a b) a b ≤ a) × (cond (ltb a b) a b ≤ b)
-    go (yes l) = rw (lt-ltb a b l) (omega arith, omega arith)
-    go (no l) = rw (le-ltb a b (omega arith)) (omega arith, omega arith)
+lesser-least : (a b : ℕ) → (min a b ≤ a) × (min a b ≤ b)
+lesser-least a b = (omega arith, omega arith)
 
-pub through-none : {J : List ℕ} {t d i rest : ℕ} → Strip J t d i rest → getD J d 0 ≤ i → entryCap ≡ throughOf J t d i rest
+pub through-none : {J : List ℕ} {t d i rest : ℕ} → ThroughPre J t d i rest → getD J d 0 ≤ i → entryCap ≡ throughOf J t d i rest
 unfolding throughOf
 through-none {J} {t} {d} {i} h l = rw (le-leb (getD J d 0) i l)
 
-pub through-some : {J : List ℕ} {t d i rest r : ℕ} → Strip J t d i rest → i < getD J d 0 → r ≡ lesserOf (weightOf J d i * (t + scanOf J d i + deskOf J d i) + rest) entryCap → r ≡ throughOf J t d i rest
+pub through-some : {J : List ℕ} {t d i rest r : ℕ} → ThroughPre J t d i rest → i < getD J d 0
+    → r ≡ min (weightOf J d i * (t + scanOf J d i + deskOf J d i) + rest) entryCap → r ≡ throughOf J t d i rest
 unfolding throughOf share
 through-some {J} {t} {d} {i} h l e = rw (lt-leb (getD J d 0) i l) e
 
@@ -109,12 +105,12 @@ through-of : (J : List ℕ) (t d i rest : ℕ) → Through J t d i rest (through
 unfolding throughOf
 through-of J t d i rest = go (decLt i (getD J d 0))
   where
-    go : Dec (i < getD J d 0) → Through J t d i rest (cond (leb (getD J d 0) i) entryCap (lesserOf (share J t d i + rest) entryCap))
+    go : Dec (i < getD J d 0) → Through J t d i rest (cond (leb (getD J d 0) i) entryCap (min (share J t d i + rest) entryCap))
     go (yes l) = rw (lt-leb (getD J d 0) i l) (record { capped = lesser-least (share J t d i + rest) entryCap .1; least = λ m. lesser-least (share J t d i + rest) entryCap .0 })
     go (no l) = rw (le-leb (getD J d 0) i (omega arith)) (record { capped = le-refl _; least = λ m. absurd (l m) })
 
 -- scanner_entry
-pub record Entering (J M : List ℕ) (k : ℕ) : Type 0 where
+pub record ScannerEntryPre (J M : List ℕ) (k : ℕ) : Type 0 where
   pub jobs : Instance J
   pub key : k < 343
   pub size : length M ≡ tableLength
@@ -123,7 +119,8 @@ pub record Entering (J M : List ℕ) (k : ℕ) : Type 0 where
   pub second-few : getD J 1 0 ≤ 6
   pub third-few : getD J 2 0 ≤ 6
 
-pub enter-first : {J M : List ℕ} {k a b c : ℕ} → Entering J M k → ScanSum J 0 (firstCount k) a → ScanSum J 1 (secondCount k) b → ScanSum J 2 (thirdCount k) c → Strip J (a + b + c) 0 (firstCount k) (entryAt M (k + 49))
+pub enter-first : {J M : List ℕ} {k a b c : ℕ} → ScannerEntryPre J M k → ScanSum J 0 (firstCount k) a → ScanSum J 1 (secondCount k) b
+    → ScanSum J 2 (thirdCount k) c → ThroughPre J (a + b + c) 0 (firstCount k) (entryAt M (k + 49))
 unfolding EntriesFrom
 enter-first {J} {M} {k} e p q s = record {
   jobs = e .jobs;
@@ -133,7 +130,8 @@ enter-first {J} {M} {k} e p q s = record {
   next = λ l. e .behind (k + 49) (omega arith) (omega (arith, e .key, e .first-few, e .second-few, e .third-few)) .capped;
 }
 
-pub enter-second : {J M : List ℕ} {k a b c : ℕ} → Entering J M k → ScanSum J 0 (firstCount k) a → ScanSum J 1 (secondCount k) b → ScanSum J 2 (thirdCount k) c → Strip J (a + b + c) 1 (secondCount k) (entryAt M (k + 7))
+pub enter-second : {J M : List ℕ} {k a b c : ℕ} → ScannerEntryPre J M k → ScanSum J 0 (firstCount k) a → ScanSum J 1 (secondCount k) b
+    → ScanSum J 2 (thirdCount k) c → ThroughPre J (a + b + c) 1 (secondCount k) (entryAt M (k + 7))
 unfolding EntriesFrom
 enter-second {J} {M} {k} e p q s = record {
   jobs = e .jobs;
@@ -143,7 +141,8 @@ enter-second {J} {M} {k} e p q s = record {
   next = λ l. e .behind (k + 7) (omega arith) (omega (arith, e .key, e .first-few, e .second-few, e .third-few)) .capped;
 }
 
-pub enter-third : {J M : List ℕ} {k a b c : ℕ} → Entering J M k → ScanSum J 0 (firstCount k) a → ScanSum J 1 (secondCount k) b → ScanSum J 2 (thirdCount k) c → Strip J (a + b + c) 2 (thirdCount k) (entryAt M (k + 1))
+pub enter-third : {J M : List ℕ} {k a b c : ℕ} → ScannerEntryPre J M k → ScanSum J 0 (firstCount k) a → ScanSum J 1 (secondCount k) b
+    → ScanSum J 2 (thirdCount k) c → ThroughPre J (a + b + c) 2 (thirdCount k) (entryAt M (k + 1))
 unfolding EntriesFrom
 enter-third {J} {M} {k} e p q s = record {
   jobs = e .jobs;
@@ -153,15 +152,19 @@ enter-third {J} {M} {k} e p q s = record {
   next = λ l. e .behind (k + 1) (omega arith) (omega (arith, e .key, e .first-few, e .second-few, e .third-few)) .capped;
 }
 
-time-at : {J : List ℕ} (k : ℕ) {a b c : ℕ} → ScanSum J 0 (firstCount k) a → ScanSum J 1 (secondCount k) b → ScanSum J 2 (thirdCount k) c → a + b + c ≡ timeAt J k
+time-at : {J : List ℕ} (k : ℕ) {a b c : ℕ} → ScanSum J 0 (firstCount k) a → ScanSum J 1 (secondCount k) b → ScanSum J 2 (thirdCount k) c
+    → a + b + c ≡ timeAt J k
 unfolding timeAt
 time-at k p q s = rw (p .is, q .is, s .is)
 
-pub entry-none : {J M : List ℕ} {k : ℕ} → Entering J M k → getD J 0 0 + getD J 1 0 + getD J 2 0 ≤ firstCount k + secondCount k + thirdCount k → 0 ≡ entryOf J M k
+pub entry-none : {J M : List ℕ} {k : ℕ} → ScannerEntryPre J M k → getD J 0 0 + getD J 1 0 + getD J 2 0 ≤ firstCount k + secondCount k + thirdCount k
+    → 0 ≡ entryOf J M k
 unfolding entryOf
 entry-none {J} {M} {k} e l = rw (le-leb (getD J 0 0 + getD J 1 0 + getD J 2 0) (firstCount k + secondCount k + thirdCount k) l)
 
-pub entry-some : {J M : List ℕ} {k t a b c x y z u r : ℕ} → Entering J M k → r ≡ lesserOf u z → u ≡ lesserOf x y → x ≡ throughOf J t 0 (firstCount k) (entryAt M (k + 49)) → y ≡ throughOf J t 1 (secondCount k) (entryAt M (k + 7)) → z ≡ throughOf J t 2 (thirdCount k) (entryAt M (k + 1))
+pub entry-some : {J M : List ℕ} {k t a b c x y z u r : ℕ} → ScannerEntryPre J M k → r ≡ min u z → u ≡ min x y
+    → x ≡ throughOf J t 0 (firstCount k) (entryAt M (k + 49)) → y ≡ throughOf J t 1 (secondCount k) (entryAt M (k + 7))
+    → z ≡ throughOf J t 2 (thirdCount k) (entryAt M (k + 1))
     → ScanSum J 0 (firstCount k) a → ScanSum J 1 (secondCount k) b → ScanSum J 2 (thirdCount k) c → t ≡ a + b + c
     → firstCount k + secondCount k + thirdCount k < getD J 0 0 + getD J 1 0 + getD J 2 0 → r ≡ entryOf J M k
 unfolding entryOf
@@ -181,10 +184,11 @@ entry-of J M k = go (decLt (firstCount k + secondCount k + thirdCount k) (getD J
     z : ℕ
     z = throughOf J (timeAt J k) 2 (thirdCount k) (entryAt M (k + 1))
 
-    least : (lesserOf (lesserOf x y) z ≤ x) × (lesserOf (lesserOf x y) z ≤ y) × (lesserOf (lesserOf x y) z ≤ z)
-    least = (le-trans (lesser-least (lesserOf x y) z .0) (lesser-least x y .0), le-trans (lesser-least (lesserOf x y) z .0) (lesser-least x y .1), lesser-least (lesserOf x y) z .1)
+    least : (min (min x y) z ≤ x) × (min (min x y) z ≤ y) × (min (min x y) z ≤ z)
+    least = (le-trans (lesser-least (min x y) z .0) (lesser-least x y .0), le-trans (lesser-least (min x y) z .0) (lesser-least x y .1), lesser-least (min x y) z .1)
 
-    go : Dec (firstCount k + secondCount k + thirdCount k < getD J 0 0 + getD J 1 0 + getD J 2 0) → Entry J M k (cond (leb (getD J 0 0 + getD J 1 0 + getD J 2 0) (firstCount k + secondCount k + thirdCount k)) 0 (lesserOf (lesserOf x y) z))
+    go : Dec (firstCount k + secondCount k + thirdCount k < getD J 0 0 + getD J 1 0 + getD J 2 0)
+        → Entry J M k (cond (leb (getD J 0 0 + getD J 1 0 + getD J 2 0) (firstCount k + secondCount k + thirdCount k)) 0 (min (min x y) z))
     go (yes l) = rw (lt-leb (getD J 0 0 + getD J 1 0 + getD J 2 0) (firstCount k + secondCount k + thirdCount k) l) (record {
       capped = le-trans (least .0) (through-of J (timeAt J k) 0 (firstCount k) (entryAt M (k + 49)) .capped);
       first = λ m. le-trans (least .0) (through-of J (timeAt J k) 0 (firstCount k) (entryAt M (k + 49)) .least m);
@@ -259,7 +263,7 @@ pub filling-start : {J M : List ℕ} → Instance J × (length M ≡ tableLength
 unfolding filledFrom
 filling-start h = record { start = h .1; size = h .1; within = le-refl _; is = refl }
 
-pub filling-enter : {J M₀ M : List ℕ} {k : ℕ} → Instance J × (length M₀ ≡ tableLength) → Filling J M₀ M k → 0 < k → Entering J M (k - 1)
+pub filling-enter : {J M₀ M : List ℕ} {k : ℕ} → Instance J × (length M₀ ≡ tableLength) → Filling J M₀ M k → 0 < k → ScannerEntryPre J M (k - 1)
 filling-enter {J} {M₀} {M} {k} j f l = record {
   jobs = j .0;
   key = omega (arith, f .within);
@@ -295,16 +299,17 @@ filling-end {J} {M₀} {M} {k} f l = f .is ∙ ap (filledFrom J M₀) (all l)
     all l = omega arith
 
 -- scanner_bound
-pub record Bounding (J : List ℕ) (s : State) (k : ℕ) (M : List ℕ) : Type 0 where
+pub record ScannerBoundPre (J : List ℕ) (s : State) (k : ℕ) (M : List ℕ) : Type 0 where
   pub state : Consistent J s
   pub key : k ≡ countKey s
   pub small : k < 343
   pub size : length M ≡ tableLength
   pub entries : EntriesFrom J M 0
 
-pub bounding-small : {J : List ℕ} {s : State} {k : ℕ} {M : List ℕ} → Bounding J s k M → s .cost + entryAt M k ≤ boundCap
+pub scanner-bound-small : {J : List ℕ} {s : State} {k : ℕ} {M : List ℕ} → ScannerBoundPre J s k M → s .cost + entryAt M k ≤ boundCap
 unfolding EntriesFrom
-bounding-small {J} {s} {k} {M} h = omega (arith, h .state .fits .cost, h .entries k (omega arith) (h .small) .capped)
+scanner-bound-small {J} {s} {k} {M} h = omega (arith, h .state .fits .cost, h .entries k (omega arith) (h .small) .capped)
 
-pub bounding-is : {J : List ℕ} {s : State} {k : ℕ} {M : List ℕ} → Bounding J s k M → (s .cost + entryAt M k ≡ scannerBound M s) × (s .cost + entryAt M k ≤ boundCap)
-bounding-is {J} {s} {k} {M} h = (ap (λ (x : ℕ). s .cost + entryAt M x) (h .key), bounding-small h)
+pub scanner-bound-is : {J : List ℕ} {s : State} {k : ℕ} {M : List ℕ} → ScannerBoundPre J s k M
+    → (s .cost + entryAt M k ≡ scannerBound M s) × (s .cost + entryAt M k ≤ boundCap)
+scanner-bound-is {J} {s} {k} {M} h = (ap (λ (x : ℕ). s .cost + entryAt M x) (h .key), scanner-bound-small h)

@@ -1,10 +1,10 @@
 // The lower bound with every desk always free: a table over count vectors, behind the labels.
 ghost use mathlib.Core.Path.{_≡_};
-ghost use Prim.Native.Nat.{_+_, _≤_, _<_};
+ghost use Prim.Native.Nat.{_+_, _≤_, _<_, min};
 ghost use lib.ListN.{length};
 ghost use Rattle.interleaving.specs.Instance.{Instance};
-ghost use Rattle.sorting_bounds.specs.ScannerBound.{lesserOf, throughOf, entryOf, filledFrom, scannerBound};
-ghost use Rattle.sorting_bounds.specs.ScannerTable.{ScanSum, Strip, Entering, Bounding};
+ghost use Rattle.sorting_bounds.specs.ScannerBound.{throughOf, entryOf, filledFrom, scannerBound};
+ghost use Rattle.sorting_bounds.specs.ScannerTable.{ScanSum, ThroughPre, ScannerEntryPre, ScannerBoundPre};
 ghost use Rattle.sorting_bounds.specs.DeskBound.{boundCap};
 ghost use Rattle.sheet.specs.Limits.{tableLength};
 use super::LABELS_LENGTH;
@@ -14,8 +14,9 @@ use interleaving::State;
 // An entry is at most this.
 const ENTRY_CAP: u64 = 1_099_511_627_776;
 
+// The lesser of two numbers.
 fn lesser(a: u64, b: u64) -> u64
-    ensures { λ r. ⌜ r ≡ lesserOf a b ⌝ }
+    ensures { λ r. ⌜ r ≡ min a b ⌝ }
 {
     if a < b { a } else { b }
 }
@@ -36,7 +37,7 @@ fn scan_sum(jobs: &[u64], d: usize, n: usize) -> u64
 
 // The rest that starts with strip i of desk d, scanned from the time on and done at once, with the rest behind it; the cap where there is no such strip.
 fn through(jobs: &[u64], time: u64, d: usize, i: usize, next: u64) -> u64
-    requires { ⌜ Strip (now jobs) time d i next ⌝ }
+    requires { ⌜ ThroughPre (now jobs) time d i next ⌝ }
     ensures { λ r. ⌜ r ≡ throughOf (now (jobs .entry)) time d i next ⌝ }
 {
     if jobs[d] <= i as u64 {
@@ -49,7 +50,7 @@ fn through(jobs: &[u64], time: u64, d: usize, i: usize, next: u64) -> u64
 
 // The least rest at the count vector k.
 fn scanner_entry(jobs: &[u64], k: usize, m: &[u64]) -> u64
-    requires { ⌜ Entering (now jobs) (now m) k ⌝ }
+    requires { ⌜ ScannerEntryPre (now jobs) (now m) k ⌝ }
     ensures { λ r. ⌜ r ≡ entryOf (now (jobs .entry)) (now (m .entry)) k ⌝ }
 {
     let a = k / 49;
@@ -79,7 +80,7 @@ pub fn fill_scanner_table(jobs: &[u64], m: &mut [u64])
 }
 
 pub fn scanner_bound(jobs: &[u64], s: State, k: usize, m: &[u64]) -> u64
-    requires { ⌜ Bounding (now jobs) s k (now m) ⌝ }
+    requires { ⌜ ScannerBoundPre (now jobs) s k (now m) ⌝ }
     ensures { λ r. ⌜ (r ≡ scannerBound (now (m .entry)) s) × (r ≤ boundCap) ⌝ }
 {
     s.cost + m[LABELS_LENGTH + k]

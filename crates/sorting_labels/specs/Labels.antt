@@ -76,12 +76,14 @@ module _ (M : List ℕ) (a : ℕ) (s : State) where
   unfolding labelDominates
   over-second p q r = rw (le-leb (getD M a 0) (s .cost) p, le-leb (getD M (a + 1) 0) (getD (s .free) 0 0) q, lt-leb (getD M (a + 2) 0) (getD (s .free) 1 0) r)
 
-  pub over-third : getD M a 0 ≤ s .cost → getD M (a + 1) 0 ≤ getD (s .free) 0 0 → getD M (a + 2) 0 ≤ getD (s .free) 1 0 → getD (s .free) 2 0 < getD M (a + 3) 0 → false ≡ labelDominates M a s
+  pub over-third : getD M a 0 ≤ s .cost → getD M (a + 1) 0 ≤ getD (s .free) 0 0 → getD M (a + 2) 0 ≤ getD (s .free) 1 0 → getD (s .free) 2 0 < getD M (a + 3) 0
+      → false ≡ labelDominates M a s
   unfolding labelDominates
   over-third p q r t =
       rw (le-leb (getD M a 0) (s .cost) p, le-leb (getD M (a + 1) 0) (getD (s .free) 0 0) q, le-leb (getD M (a + 2) 0) (getD (s .free) 1 0) r, lt-leb (getD M (a + 3) 0) (getD (s .free) 2 0) t)
 
-  pub over-none : getD M a 0 ≤ s .cost → getD M (a + 1) 0 ≤ getD (s .free) 0 0 → getD M (a + 2) 0 ≤ getD (s .free) 1 0 → getD M (a + 3) 0 ≤ getD (s .free) 2 0 → true ≡ labelDominates M a s
+  pub over-none : getD M a 0 ≤ s .cost → getD M (a + 1) 0 ≤ getD (s .free) 0 0 → getD M (a + 2) 0 ≤ getD (s .free) 1 0 → getD M (a + 3) 0 ≤ getD (s .free) 2 0
+      → true ≡ labelDominates M a s
   unfolding labelDominates
   over-none p q r t =
       rw (le-leb (getD M a 0) (s .cost) p, le-leb (getD M (a + 1) 0) (getD (s .free) 0 0) q, le-leb (getD M (a + 2) 0) (getD (s .free) 1 0) r, le-leb (getD M (a + 3) 0) (getD (s .free) 2 0) t)
@@ -97,10 +99,12 @@ label-dominates : (M : List ℕ) (a : ℕ) (s : State) → labelDominates M a s 
 unfolding labelDominates
 label-dominates M a s e = go (both _ _ e)
   where
-    go : (leb (getD M a 0) (s .cost) ≡ true) × ((leb (getD M (a + 1) 0) (getD (s .free) 0 0) && (leb (getD M (a + 2) 0) (getD (s .free) 1 0) && leb (getD M (a + 3) 0) (getD (s .free) 2 0))) ≡ true) → LabelDominates M a s
+    go : (leb (getD M a 0) (s .cost) ≡ true) × ((leb (getD M (a + 1) 0) (getD (s .free) 0 0) && (leb (getD M (a + 2) 0) (getD (s .free) 1 0) && leb (getD M (a + 3) 0) (getD (s .free) 2 0))) ≡ true)
+        → LabelDominates M a s
     go p = second (both _ _ (p .1))
       where
-        second : (leb (getD M (a + 1) 0) (getD (s .free) 0 0) ≡ true) × ((leb (getD M (a + 2) 0) (getD (s .free) 1 0) && leb (getD M (a + 3) 0) (getD (s .free) 2 0)) ≡ true) → LabelDominates M a s
+        second : (leb (getD M (a + 1) 0) (getD (s .free) 0 0) ≡ true) × ((leb (getD M (a + 2) 0) (getD (s .free) 1 0) && leb (getD M (a + 3) 0) (getD (s .free) 2 0)) ≡ true)
+            → LabelDominates M a s
         second q = third (both _ _ (q .1))
           where
             third : (leb (getD M (a + 2) 0) (getD (s .free) 1 0) ≡ true) × (leb (getD M (a + 3) 0) (getD (s .free) 2 0) ≡ true) → LabelDominates M a s
@@ -121,7 +125,8 @@ pub dominated-none : (M : List ℕ) (k : ℕ) (s : State) → dominatedBy M k s 
 unfolding dominatedBy
 dominated-none M k s = refl
 
-pub dominated-not : (M : List ℕ) (k : ℕ) (s : State) (n : ℕ) {q : Bool} → dominatedBy M k s n ≡ false → q ≡ labelDominates M (labelPlace k n) s → q ≡ false → dominatedBy M k s (n + 1) ≡ false
+pub dominated-not : (M : List ℕ) (k : ℕ) (s : State) (n : ℕ) {q : Bool} → dominatedBy M k s n ≡ false → q ≡ labelDominates M (labelPlace k n) s → q ≡ false
+    → dominatedBy M k s (n + 1) ≡ false
 unfolding dominatedBy
 dominated-not M k s n e f g = rw (add-one n, e, ← f, g)
 

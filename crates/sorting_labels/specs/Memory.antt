@@ -114,7 +114,8 @@ module _ (J : List ℕ) (j : Instance J) where
       go (suc (suc zero)) p = omega (arith, key-digits J j s g, key-digits J j z h)
       go (suc (suc (suc i))) p = absurd (omega arith)
 
-  dominated : (s z : State) → Consistent J s → Consistent J z → countKey s ≡ countKey z → s .cost ≤ z .cost → getD (s .free) 0 0 ≤ getD (z .free) 0 0 → getD (s .free) 1 0 ≤ getD (z .free) 1 0 → getD (s .free) 2 0 ≤ getD (z .free) 2 0 → Dominates s z
+  dominated : (s z : State) → Consistent J s → Consistent J z → countKey s ≡ countKey z → s .cost ≤ z .cost → getD (s .free) 0 0 ≤ getD (z .free) 0 0
+      → getD (s .free) 1 0 ≤ getD (z .free) 1 0 → getD (s .free) 2 0 ≤ getD (z .free) 2 0 → Dominates s z
   dominated s z g h e c p q r = record {
     time = g .time ∙ ap (sum3 (scanSum J)) same ∙ sym (h .time);
     taken = same;
@@ -136,14 +137,16 @@ module _ (J : List ℕ) (j : Instance J) where
   key-small : (s : State) → Consistent J s → countKey s < 343
   key-small s g = omega (arith, key-digits J j s g)
 
-  labels-store : (M : List ℕ) (s : State) (slot B : ℕ) → labelsLength ≤ length M → slot < 4 → Consistent J s → LabelsHold J M B → LowerBound J (s .left) s B → LabelsHold J (storeLabel M (labelPlace (countKey s) slot) s) B
+  labels-store : (M : List ℕ) (s : State) (slot B : ℕ) → labelsLength ≤ length M → slot < 4 → Consistent J s → LabelsHold J M B → LowerBound J (s .left) s B
+      → LabelsHold J (storeLabel M (labelPlace (countKey s) slot) s) B
   unfolding LabelsHold
   labels-store M s slot B size l g h b = λ z k c. go z k c (ℕ-discrete (labelPlace (countKey z) (c .slot)) (labelPlace (countKey s) slot))
     where
       room : labelPlace (countKey s) slot + 3 < length M
       room = omega (arith, key-small s g)
 
-      go : (z : State) → Consistent J z → (c : Dominated (storeLabel M (labelPlace (countKey s) slot) s) z) → Dec (labelPlace (countKey z) (c .slot) ≡ labelPlace (countKey s) slot) → LowerBound J (z .left) z B
+      go : (z : State) → Consistent J z → (c : Dominated (storeLabel M (labelPlace (countKey s) slot) s) z)
+          → Dec (labelPlace (countKey z) (c .slot) ≡ labelPlace (countKey s) slot) → LowerBound J (z .left) z B
       go z k c (yes e) = subst (λ (n : ℕ). LowerBound J n z B) (sym left) (bound-dominates J (s .left) s z B under b)
         where
           same : countKey s ≡ countKey z
@@ -164,7 +167,8 @@ module _ (J : List ℕ) (j : Instance J) where
           apart : (x y : ℕ) → x < 4 → y < 4 → labelPlace (countKey z) (c .slot) + x ≡ labelPlace (countKey s) slot + y → ⊥
           apart x y p q e = n (omega arith)
 
-          same : (x : ℕ) → x < 4 → getD (storeLabel M (labelPlace (countKey s) slot) s) (labelPlace (countKey z) (c .slot) + x) 0 ≡ getD M (labelPlace (countKey z) (c .slot) + x) 0
+          same : (x : ℕ) → x < 4
+              → getD (storeLabel M (labelPlace (countKey s) slot) s) (labelPlace (countKey z) (c .slot) + x) 0 ≡ getD M (labelPlace (countKey z) (c .slot) + x) 0
           same x p = store-other M (labelPlace (countKey s) slot) s _ (λ e. apart x 0 p (omega arith) (omega arith)) (apart x 1 p (omega arith)) (apart x 2 p (omega arith)) (apart x 3 p (omega arith))
 
           u : LabelDominates M (labelPlace (countKey z) (c .slot)) z
@@ -180,7 +184,8 @@ labels-search J M k s b r h e = labels-down J M (b .figure) (r .figure) (rw e (s
 
 -- a label stored once its state is explored
 module _ (J M N : List ℕ) (s : State) (b r : Incumbent) (k : ℕ) where
-  pub labels-done : Instance J → length M ≡ tableLength → (k ≡ countKey s) × (k < 343) → N ≡ withLabel M k s → Consistent J s → LabelsHold J M (r .figure) → r ≡ searchFrom J (s .left) s b → LabelsHold J N (r .figure)
+  pub labels-done : Instance J → length M ≡ tableLength → (k ≡ countKey s) × (k < 343) → N ≡ withLabel M k s → Consistent J s → LabelsHold J M (r .figure)
+      → r ≡ searchFrom J (s .left) s b → LabelsHold J N (r .figure)
   unfolding withLabel
   labels-done j size key e g h w =
       subst (λ (x : List ℕ). LabelsHold J x (r .figure)) (sym (e ∙ ap (λ (x : ℕ). storeLabel M (labelPlace x (costliest M k)) s) (key .0)))

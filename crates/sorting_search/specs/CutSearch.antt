@@ -55,7 +55,8 @@ module _ (J M : List ℕ) (s : State) (b : Incumbent) where
   unfolding explored
   exact-cut l e = rw (node l, e)
 
-  pub exact-all : (N O : List ℕ) (r : Incumbent) (d k : ℕ) → 0 < s .left → isCut J M s (b .figure) ≡ false → d ≤ 3 → 3 ≤ d → outcome r N ≡ overDesks (branch J (cutSearch J (s .left - 1)) s) d (outcome b M) → k ≡ countKey s → O ≡ withLabel N k s
+  pub exact-all : (N O : List ℕ) (r : Incumbent) (d k : ℕ) → 0 < s .left → isCut J M s (b .figure) ≡ false → d ≤ 3 → 3 ≤ d
+      → outcome r N ≡ overDesks (branch J (cutSearch J (s .left - 1)) s) d (outcome b M) → k ≡ countKey s → O ≡ withLabel N k s
       → outcome r O ≡ cutSearch J (s .left) s (outcome b M)
   unfolding explored labelled
   exact-all N O r d k l e p q h f g =

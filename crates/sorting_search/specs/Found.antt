@@ -18,10 +18,10 @@ use Rattle.sorting_bounds.specs.ScannerTable.{Filled, filled}
 use Rattle.sorting_labels.specs.Labels.{noLabelsTo, cleared-length, cleared-label, cleared-rest}
 use Rattle.sorting_labels.specs.Memory.{labels-none}
 use Rattle.sorting_search.specs.CutSearch.{Outcome, outcome, cutSearch}
-use Rattle.sorting_search.specs.Table.{TableHolds, SameFrom, Searchable, Searched}
-use Rattle.sorting_search.specs.Greedy.{greedyFigure, Bounded, GreedyFigure, greedy-figure}
+use Rattle.sorting_search.specs.Table.{TableHolds, SameFrom, SearchPre, Searched}
+use Rattle.sorting_search.specs.Greedy.{greedyFigure, LowerBoundPre, GreedyFigure, greedy-figure}
 
-pub record Lent (J M : List ℕ) : Type 0 where
+pub record BestInterleavingPre (J M : List ℕ) : Type 0 where
   pub jobs : Instance J
   pub size : length M ≡ tableLength
 
@@ -53,11 +53,11 @@ pub record Found (J M N : List ℕ) (r : Incumbent) : Type 0 where
   pub table : Used J M N (r .figure)
 
 -- the table once its labels are cleared and its entries are filled
-start-filled : {J M N : List ℕ} → Lent J M → N ≡ noLabelsTo labelsLength M → Filled J N (filledFrom J N 343) 0
+start-filled : {J M N : List ℕ} → BestInterleavingPre J M → N ≡ noLabelsTo labelsLength M → Filled J N (filledFrom J N 343) 0
 start-filled {J} {M} {N} h c = filled J N (ap length c ∙ cleared-length labelsLength M (omega (arith, h .size)) ∙ h .size) 343 (omega arith)
 
 module _ {J M N O : List ℕ} where
-  table-start : {B : ℕ} → Lent J M → N ≡ noLabelsTo labelsLength M → O ≡ filledFrom J N 343 → TableHolds J O B
+  table-start : {B : ℕ} → BestInterleavingPre J M → N ≡ noLabelsTo labelsLength M → O ≡ filledFrom J N 343 → TableHolds J O B
   table-start {B} h c e = subst (λ (x : List ℕ). TableHolds J x B) (sym e) (made (start-filled h c))
     where
       made : Filled J N (filledFrom J N 343) 0 → TableHolds J (filledFrom J N 343) B
@@ -67,7 +67,8 @@ module _ {J M N O : List ℕ} where
         entries = f .entries;
       }
 
-  table-used : {P : List ℕ} {B : ℕ} → Lent J M → N ≡ noLabelsTo labelsLength M → O ≡ filledFrom J N 343 → P ≡ searchedTable J M → TableHolds J P B → SameFrom labelsLength O P → Used J M P B
+  table-used : {P : List ℕ} {B : ℕ} → BestInterleavingPre J M → N ≡ noLabelsTo labelsLength M → O ≡ filledFrom J N 343 → P ≡ searchedTable J M
+      → TableHolds J P B → SameFrom labelsLength O P → Used J M P B
   unfolding startTable SameFrom
   table-used {P} {B} h c e x t q = record {
     exact = x;
@@ -77,26 +78,28 @@ module _ {J M N O : List ℕ} where
   }
 
 module _ {J M N O : List ℕ} {s : State} where
-  pub bounded-start : Lent J M → N ≡ noLabelsTo labelsLength M → O ≡ filledFrom J N 343 → s ≡ startState J → Bounded J s O
-  bounded-start h c f e = made (table-start {B = 0} h c f)
+  pub lower-bound-pre-start : BestInterleavingPre J M → N ≡ noLabelsTo labelsLength M → O ≡ filledFrom J N 343 → s ≡ startState J → LowerBoundPre J s O
+  lower-bound-pre-start h c f e = made (table-start {B = 0} h c f)
     where
-      made : TableHolds J O 0 → Bounded J s O
+      made : TableHolds J O 0 → LowerBoundPre J s O
       made t = record { jobs = h .jobs; state = subst (Consistent J) (sym e) (consistent-start J (h .jobs)); size = t .size; entries = t .entries }
 
-  pub searchable-start : {B : ℕ} → Lent J M → N ≡ noLabelsTo labelsLength M → O ≡ filledFrom J N 343 → s ≡ startState J → Searchable J s B O
-  searchable-start h c f e = record { jobs = h .jobs; state = subst (Consistent J) (sym e) (consistent-start J (h .jobs)); table = table-start h c f }
+  pub search-pre-start : {B : ℕ} → BestInterleavingPre J M → N ≡ noLabelsTo labelsLength M → O ≡ filledFrom J N 343 → s ≡ startState J → SearchPre J s B O
+  search-pre-start h c f e = record { jobs = h .jobs; state = subst (Consistent J) (sym e) (consistent-start J (h .jobs)); table = table-start h c f }
 
   -- the search from there, by its definition
-  searched-is : {P : List ℕ} {g : ℕ} {r : Incumbent} → Lent J M → N ≡ noLabelsTo labelsLength M → O ≡ filledFrom J N 343 → s ≡ startState J → g ≡ greedyFigure J O s → Searched J s (aboveGreedy g) O P r → P ≡ searchedTable J M
+  searched-is : {P : List ℕ} {g : ℕ} {r : Incumbent} → BestInterleavingPre J M → N ≡ noLabelsTo labelsLength M → O ≡ filledFrom J N 343 → s ≡ startState J
+      → g ≡ greedyFigure J O s → Searched J s (aboveGreedy g) O P r → P ≡ searchedTable J M
   unfolding searchedTable startTable
   searched-is {P} {g} {r} h c f e w q =
       ap (λ (o : Outcome). o .table) (q .exact) ∙ ap (λ (x : State). cutSearch J (x .left) x (outcome (aboveGreedy g) O) .table) e
       ∙ ap (λ (x : ℕ). cutSearch J (startState J .left) (startState J) (outcome (aboveGreedy x) O) .table) (w ∙ ap (greedyFigure J O) e)
       ∙ ap (λ (x : List ℕ). cutSearch J (startState J .left) (startState J) (outcome (aboveGreedy (greedyFigure J x (startState J))) x) .table) (f ∙ ap (λ (x : List ℕ). filledFrom J x 343) c)
 
-  pub found : {P : List ℕ} {g : ℕ} {r : Incumbent} → Lent J M → N ≡ noLabelsTo labelsLength M → O ≡ filledFrom J N 343 → s ≡ startState J → (g ≡ greedyFigure J O s) × (g ≤ costCap) → Searched J s (aboveGreedy g) O P r → Found J M P r
+  pub found : {P : List ℕ} {g : ℕ} {r : Incumbent} → BestInterleavingPre J M → N ≡ noLabelsTo labelsLength M → O ≡ filledFrom J N 343 → s ≡ startState J
+      → (g ≡ greedyFigure J O s) × (g ≤ costCap) → Searched J s (aboveGreedy g) O P r → Found J M P r
   unfolding firstBest
-  found {P} {g} {r} h c f e w q = record { found = first (greedy-figure (bounded-start h c f e) w); table = table-used h c f (searched-is h c f e (w .0) q) (q .table) (q .behind) }
+  found {P} {g} {r} h c f e w q = record { found = first (greedy-figure (lower-bound-pre-start h c f e) w); table = table-used h c f (searched-is h c f e (w .0) q) (q .table) (q .behind) }
     where
       first : GreedyFigure J s g → r ≡ searchFrom J (startState J .left) (startState J) noIncumbent
       first w =

@@ -13,7 +13,7 @@ use Rattle.interleaving.specs.declared.State.{State}
 use Rattle.interleaving.specs.Instance.{Instance, costCap}
 use Rattle.interleaving.specs.Search.{StripLeft, stepOf, Completes}
 use Rattle.interleaving.specs.SearchLaws.{step-left}
-use Rattle.interleaving.specs.Caps.{CanServe}
+use Rattle.interleaving.specs.Caps.{StepPre}
 use Rattle.interleaving.specs.Consistent.{Consistent, consistent-step}
 use Rattle.sorting_bounds.specs.DeskBound.{deskBound}
 use Rattle.sorting_bounds.specs.ScannerBound.{EntriesFrom, scannerBound}
@@ -43,20 +43,20 @@ abbrev pub greedyFigure : List ℕ → List ℕ → State → ℕ
 greedyFigure J M s = greedyFrom J M (s .left) s
 
 -- what a lower bound of s asks of the table
-pub record Bounded (J : List ℕ) (s : State) (M : List ℕ) : Type 0 where
+pub record LowerBoundPre (J : List ℕ) (s : State) (M : List ℕ) : Type 0 where
   pub jobs : Instance J
   pub state : Consistent J s
   pub size : length M ≡ tableLength
   pub entries : EntriesFrom J M 0
 
 -- the same where a strip is left
-pub record Going (J : List ℕ) (s : State) (M : List ℕ) : Type 0 where
-  pub bounded : Bounded J s M
+pub record GreedyDeskPre (J : List ℕ) (s : State) (M : List ℕ) : Type 0 where
+  pub bounded : LowerBoundPre J s M
   pub left : 0 < s .left
 
-pub record Choosing (J : List ℕ) (s : State) (chosen d : ℕ) (M : List ℕ) : Type 0 where
-  pub going : Going J s M
-  pub serves : CanServe J s chosen
+pub record BetterDeskPre (J : List ℕ) (s : State) (chosen d : ℕ) (M : List ℕ) : Type 0 where
+  pub going : GreedyDeskPre J s M
+  pub serves : StepPre J s chosen
   pub desk : d < 3
 
 -- first_desk, by what strip_left says
@@ -65,24 +65,28 @@ module _ (J : List ℕ) (s : State) where
   unfolding firstDesk
   first-is-0 e t = rw (← e, t)
 
-  pub first-is-1 : {q r : Bool} → q ≡ ltb (getD (s .taken) 0 0) (getD J 0 0) → q ≡ false → r ≡ ltb (getD (s .taken) 1 0) (getD J 1 0) → r ≡ true → 1 ≡ firstDesk J s
+  pub first-is-1 : {q r : Bool} → q ≡ ltb (getD (s .taken) 0 0) (getD J 0 0) → q ≡ false → r ≡ ltb (getD (s .taken) 1 0) (getD J 1 0) → r ≡ true
+      → 1 ≡ firstDesk J s
   unfolding firstDesk
   first-is-1 e t f u = rw (← e, t, ← f, u)
 
-  pub first-is-2 : {q r : Bool} → q ≡ ltb (getD (s .taken) 0 0) (getD J 0 0) → q ≡ false → r ≡ ltb (getD (s .taken) 1 0) (getD J 1 0) → r ≡ false → 2 ≡ firstDesk J s
+  pub first-is-2 : {q r : Bool} → q ≡ ltb (getD (s .taken) 0 0) (getD J 0 0) → q ≡ false → r ≡ ltb (getD (s .taken) 1 0) (getD J 1 0) → r ≡ false
+      → 2 ≡ firstDesk J s
   unfolding firstDesk
   first-is-2 e t f u = rw (← e, t, ← f, u)
 
 -- better_desk
 module _ (J M : List ℕ) (s : State) (chosen d : ℕ) where
-  pub better-other : {q : Bool} {n o : State} {x y : ℕ} → q ≡ ltb (getD (s .taken) d 0) (getD J d 0) → q ≡ true → n ≡ stepOf J s chosen → x ≡ boundOf J M n → o ≡ stepOf J s d → y ≡ boundOf J M o → y < x → d ≡ betterDesk J M s chosen d
+  pub better-other : {q : Bool} {n o : State} {x y : ℕ} → q ≡ ltb (getD (s .taken) d 0) (getD J d 0) → q ≡ true → n ≡ stepOf J s chosen → x ≡ boundOf J M n
+      → o ≡ stepOf J s d → y ≡ boundOf J M o → y < x → d ≡ betterDesk J M s chosen d
   unfolding betterDesk
   better-other {x = x} {y = y} e t n f o g l = rw (← e, t, lt-ltb (boundOf J M (stepOf J s d)) (boundOf J M (stepOf J s chosen)) smaller)
     where
       smaller : boundOf J M (stepOf J s d) < boundOf J M (stepOf J s chosen)
       smaller = omega (arith, f ∙ ap (boundOf J M) n, g ∙ ap (boundOf J M) o)
 
-  pub better-chosen : {q : Bool} {n o : State} {x y : ℕ} → q ≡ ltb (getD (s .taken) d 0) (getD J d 0) → q ≡ true → n ≡ stepOf J s chosen → x ≡ boundOf J M n → o ≡ stepOf J s d → y ≡ boundOf J M o → x ≤ y → chosen ≡ betterDesk J M s chosen d
+  pub better-chosen : {q : Bool} {n o : State} {x y : ℕ} → q ≡ ltb (getD (s .taken) d 0) (getD J d 0) → q ≡ true → n ≡ stepOf J s chosen → x ≡ boundOf J M n
+      → o ≡ stepOf J s d → y ≡ boundOf J M o → x ≤ y → chosen ≡ betterDesk J M s chosen d
   unfolding betterDesk
   better-chosen {x = x} {y = y} e t n f o g l = rw (← e, t, le-ltb (boundOf J M (stepOf J s d)) (boundOf J M (stepOf J s chosen)) larger)
     where
@@ -95,47 +99,49 @@ module _ (J M : List ℕ) (s : State) (chosen d : ℕ) where
 
 -- the greedy desk can serve
 module _ {J : List ℕ} {s : State} {M : List ℕ} where
-  serve-at : {d : ℕ} → Going J s M → d < 3 → StripLeft J s d → CanServe J s d
+  serve-at : {d : ℕ} → GreedyDeskPre J s M → d < 3 → StripLeft J s d → StepPre J s d
   serve-at g p m = record { jobs = g .bounded .jobs; capped = g .bounded .state .fits; desk = p; strip = m; left = g .left }
 
-  pub serve-if : {d : ℕ} {q : Bool} → Going J s M → d < 3 → q ≡ ltb (getD (s .taken) d 0) (getD J d 0) → q ≡ true → CanServe J s d
+  pub serve-if : {d : ℕ} {q : Bool} → GreedyDeskPre J s M → d < 3 → q ≡ ltb (getD (s .taken) d 0) (getD J d 0) → q ≡ true → StepPre J s d
   serve-if g p e t = serve-at g p (ltb-true _ _ (sym e ∙ t))
 
-  first-serves : Going J s M → CanServe J s (firstDesk J s)
+  first-serves : GreedyDeskPre J s M → StepPre J s (firstDesk J s)
   unfolding firstDesk
   first-serves g = go (decLt (getD (s .taken) 0 0) (getD J 0 0)) (decLt (getD (s .taken) 1 0) (getD J 1 0))
     where
-      go : Dec (StripLeft J s 0) → Dec (StripLeft J s 1) → CanServe J s (cond (ltb (getD (s .taken) 0 0) (getD J 0 0)) 0 (cond (ltb (getD (s .taken) 1 0) (getD J 1 0)) 1 2))
+      go : Dec (StripLeft J s 0) → Dec (StripLeft J s 1)
+          → StepPre J s (cond (ltb (getD (s .taken) 0 0) (getD J 0 0)) 0 (cond (ltb (getD (s .taken) 1 0) (getD J 1 0)) 1 2))
       go (yes m) q = rw (lt-ltb _ _ m) (serve-at g (omega arith) m)
       go (no n) (yes m) = rw (le-ltb (getD (s .taken) 0 0) (getD J 0 0) (omega arith), lt-ltb (getD (s .taken) 1 0) (getD J 1 0) m) (serve-at g (omega arith) m)
       go (no n) (no o) =
           rw (le-ltb (getD (s .taken) 0 0) (getD J 0 0) (omega arith), le-ltb (getD (s .taken) 1 0) (getD J 1 0) (omega arith))
           (serve-at g (omega arith) (omega (arith, g .left, g .bounded .state .left)))
 
-  better-serves : {chosen d : ℕ} → Choosing J s chosen d M → CanServe J s (betterDesk J M s chosen d)
+  better-serves : {chosen d : ℕ} → BetterDeskPre J s chosen d M → StepPre J s (betterDesk J M s chosen d)
   unfolding betterDesk
   better-serves {chosen} {d} h = go (decLt (getD (s .taken) d 0) (getD J d 0))
     where
-      one : (b : Bool) → CanServe J s d → CanServe J s (cond b d chosen)
+      one : (b : Bool) → StepPre J s d → StepPre J s (cond b d chosen)
       one true c = c
       one false c = h .serves
 
-      go : Dec (StripLeft J s d) → CanServe J s (cond (ltb (getD (s .taken) d 0) (getD J d 0)) (cond (ltb (boundOf J M (stepOf J s d)) (boundOf J M (stepOf J s chosen))) d chosen) chosen)
+      go : Dec (StripLeft J s d)
+          → StepPre J s (cond (ltb (getD (s .taken) d 0) (getD J d 0)) (cond (ltb (boundOf J M (stepOf J s d)) (boundOf J M (stepOf J s chosen))) d chosen) chosen)
       go (yes m) = rw (lt-ltb (getD (s .taken) d 0) (getD J d 0) m) (one (ltb (boundOf J M (stepOf J s d)) (boundOf J M (stepOf J s chosen))) (serve-at (h .going) (h .desk) m))
       go (no n) = rw (le-ltb (getD (s .taken) d 0) (getD J d 0) (omega arith)) (h .serves)
 
-  pub choosing-second : {a d : ℕ} → Going J s M → d < 3 → a ≡ firstDesk J s → Choosing J s a d M
-  choosing-second g p e = record { going = g; serves = subst (CanServe J s) (sym e) (first-serves g); desk = p }
+  pub better-desk-pre-second : {a d : ℕ} → GreedyDeskPre J s M → d < 3 → a ≡ firstDesk J s → BetterDeskPre J s a d M
+  better-desk-pre-second g p e = record { going = g; serves = subst (StepPre J s) (sym e) (first-serves g); desk = p }
 
-  pub choosing-third : {a b c d : ℕ} → Going J s M → c < 3 → d < 3 → a ≡ firstDesk J s → b ≡ betterDesk J M s a c → Choosing J s b d M
-  choosing-third g q p e f = record { going = g; serves = subst (CanServe J s) (sym f) (better-serves (choosing-second g q e)); desk = p }
+  pub better-desk-pre-third : {a b c d : ℕ} → GreedyDeskPre J s M → c < 3 → d < 3 → a ≡ firstDesk J s → b ≡ betterDesk J M s a c → BetterDeskPre J s b d M
+  better-desk-pre-third g q p e f = record { going = g; serves = subst (StepPre J s) (sym f) (better-serves (better-desk-pre-second g q e)); desk = p }
 
-  greedy-serves : Going J s M → CanServe J s (greedyDesk J M s)
+  greedy-serves : GreedyDeskPre J s M → StepPre J s (greedyDesk J M s)
   unfolding greedyDesk
-  greedy-serves g = better-serves (choosing-third {c = 1} g (omega arith) (omega arith) refl refl)
+  greedy-serves g = better-serves (better-desk-pre-third {c = 1} g (omega arith) (omega arith) refl refl)
 
-  pub bounded-step : {d : ℕ} {n : State} → Going J s M → CanServe J s d → n ≡ stepOf J s d → Bounded J n M
-  bounded-step {d} {n} g c e = record {
+  pub lower-bound-pre-step : {d : ℕ} {n : State} → GreedyDeskPre J s M → StepPre J s d → n ≡ stepOf J s d → LowerBoundPre J n M
+  lower-bound-pre-step {d} {n} g c e = record {
     jobs = g .bounded .jobs;
     state = subst (Consistent J) (sym e) (consistent-step J (c .jobs) s (g .bounded .state) d (c .desk) (c .strip) (c .left));
     size = g .bounded .size;
@@ -148,17 +154,17 @@ greedy-is J M s e f g = g ∙ ap (λ (x : ℕ). betterDesk J M s x 2) (f ∙ ap 
 
 -- the loop of greedy: the greedy list of t is the rest of that of s
 pub record Leads (J : List ℕ) (s t : State) (M : List ℕ) : Type 0 where
-  pub bounded : Bounded J t M
+  pub bounded : LowerBoundPre J t M
   pub same : greedyFigure J M t ≡ greedyFigure J M s
 
-pub leads-start : {J : List ℕ} {s : State} {M : List ℕ} → Bounded J s M → Leads J s s M
+pub leads-start : {J : List ℕ} {s : State} {M : List ℕ} → LowerBoundPre J s M → Leads J s s M
 leads-start h = record { bounded = h; same = refl }
 
-pub leads-going : {J : List ℕ} {s t : State} {M : List ℕ} → Leads J s t M → 0 < t .left → Going J t M
+pub leads-going : {J : List ℕ} {s t : State} {M : List ℕ} → Leads J s t M → 0 < t .left → GreedyDeskPre J t M
 leads-going h l = record { bounded = h .bounded; left = l }
 
-pub leads-serves : {J : List ℕ} {s t : State} {M : List ℕ} {d : ℕ} → Leads J s t M → 0 < t .left → d ≡ greedyDesk J M t → CanServe J t d
-leads-serves {J} {s} {t} h l e = subst (CanServe J t) (sym e) (greedy-serves (leads-going h l))
+pub leads-serves : {J : List ℕ} {s t : State} {M : List ℕ} {d : ℕ} → Leads J s t M → 0 < t .left → d ≡ greedyDesk J M t → StepPre J t d
+leads-serves {J} {s} {t} h l e = subst (StepPre J t) (sym e) (greedy-serves (leads-going h l))
 
 greedy-next : (J M : List ℕ) (t : State) → 0 < t .left → greedyFigure J M (stepOf J t (greedyDesk J M t)) ≡ greedyFigure J M t
 unfolding greedyFrom
@@ -169,7 +175,7 @@ greedy-next J M t l = ap (λ (k : ℕ). greedyFrom J M k (stepOf J t (greedyDesk
 
 pub leads-step : {J : List ℕ} {s t n : State} {M : List ℕ} {d : ℕ} → Leads J s t M → 0 < t .left → d ≡ greedyDesk J M t → n ≡ stepOf J t d → Leads J s n M
 leads-step {J} {s} {t} {n} {M} {d} h l e f = record {
-  bounded = bounded-step (leads-going h l) (leads-serves h l e) f;
+  bounded = lower-bound-pre-step (leads-going h l) (leads-serves h l e) f;
   same = ap (greedyFigure J M) (f ∙ ap (stepOf J t) e) ∙ greedy-next J M t l ∙ h .same;
 }
 
@@ -191,15 +197,15 @@ pub record GreedyFigure (J : List ℕ) (s : State) (r : ℕ) : Type 0 where
   pub small : r ≤ costCap
 
 module _ (J M : List ℕ) where
-  greedy-end : (k : ℕ) (s : State) → Bounded J s M → s .left ≡ k → (e : State) × Completes J k s e × (greedyFrom J M k s ≡ e .cost)
+  greedy-end : (k : ℕ) (s : State) → LowerBoundPre J s M → s .left ≡ k → (e : State) × Completes J k s e × (greedyFrom J M k s ≡ e .cost)
   unfolding Completes greedyFrom
   greedy-end zero s h e = (s, refl, refl)
-  greedy-end (suc k) s h e = next (greedy-serves going) (λ n w. greedy-end k n (bounded-step going (greedy-serves going) w))
+  greedy-end (suc k) s h e = next (greedy-serves going) (λ n w. greedy-end k n (lower-bound-pre-step going (greedy-serves going) w))
     where
-      going : Going J s M
+      going : GreedyDeskPre J s M
       going = record { bounded = h; left = omega arith }
 
-      next : CanServe J s (greedyDesk J M s)
+      next : StepPre J s (greedyDesk J M s)
           → ((n : State) → n ≡ stepOf J s (greedyDesk J M s) → n .left ≡ k → (x : State) × Completes J k n x × (greedyFrom J M k n ≡ x .cost))
           → (x : State) × ((d : ℕ) × (d < 3) × StripLeft J s d × Completes J k (stepOf J s d) x) × (greedyFrom J M k (stepOf J s (greedyDesk J M s)) ≡ x .cost)
       next c rest = made (rest (stepOf J s (greedyDesk J M s)) refl (step-left J s (greedyDesk J M s) ∙ less))
@@ -211,7 +217,7 @@ module _ (J M : List ℕ) where
               → (x : State) × ((d : ℕ) × (d < 3) × StripLeft J s d × Completes J k (stepOf J s d) x) × (greedyFrom J M k (stepOf J s (greedyDesk J M s)) ≡ x .cost)
           made r = (r .0, (greedyDesk J M s, c .desk, c .strip, r .1), r .2)
 
-pub greedy-figure : {J : List ℕ} {s : State} {M : List ℕ} {r : ℕ} → Bounded J s M → (r ≡ greedyFigure J M s) × (r ≤ costCap) → GreedyFigure J s r
+pub greedy-figure : {J : List ℕ} {s : State} {M : List ℕ} {r : ℕ} → LowerBoundPre J s M → (r ≡ greedyFigure J M s) × (r ≤ costCap) → GreedyFigure J s r
 greedy-figure {J} {s} {M} {r} h e = made (greedy-end J M (s .left) s h refl)
   where
     made : (x : State) × Completes J (s .left) s x × (greedyFigure J M s ≡ x .cost) → GreedyFigure J s r

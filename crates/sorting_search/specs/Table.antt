@@ -14,7 +14,7 @@ use Rattle.interleaving.specs.declared.Incumbent.{Incumbent}
 use Rattle.interleaving.specs.Instance.{Instance}
 use Rattle.interleaving.specs.Search.{StripLeft, stepOf, keep, overDesks, branch, searchFrom, LowerBound}
 use Rattle.interleaving.specs.SearchLaws.{over-none, branch-again-yes, branch-again-no, step-left, search-leaf, search-desks, search-stays, bound-down}
-use Rattle.interleaving.specs.Caps.{CanServe}
+use Rattle.interleaving.specs.Caps.{StepPre}
 use Rattle.interleaving.specs.Consistent.{Consistent, consistent-step}
 use Rattle.sorting_bounds.specs.Layout.{countKey, labelsLength}
 use Rattle.sorting_bounds.specs.DeskBound.{boundCap, deskBound, desk-bound-holds}
@@ -42,7 +42,7 @@ same-trans n M N O p q x l = q x l ∙ p x l
 
 -- what the search asks and what it gives: incumbent and table as the search with its cuts has them, and the incumbent as the search without cuts finds it. Behind the
 -- labels it changes nothing.
-pub record Searchable (J : List ℕ) (s : State) (B : ℕ) (M : List ℕ) : Type 0 where
+pub record SearchPre (J : List ℕ) (s : State) (B : ℕ) (M : List ℕ) : Type 0 where
   pub jobs : Instance J
   pub state : Consistent J s
   pub table : TableHolds J M B
@@ -54,7 +54,7 @@ pub record Searched (J : List ℕ) (s : State) (b : Incumbent) (M N : List ℕ) 
   pub behind : SameFrom labelsLength M N
 
 -- cut: what it asks, and its tests in turn
-pub record Cuttable (J : List ℕ) (s : State) (k B : ℕ) (M : List ℕ) : Type 0 where
+pub record CutPre (J : List ℕ) (s : State) (k B : ℕ) (M : List ℕ) : Type 0 where
   pub jobs : Instance J
   pub state : Consistent J s
   pub key : k ≡ countKey s
@@ -66,7 +66,7 @@ module _ (J : List ℕ) (s : State) (B : ℕ) (M : List ℕ) where
   unfolding isCut
   cut-by-scanner e l = rw (le-leb B (scannerBound M s) (omega (arith, e .0)))
 
-  pub cut-by-label : {k : ℕ} {q : Bool} → Cuttable J s k B M → q ≡ dominatedBy M k s 4 → q ≡ true → true ≡ isCut J M s B
+  pub cut-by-label : {k : ℕ} {q : Bool} → CutPre J s k B M → q ≡ dominatedBy M k s 4 → q ≡ true → true ≡ isCut J M s B
   unfolding isCut
   cut-by-label {k} {q} h e t = rw yes (sym (or-true (leb B (scannerBound M s))))
     where
@@ -78,7 +78,8 @@ module _ (J : List ℕ) (s : State) (B : ℕ) (M : List ℕ) where
   cut-by-desks g l =
       rw (le-leb B (deskBound J s) (omega (arith, g .0)), or-true (dominatedBy M (countKey s) s 4)) (sym (or-true (leb B (scannerBound M s))))
 
-  pub cut-by-none : {k v w : ℕ} {q : Bool} → Cuttable J s k B M → (v ≡ scannerBound M s) × (v ≤ boundCap) → v < B → q ≡ dominatedBy M k s 4 → q ≡ false → (w ≡ deskBound J s) × (w ≤ boundCap) → w < B → false ≡ isCut J M s B
+  pub cut-by-none : {k v w : ℕ} {q : Bool} → CutPre J s k B M → (v ≡ scannerBound M s) × (v ≤ boundCap) → v < B → q ≡ dominatedBy M k s 4 → q ≡ false
+      → (w ≡ deskBound J s) × (w ≤ boundCap) → w < B → false ≡ isCut J M s B
   unfolding isCut
   cut-by-none {k} {v} {w} {q} h e l f t g m = rw (lt-leb B (scannerBound M s) (omega (arith, e .0)), no, lt-leb B (deskBound J s) (omega (arith, g .0)))
     where
@@ -86,7 +87,7 @@ module _ (J : List ℕ) (s : State) (B : ℕ) (M : List ℕ) where
       no = ap (λ (x : ℕ). dominatedBy M x s 4) (sym (h .key)) ∙ sym f ∙ t
 
 -- where a node is cut, no completion is below B
-pub cut-bounds : {J : List ℕ} {s : State} {B : ℕ} {M : List ℕ} → Searchable J s B M → isCut J M s B ≡ true → LowerBound J (s .left) s B
+pub cut-bounds : {J : List ℕ} {s : State} {B : ℕ} {M : List ℕ} → SearchPre J s B M → isCut J M s B ≡ true → LowerBound J (s .left) s B
 unfolding isCut
 cut-bounds {J} {s} {B} {M} h e = go (either _ _ e)
   where
@@ -103,7 +104,8 @@ table-search : {J M : List ℕ} (s : State) (b r : Incumbent) (k : ℕ) → Tabl
 table-search {J} {M} s b r k t e = record { size = t .size; labels = labels-search J M k s b r (t .labels) e; entries = t .entries }
 
 module _ {J M N : List ℕ} {s : State} (b : Incumbent) {r : Incumbent} {k : ℕ} where
-  table-store : Instance J → Consistent J s → TableHolds J M (r .figure) → (k ≡ countKey s) × (k < 343) → N ≡ withLabel M k s → r ≡ searchFrom J (s .left) s b → TableHolds J N (r .figure)
+  table-store : Instance J → Consistent J s → TableHolds J M (r .figure) → (k ≡ countKey s) × (k < 343) → N ≡ withLabel M k s → r ≡ searchFrom J (s .left) s b
+      → TableHolds J N (r .figure)
   table-store j g t e n w = record {
     size = ap length n ∙ stored-length M k s ∙ t .size;
     labels = labels-done J M N s b r k j (t .size) e n g (t .labels) w;
@@ -116,11 +118,11 @@ same-store M N s k l e = rw e (stored-behind M k s l)
 
 -- search: a leaf, a cut, the loop over the desks, and what is returned after it
 module _ {J M : List ℕ} {s : State} {b : Incumbent} where
-  pub searched-leaf : {r : Incumbent} → Searchable J s (b .figure) M → s .left ≡ 0 → r ≡ keep s b → Searched J s b M M r
+  pub searched-leaf : {r : Incumbent} → SearchPre J s (b .figure) M → s .left ≡ 0 → r ≡ keep s b → Searched J s b M M r
   unfolding SameFrom
   searched-leaf {r} h e k = let w : r ≡ searchFrom J (s .left) s b = k ∙ sym (search-leaf J s b e) in record { exact = exact-leaf J M s b r e k; found = w; table = table-search s b r (s .left) (h .table) w; behind = λ x l. refl }
 
-  pub searched-cut : {q : Bool} → Searchable J s (b .figure) M → (s .left ≡ 0 → ⊥) → q ≡ isCut J M s (b .figure) → q ≡ true → Searched J s b M M b
+  pub searched-cut : {q : Bool} → SearchPre J s (b .figure) M → (s .left ≡ 0 → ⊥) → q ≡ isCut J M s (b .figure) → q ≡ true → Searched J s b M M b
   unfolding SameFrom
   searched-cut h z c e = record {
     exact = exact-cut J M s b (omega arith) (sym c ∙ e);
@@ -137,7 +139,7 @@ pub record Branched (J : List ℕ) (s : State) (b : Incumbent) (M N : List ℕ) 
   pub table : TableHolds J N (r .figure)
   pub behind : SameFrom labelsLength M N
 
-pub branched-none : {J M : List ℕ} {s : State} {b : Incumbent} → Searchable J s (b .figure) M → Branched J s b M M 0 b
+pub branched-none : {J M : List ℕ} {s : State} {b : Incumbent} → SearchPre J s (b .figure) M → Branched J s b M M 0 b
 unfolding SameFrom
 branched-none {J} {M} {s} {b} h = record { desks = omega arith; exact = over-none _ (outcome b M); found = over-none _ b; table = h .table; behind = λ x l. refl }
 
@@ -151,7 +153,8 @@ module _ {J M N : List ℕ} {s : State} {b : Incumbent} where
     behind = h .behind;
   }
 
-  pub branched-yes : {d : ℕ} {q r : Incumbent} {n : State} {O : List ℕ} → Branched J s b M N d q → d < 3 → StripLeft J s d → n ≡ stepOf J s d → Searched J n q N O r → Branched J s b M O (d + 1) r
+  pub branched-yes : {d : ℕ} {q r : Incumbent} {n : State} {O : List ℕ} → Branched J s b M N d q → d < 3 → StripLeft J s d → n ≡ stepOf J s d
+      → Searched J n q N O r → Branched J s b M O (d + 1) r
   branched-yes {d} {q} {r} {n} {O} h l m e w = record {
     desks = omega arith;
     exact = branch-again-yes J (cutSearch J (s .left - 1)) s d (outcome b M) (outcome q N) n (outcome r O) (h .exact) m e (w .exact ∙ ap (λ (k : ℕ). cutSearch J k n (outcome q N)) less);
@@ -166,20 +169,23 @@ module _ {J M N : List ℕ} {s : State} {b : Incumbent} where
 pub branched-same : {J M N O : List ℕ} {s : State} {b r q : Incumbent} {d : ℕ} → N ≡ O → r ≡ q → Branched J s b M O d q → Branched J s b M N d r
 branched-same {J} {M} {N} {O} {s} {b} {r} {q} {d} e w h = subst (λ (x : List ℕ). Branched J s b M x d r) (sym e) (subst (λ (x : Incumbent). Branched J s b M O d x) (sym w) h)
 
-pub can-serve : {J M : List ℕ} {s : State} {B d : ℕ} {q : Bool} → Searchable J s B M → (s .left ≡ 0 → ⊥) → d < 3 → q ≡ ltb (getD (s .taken) d 0) (getD J d 0) → q ≡ true → CanServe J s d
+pub can-serve : {J M : List ℕ} {s : State} {B d : ℕ} {q : Bool} → SearchPre J s B M → (s .left ≡ 0 → ⊥) → d < 3 → q ≡ ltb (getD (s .taken) d 0) (getD J d 0)
+    → q ≡ true → StepPre J s d
 can-serve h n p e t = record { jobs = h .jobs; capped = h .state .fits; desk = p; strip = ltb-true _ _ (sym e ∙ t); left = omega arith }
 
-pub step-less : {J : List ℕ} {s n : State} {d t : ℕ} → CanServe J s d → n ≡ stepOf J s d → s .left ≡ t → n .left < t
+pub step-less : {J : List ℕ} {s n : State} {d t : ℕ} → StepPre J s d → n ≡ stepOf J s d → s .left ≡ t → n .left < t
 step-less {J} {s} {n} {d} c e q = rw (e, step-left J s d) (omega (arith, c .left))
 
-pub searchable-step : {J L M N : List ℕ} {s n : State} {b r : Incumbent} {B d : ℕ} → Searchable J s B N → CanServe J s d → Branched J s b L M d r → n ≡ stepOf J s d → Searchable J n (r .figure) M
-searchable-step {J} {L} {M} {N} {s} {n} {b} {r} {B} {d} a c h e = record {
+pub search-pre-step : {J L M N : List ℕ} {s n : State} {b r : Incumbent} {B d : ℕ} → SearchPre J s B N → StepPre J s d → Branched J s b L M d r
+    → n ≡ stepOf J s d → SearchPre J n (r .figure) M
+search-pre-step {J} {L} {M} {N} {s} {n} {b} {r} {B} {d} a c h e = record {
   jobs = a .jobs;
   state = subst (Consistent J) (sym e) (consistent-step J (a .jobs) s (a .state) d (c .desk) (c .strip) (c .left));
   table = h .table;
 }
 
-pub searched-all : {J M N O : List ℕ} {s : State} {b r : Incumbent} {d k : ℕ} {q : Bool} → Searchable J s (b .figure) M → (s .left ≡ 0 → ⊥) → q ≡ isCut J M s (b .figure) → q ≡ false → Branched J s b M N d r → 3 ≤ d → (k ≡ countKey s) × (k < 343) → O ≡ withLabel N k s → Searched J s b M O r
+pub searched-all : {J M N O : List ℕ} {s : State} {b r : Incumbent} {d k : ℕ} {q : Bool} → SearchPre J s (b .figure) M → (s .left ≡ 0 → ⊥)
+    → q ≡ isCut J M s (b .figure) → q ≡ false → Branched J s b M N d r → 3 ≤ d → (k ≡ countKey s) × (k < 343) → O ≡ withLabel N k s → Searched J s b M O r
 searched-all {J} {M} {N} {O} {s} {b} {r} {d} {k} a z c f h l e p =
     let w : r ≡ searchFrom J (s .left) s b = search-desks J s b r d (omega arith) (h .desks) l (h .found) in
     record {

@@ -2,7 +2,7 @@
 ghost use mathlib.Core.Path.{_≡_};
 ghost use Prim.Native.Nat.{_≤_};
 ghost use Rattle.interleaving.specs.Instance.{Instance, costCap};
-ghost use Rattle.sorting_search.specs.Greedy.{boundOf, firstDesk, betterDesk, greedyDesk, greedyFigure, Bounded, Going, Choosing};
+ghost use Rattle.sorting_search.specs.Greedy.{boundOf, firstDesk, betterDesk, greedyDesk, greedyFigure, LowerBoundPre, GreedyDeskPre, BetterDeskPre};
 use interleaving::State;
 
 // The first desk that has a strip left.
@@ -21,7 +21,7 @@ fn first_desk(jobs: &[u64], s: State) -> usize
 
 // The greater of the two lower bounds of s.
 fn lower_bound(jobs: &[u64], s: State, m: &[u64]) -> u64
-    requires { ⌜ Bounded (now jobs) s (now m) ⌝ }
+    requires { ⌜ LowerBoundPre (now jobs) s (now m) ⌝ }
     ensures { λ r. ⌜ r ≡ boundOf (now (jobs .entry)) (now (m .entry)) s ⌝ }
 {
     let k = sorting_labels::count_key(jobs, s);
@@ -32,7 +32,7 @@ fn lower_bound(jobs: &[u64], s: State, m: &[u64]) -> u64
 
 // The one of two desks whose step has the smaller lower bound, the chosen one where they are equal.
 fn better_desk(jobs: &[u64], s: State, chosen: usize, d: usize, m: &[u64]) -> usize
-    requires { ⌜ Choosing (now jobs) s chosen d (now m) ⌝ }
+    requires { ⌜ BetterDeskPre (now jobs) s chosen d (now m) ⌝ }
     ensures { λ r. ⌜ r ≡ betterDesk (now (jobs .entry)) (now (m .entry)) s chosen d ⌝ }
 {
     if interleaving::strip_left(jobs, s, d) {
@@ -48,7 +48,7 @@ fn better_desk(jobs: &[u64], s: State, chosen: usize, d: usize, m: &[u64]) -> us
 
 // The desk whose step has the least lower bound.
 fn greedy_desk(jobs: &[u64], s: State, m: &[u64]) -> usize
-    requires { ⌜ Going (now jobs) s (now m) ⌝ }
+    requires { ⌜ GreedyDeskPre (now jobs) s (now m) ⌝ }
     ensures { λ r. ⌜ r ≡ greedyDesk (now (jobs .entry)) (now (m .entry)) s ⌝ }
 {
     let a = first_desk(jobs, s);
@@ -58,7 +58,7 @@ fn greedy_desk(jobs: &[u64], s: State, m: &[u64]) -> usize
 
 // The figure of the greedy list from s on.
 pub fn greedy(jobs: &[u64], s: State, m: &[u64]) -> u64
-    requires { ⌜ Bounded (now jobs) s (now m) ⌝ }
+    requires { ⌜ LowerBoundPre (now jobs) s (now m) ⌝ }
     ensures { λ r. ⌜ (r ≡ greedyFigure (now (jobs .entry)) (now (m .entry)) s) × (r ≤ costCap) ⌝ }
 {
     let mut t = s;

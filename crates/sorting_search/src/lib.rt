@@ -1,8 +1,8 @@
 // The search over interleavings with its cuts: it returns what the search without cuts returns.
 ghost use mathlib.Core.Path.{_≡_};
 ghost use Rattle.sorting_search.specs.CutSearch.{isCut};
-ghost use Rattle.sorting_search.specs.Table.{Searchable, Searched, Cuttable};
-ghost use Rattle.sorting_search.specs.Found.{Lent, Found};
+ghost use Rattle.sorting_search.specs.Table.{SearchPre, Searched, CutPre};
+ghost use Rattle.sorting_search.specs.Found.{BestInterleavingPre, Found};
 use interleaving::Incumbent;
 use interleaving::State;
 
@@ -10,7 +10,7 @@ mod greedy;
 
 // Whether the scanner's bound, a label or the desks' bound shows that no completion of s, whose count vector has the number k, is below the figure.
 fn cut(jobs: &[u64], s: State, k: usize, figure: u64, m: &[u64]) -> bool
-    requires { ⌜ Cuttable (now jobs) s k figure (now m) ⌝ }
+    requires { ⌜ CutPre (now jobs) s k figure (now m) ⌝ }
     ensures { λ r. ⌜ r ≡ isCut (now (jobs .entry)) (now (m .entry)) s figure ⌝ }
 {
     let by_scanner = sorting_bounds::scanner_bound::scanner_bound(jobs, s, k, m);
@@ -29,7 +29,7 @@ fn cut(jobs: &[u64], s: State, k: usize, figure: u64, m: &[u64]) -> bool
 
 // The best of b and of all completions of s, in desk order. A node's label is stored once the node is explored.
 fn search(jobs: &[u64], s: State, b: Incumbent, m: &mut [u64]) -> Incumbent
-    requires { ⌜ Searchable (now jobs) s (b .figure) (now m) ⌝ }
+    requires { ⌜ SearchPre (now jobs) s (b .figure) (now m) ⌝ }
     ensures { λ r. ⌜ Searched (now (jobs .entry)) s b (now (m .entry)) (now (m .exit)) r ⌝ }
 {
     if s.left == 0 {
@@ -54,7 +54,7 @@ fn search(jobs: &[u64], s: State, b: Incumbent, m: &mut [u64]) -> Incumbent
 
 // The first best interleaving. The search starts from a greedy figure plus one, which the greedy list itself is below. The caller clears the table.
 pub fn best_interleaving(jobs: &[u64], m: &mut [u64]) -> Incumbent
-    requires { ⌜ Lent (now jobs) (now m) ⌝ }
+    requires { ⌜ BestInterleavingPre (now jobs) (now m) ⌝ }
     ensures { λ r. ⌜ Found (now (jobs .entry)) (now (m .entry)) (now (m .exit)) r ⌝ }
 {
     sorting_labels::clear_labels(m);

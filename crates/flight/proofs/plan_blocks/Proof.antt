@@ -1,6 +1,6 @@
 -- `flight::plan_blocks` meets its contract: the parts that are lent have the lengths that are asked.
 use borrow.Author.Needs.{needs}
-use Rattle.flight.proofs.Planning.{rows-part, starts-part, parts-asked}
+use Rattle.flight.proofs.Planning.{rows-part, starts-part, plan-chosen-pre}
 use Rattle.flight.proofs.plan_blocks.Statement.{statement}
 use Rattle.flight.proofs.plan_blocks.Tie as tie
 
@@ -29,7 +29,7 @@ slice-aggregate-plan-chosen-2 : tie.Need-slice-aggregate-plan-chosen-2
 slice-aggregate-plan-chosen-2 c = search starts-part
 
 plan-chosen-requires : tie.Need-plan-chosen-requires
-plan-chosen-requires c κs = search parts-asked
+plan-chosen-requires c κs = search plan-chosen-pre
 
 same-length : tie.Need-same-length
 same-length c = search needs

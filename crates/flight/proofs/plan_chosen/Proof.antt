@@ -1,6 +1,6 @@
 -- `flight::plan_chosen` meets its contract: the plan in the chosen order.
 use borrow.Author.Needs.{needs}
-use Rattle.flight.proofs.Planning.{chosen-asked, plan-chosen}
+use Rattle.flight.proofs.Planning.{plan-in-order-pre, plan-chosen}
 use Rattle.flight.proofs.plan_chosen.Statement.{statement}
 use Rattle.flight.proofs.plan_chosen.Tie as tie
 
@@ -8,7 +8,7 @@ choose-order-requires : tie.Need-choose-order-requires
 choose-order-requires c κs = search needs
 
 plan-in-order-requires : tie.Need-plan-in-order-requires
-plan-in-order-requires c κs = search chosen-asked
+plan-in-order-requires c κs = search plan-in-order-pre
 
 same-length : tie.Need-same-length
 same-length c = search needs

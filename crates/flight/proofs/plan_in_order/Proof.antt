@@ -1,6 +1,6 @@
 -- `flight::plan_in_order` meets its contract: the starts are the least ones, and the last pass gives the figure.
 use borrow.Author.Needs.{needs}
-use Rattle.flight.proofs.Planning.{order-rooms, plan-figure-fits, plan-made}
+use Rattle.flight.proofs.Planning.{least-starts-pre, plan-figure-fits, plan-made}
 use Rattle.flight.proofs.plan_in_order.Statement.{statement}
 use Rattle.flight.proofs.plan_in_order.Tie as tie
 
@@ -17,7 +17,7 @@ slice-aggregate-least-starts-4 : tie.Need-slice-aggregate-least-starts-4
 slice-aggregate-least-starts-4 c = search needs
 
 least-starts-requires : tie.Need-least-starts-requires
-least-starts-requires c κs = search order-rooms
+least-starts-requires c κs = search least-starts-pre
 
 mul-last : tie.Need-mul-last
 mul-last c = search needs

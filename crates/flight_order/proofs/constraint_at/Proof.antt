@@ -55,14 +55,14 @@ mul-j c = search needs
 sub-j : tie.Need-sub-j
 sub-j c = search needs
 
-pass-of-requires : tie.Need-pass-of-requires
-pass-of-requires c κs = search needs
+pass-at-requires : tie.Need-pass-at-requires
+pass-at-requires c κs = search needs
 
-add-pass-of : tie.Need-add-pass-of
-add-pass-of c = search needs
+add-pass-at : tie.Need-add-pass-at
+add-pass-at c = search needs
 
-pass-of-requires-2 : tie.Need-pass-of-requires-2
-pass-of-requires-2 c κs = search needs
+pass-at-requires-2 : tie.Need-pass-at-requires-2
+pass-at-requires-2 c κs = search needs
 
 time-of-requires : tie.Need-time-of-requires
 time-of-requires c κs = (search needs, search needs, search pass-below)
@@ -94,9 +94,9 @@ constraint-at-spec =
     returns-2
     mul-j
     sub-j
-    pass-of-requires
-    add-pass-of
-    pass-of-requires-2
+    pass-at-requires
+    add-pass-at
+    pass-at-requires-2
     time-of-requires
     add-t32
     returns-3)

@@ -1,7 +1,7 @@
 -- `flight_search::search` meets its contract: the measure is the number of passes left, and each of the four ways is a step of the definition.
 use native.Mathlib.Omega.{arith}
 use borrow.Author.Needs.{needs}
-use Rattle.flight_search.proofs.Searching.{leaf-asked, append-within, append-short, first-asked, only-second-asked, second-asked, only-second, only-first, first-then-second, search-end}
+use Rattle.flight_search.proofs.Searching.{try-order-pre, append-within, append-short, first-search-pre, only-second-search-pre, second-search-pre, only-second, only-first, first-then-second, search-end}
 use Prim.Native.Nat.{ℕ, _<_}
 use borrow.Fn.Kinds.{In}
 use borrow.Fn.PlainCycle.{Measures, is, falls, and}
@@ -36,7 +36,7 @@ search-try-order-requires : (t : ℕ) → search-lts.Need-try-order-requires (
   search-below t,
   search′.Post,
 ) (search-at t) search′.Post
-search-try-order-requires t c κs = search leaf-asked
+search-try-order-requires t c κs = search try-order-pre
 
 search-same-length : (t : ℕ) → search-lts.Need-same-length (
   try-order-reads.Asked,
@@ -176,7 +176,7 @@ search-search-requires : (t : ℕ) → search-lts.Need-search-requires (
   search-below t,
   search′.Post,
 ) (search-at t) search′.Post
-search-search-requires t c κs = (omega arith, search only-second-asked)
+search-search-requires t c κs = (omega arith, search only-second-search-pre)
 
 search-same-length-3 : (t : ℕ) → search-lts.Need-same-length-3 (
   try-order-reads.Asked,
@@ -246,7 +246,7 @@ search-search-requires-2 : (t : ℕ) → search-lts.Need-search-requires-2 (
   search-below t,
   search′.Post,
 ) (search-at t) search′.Post
-search-search-requires-2 t c κs = (omega arith, search first-asked)
+search-search-requires-2 t c κs = (omega arith, search first-search-pre)
 
 search-same-length-5 : (t : ℕ) → search-lts.Need-same-length-5 (
   try-order-reads.Asked,
@@ -330,7 +330,7 @@ search-search-requires-3 : (t : ℕ) → search-lts.Need-search-requires-3 (
   search-below t,
   search′.Post,
 ) (search-at t) search′.Post
-search-search-requires-3 t c κs = (omega arith, search second-asked)
+search-search-requires-3 t c κs = (omega arith, search second-search-pre)
 
 search-same-length-7 : (t : ℕ) → search-lts.Need-same-length-7 (
   try-order-reads.Asked,

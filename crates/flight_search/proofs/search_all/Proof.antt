@@ -1,6 +1,6 @@
 -- `flight_search::search_all` meets its contract: the parts that are lent have the lengths that are asked, and the search starts at the empty beginning.
 use borrow.Author.Needs.{needs}
-use Rattle.flight_search.proofs.Rooms.{rows-part, starts-part, root-asked}
+use Rattle.flight_search.proofs.Rooms.{rows-part, starts-part, root-search-pre}
 use Rattle.flight_search.proofs.search_all.Statement.{statement}
 use Rattle.flight_search.proofs.search_all.Tie as tie
 
@@ -29,7 +29,7 @@ slice-aggregate-search-2 : tie.Need-slice-aggregate-search-2
 slice-aggregate-search-2 c = search starts-part
 
 search-requires : tie.Need-search-requires
-search-requires c κs = search root-asked
+search-requires c κs = search root-search-pre
 
 same-length : tie.Need-same-length
 same-length c = search needs

@@ -1,11 +1,11 @@
 -- `flight_search::try_order` meets its contract: the order is not possible, or is no better than the incumbent, or replaces it.
 use borrow.Author.Needs.{needs}
-use Rattle.flight_search.proofs.Trying.{try-rooms, figure-fits, try-impossible, try-first, tries}
+use Rattle.flight_search.proofs.Trying.{least-starts-pre, figure-fits, try-impossible, try-first, tries}
 use Rattle.flight_search.proofs.try_order.Statement.{statement}
 use Rattle.flight_search.proofs.try_order.Tie as tie
 
 least-starts-requires : tie.Need-least-starts-requires
-least-starts-requires c κs = search try-rooms
+least-starts-requires c κs = search least-starts-pre
 
 same-length : tie.Need-same-length
 same-length c = search needs

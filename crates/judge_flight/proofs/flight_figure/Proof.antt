@@ -2,13 +2,13 @@
 use Prim.Native.Nat.{_-_, _*_}
 use mathlib.Core.Path.{_≡_, refl}
 use borrow.Author.Needs.{needs}
-use Rattle.judge_flight.specs.Starts.{passesOf}
+use Rattle.plan_read.specs.PlanRead.{blocksFrom}
 use Rattle.judge_flight.specs.Laws.{LatestSoFar, latest-none, latest-more, latest-asked, latest-all}
 use Rattle.judge_flight.proofs.flight_figure.Statement.{statement}
 use Rattle.judge_flight.proofs.flight_figure.Tie as tie
 
 abbrev Inv-loop : tie.InvT-loop
-Inv-loop f plan at n greatest₀ p₀ greatest p = (n ≡ f .blocks) × LatestSoFar f (passesOf plan at (f .blocks)) p greatest
+Inv-loop f plan at n greatest₀ p₀ greatest p = (n ≡ f .blocks) × LatestSoFar f (blocksFrom plan at (f .blocks)) p greatest
 
 abbrev μ-loop : tie.MeasureT-loop
 μ-loop f plan at n greatest₀ p₀ greatest p = 2 * f .blocks - p

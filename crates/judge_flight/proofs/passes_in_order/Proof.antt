@@ -2,13 +2,13 @@
 use Prim.Native.Nat.{_-_, _*_}
 use mathlib.Core.Path.{_≡_, refl}
 use borrow.Author.Needs.{needs}
-use Rattle.judge_flight.specs.Starts.{passesOf}
+use Rattle.plan_read.specs.PlanRead.{blocksFrom}
 use Rattle.judge_flight.specs.Laws.{OrderedSoFar, ordered-none, ordered-more, ordered-wrong, ordered-all, this-position, next-position, next-start, this-end}
 use Rattle.judge_flight.proofs.passes_in_order.Statement.{statement}
 use Rattle.judge_flight.proofs.passes_in_order.Tie as tie
 
 abbrev Inv-loop : tie.InvT-loop
-Inv-loop f order plan at n k₀ k = (n ≡ f .blocks) × OrderedSoFar f order (passesOf plan at (f .blocks)) k
+Inv-loop f order plan at n k₀ k = (n ≡ f .blocks) × OrderedSoFar f order (blocksFrom plan at (f .blocks)) k
 
 abbrev μ-loop : tie.MeasureT-loop
 μ-loop f order plan at n k₀ k = 2 * f .blocks - k
@@ -23,13 +23,13 @@ mul-loop : tie.Need-mul-loop Inv-loop μ-loop
 mul-loop c = search needs
 
 pass-at-requires : tie.Need-pass-at-requires Inv-loop μ-loop
-pass-at-requires c κs = search this-position
+pass-at-requires c κs = (search needs, search this-position)
 
 add-pass-at : tie.Need-add-pass-at Inv-loop μ-loop
 add-pass-at c = search needs
 
 pass-at-requires-2 : tie.Need-pass-at-requires-2 Inv-loop μ-loop
-pass-at-requires-2 c κs = search next-position
+pass-at-requires-2 c κs = (search needs, search next-position)
 
 pass-start-requires : tie.Need-pass-start-requires Inv-loop μ-loop
 pass-start-requires c κs = search next-start

@@ -13,11 +13,8 @@ all-done-requires c κs = search needs
 returns-2 : tie.Need-returns-2
 returns-2 c = search head-sorting
 
-add-number : tie.Need-add-number
-add-number c = search needs
-
-number-requires : tie.Need-number-requires
-number-requires c κs = search needs
+order-from-requires : tie.Need-order-from-requires
+order-from-requires c κs = search needs
 
 add-flight-head : tie.Need-add-flight-head
 add-flight-head c = search needs
@@ -35,8 +32,7 @@ head-follows-spec =
     returns
     all-done-requires
     returns-2
-    add-number
-    number-requires
+    order-from-requires
     add-flight-head
     flight-head-requires
     returns-3)

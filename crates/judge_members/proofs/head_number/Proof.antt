@@ -13,11 +13,8 @@ returns c = search head-wrong
 figure-of-requires : tie.Need-figure-of-requires
 figure-of-requires c κs = search figure-asked
 
-add-number : tie.Need-add-number
-add-number c = search needs
-
-number-requires : tie.Need-number-requires
-number-requires c κs = search needs
+head-figure-requires : tie.Need-head-figure-requires
+head-figure-requires c κs = search needs
 
 returns-2 : tie.Need-returns-2
 returns-2 c = search figure-wrong
@@ -32,7 +29,6 @@ head-number-spec =
     head-follows-requires
     returns
     figure-of-requires
-    add-number
-    number-requires
+    head-figure-requires
     returns-2
     returns-3)

@@ -15,14 +15,17 @@ use Rattle.mosaic.specs.Laws.Attained.{AsEarly}
 
 module _ (m : MosaicSection) where
   -- two batches with the same last strip, the first as early as can be, after p and after r
-  first-start : (p r c b : Batch) → c .start ≡ mountStart (p .finish) (ready m (c .last)) → BatchFollows m r b → c .last ≡ b .last → p .finish ≤ r .finish → c .start ≤ b .start
+  first-start : (p r c b : Batch) → c .start ≡ mountStart (p .finish) (ready m (c .last)) → BatchFollows m r b → c .last ≡ b .last → p .finish ≤ r .finish
+      → c .start ≤ b .start
   unfolding mountStart
   first-start p r c b e B l f = omega (arith, B .lawful .waits-strip, B .lawful .waits-batch, ap (ready m) l)
 
-  first-finish : (p r c b : Batch) → BatchFollows m p c → BatchFollows m r b → p .last ≡ r .last → c .last ≡ b .last → c .start ≤ b .start → c .finish ≤ b .finish
+  first-finish : (p r c b : Batch) → BatchFollows m p c → BatchFollows m r b → p .last ≡ r .last → c .last ≡ b .last → c .start ≤ b .start
+      → c .finish ≤ b .finish
   first-finish p r c b C B e l s = omega (arith, finish-mono m p r c b e l s, C .lawful .finishes, B .lawful .finishes)
 
-  pub earliest : (cs bs : List Batch) (p r : Batch) → AsEarly m (p .finish) cs → MosaicRuns m p cs → MosaicRuns m r bs → p .last ≡ r .last → p .finish ≤ r .finish
+  pub earliest : (cs bs : List Batch) (p r : Batch) → AsEarly m (p .finish) cs → MosaicRuns m p cs → MosaicRuns m r bs → p .last ≡ r .last
+      → p .finish ≤ r .finish
       → lasts bs ≡ lasts cs → (i : ℕ) → i < length bs → getD cs i noBatch .start ≤ getD bs i noBatch .start
   unfolding AsEarly lasts
   earliest cs [] p r E C B l f e i h = absurd (omega arith)

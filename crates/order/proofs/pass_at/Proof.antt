@@ -1,18 +1,34 @@
--- `order::pass_at` meets its contract: a 64-bit number has no bit from 64 on.
-use mathlib.Core.Path.{sym}
+-- `order::pass_at` meets its contract: the bit decides, and the count of second passes is at most the position.
 use borrow.Author.Needs.{needs}
-use Rattle.order.specs.Seconds.{bit-above}
+use Rattle.order.specs.PassLaws.{second-fits, second-pass, first-pass}
 use Rattle.order.proofs.pass_at.Statement.{statement}
 use Rattle.order.proofs.pass_at.Tie as tie
 
-shr-result : tie.Need-shr-result
-shr-result c = search needs
+bit-requires : tie.Need-bit-requires
+bit-requires c κs = search needs
+
+seconds-before-requires : tie.Need-seconds-before-requires
+seconds-before-requires c κs = search needs
+
+add-result : tie.Need-add-result
+add-result c = record { fits = search second-fits }
 
 returns : tie.Need-returns
-returns c = search needs
+returns c = search second-pass
+
+firsts-before-requires : tie.Need-firsts-before-requires
+firsts-before-requires c κs = search needs
 
 returns-2 : tie.Need-returns-2
-returns-2 c = sym (bit-above (c .before .args .x) 64 (c .before .args .k) (c .before .fits .x .fits) (c .if1 .left))
+returns-2 c = search first-pass
 
 pub pass-at-spec : {M : Type 1} → statement M
-pass-at-spec = tie.close (tie.spec shr-result returns returns-2)
+pass-at-spec =
+    tie.close
+    (tie.spec
+    bit-requires
+    seconds-before-requires
+    add-result
+    returns
+    firsts-before-requires
+    returns-2)

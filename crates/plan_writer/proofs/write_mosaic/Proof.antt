@@ -7,8 +7,8 @@ use Rattle.plan_writer.proofs.write_mosaic.Tie as tie
 returns : tie.Need-returns
 returns c = search mosaic-absent
 
-put-figure-requires : tie.Need-put-figure-requires
-put-figure-requires c κs = search needs
+put-mosaic-head-requires : tie.Need-put-mosaic-head-requires
+put-mosaic-head-requires c κs = search needs
 
 add-put-mosaic-batches : tie.Need-add-put-mosaic-batches
 add-put-mosaic-batches c = search needs
@@ -36,7 +36,7 @@ write-mosaic-spec =
     tie.close
     (tie.spec
     returns
-    put-figure-requires
+    put-mosaic-head-requires
     add-put-mosaic-batches
     put-mosaic-batches-requires
     add-result

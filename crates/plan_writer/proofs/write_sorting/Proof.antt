@@ -7,8 +7,8 @@ use Rattle.plan_writer.proofs.write_sorting.Tie as tie
 returns : tie.Need-returns
 returns c = search sorting-absent
 
-put-figure-requires : tie.Need-put-figure-requires
-put-figure-requires c κs = search needs
+put-sorting-head-requires : tie.Need-put-sorting-head-requires
+put-sorting-head-requires c κs = search needs
 
 add-put-sorting-jobs : tie.Need-add-put-sorting-jobs
 add-put-sorting-jobs c = search needs
@@ -36,7 +36,7 @@ write-sorting-spec =
     tie.close
     (tie.spec
     returns
-    put-figure-requires
+    put-sorting-head-requires
     add-put-sorting-jobs
     put-sorting-jobs-requires
     add-result

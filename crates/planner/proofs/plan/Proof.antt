@@ -1,5 +1,5 @@
 -- `planner::plan` meets its contract: the two buffers first, then the call with the part of the table that it works in.
-use Rattle.planner.specs.Laws.{no-table, no-room, part-long, within-asked, called}
+use Rattle.planner.specs.Laws.{no-table, no-room, part-long, plan-within-pre, called}
 use borrow.Author.Needs.{needs}
 use Rattle.planner.proofs.plan.Statement.{statement}
 use Rattle.planner.proofs.plan.Tie as tie
@@ -17,7 +17,7 @@ slice-aggregate-plan-within : tie.Need-slice-aggregate-plan-within
 slice-aggregate-plan-within c = search part-long
 
 plan-within-requires : tie.Need-plan-within-requires
-plan-within-requires c κs = search within-asked
+plan-within-requires c κs = search plan-within-pre
 
 same-length : tie.Need-same-length
 same-length c = search needs

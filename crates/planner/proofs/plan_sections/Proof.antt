@@ -1,5 +1,5 @@
 -- `planner::plan_sections` meets its contract: each section is planned as its crate promises, and the joined bytes are the chosen plan.
-use Rattle.planner.specs.Laws.{sheet-refused, order-impossible, flight-asked, mosaic-asked, sorting-asked, writer-asked, sheet-planned}
+use Rattle.planner.specs.Laws.{sheet-refused, order-impossible, plan-flight-pre, plan-mosaic-pre, plan-sorting-pre, write-plan-pre, sheet-planned}
 use borrow.Author.Needs.{needs}
 use Rattle.planner.proofs.plan_sections.Statement.{statement}
 use Rattle.planner.proofs.plan_sections.Tie as tie
@@ -8,19 +8,19 @@ returns : tie.Need-returns
 returns c = search sheet-refused
 
 plan-flight-requires : tie.Need-plan-flight-requires
-plan-flight-requires c κs = search flight-asked
+plan-flight-requires c κs = search plan-flight-pre
 
 returns-2 : tie.Need-returns-2
 returns-2 c = search order-impossible
 
 plan-mosaic-requires : tie.Need-plan-mosaic-requires
-plan-mosaic-requires c κs = search mosaic-asked
+plan-mosaic-requires c κs = search plan-mosaic-pre
 
 plan-sorting-requires : tie.Need-plan-sorting-requires
-plan-sorting-requires c κs = search sorting-asked
+plan-sorting-requires c κs = search plan-sorting-pre
 
 write-plan-requires : tie.Need-write-plan-requires
-write-plan-requires c κs = search writer-asked
+write-plan-requires c κs = search write-plan-pre
 
 same-length : tie.Need-same-length
 same-length c = search needs

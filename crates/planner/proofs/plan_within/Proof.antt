@@ -1,5 +1,5 @@
 -- `planner::plan_within` meets its contract: what was read is planned, and the table is cleared on every way.
-use Rattle.planner.specs.Laws.{sections-asked, call-within}
+use Rattle.planner.specs.Laws.{plan-sections-pre, call-within}
 use borrow.Author.Needs.{needs}
 use Rattle.planner.proofs.plan_within.Statement.{statement}
 use Rattle.planner.proofs.plan_within.Tie as tie
@@ -8,7 +8,7 @@ read-requires : tie.Need-read-requires
 read-requires c κs = search needs
 
 plan-sections-requires : tie.Need-plan-sections-requires
-plan-sections-requires c κs = search sections-asked
+plan-sections-requires c κs = search plan-sections-pre
 
 clear-requires : tie.Need-clear-requires
 clear-requires c κs = search needs

@@ -1,5 +1,5 @@
 -- `sorting::plan_sorting` meets its contract: the section is an instance, the search returns its first best list, and the list's jobs are written.
-use Rattle.sorting.specs.Contracts.{lent-search, search-listed, planned}
+use Rattle.sorting.specs.Contracts.{search-pre, plan-of-pre, planned}
 use borrow.Author.Needs.{needs}
 use Rattle.sorting.proofs.plan_sorting.Statement.{statement}
 use Rattle.sorting.proofs.plan_sorting.Tie as tie
@@ -11,13 +11,13 @@ slice-aggregate-best-interleaving : tie.Need-slice-aggregate-best-interleaving
 slice-aggregate-best-interleaving c = search needs
 
 best-interleaving-requires : tie.Need-best-interleaving-requires
-best-interleaving-requires c κs = search lent-search
+best-interleaving-requires c κs = search search-pre
 
 slice-aggregate-plan-of : tie.Need-slice-aggregate-plan-of
 slice-aggregate-plan-of c = search needs
 
 plan-of-requires : tie.Need-plan-of-requires
-plan-of-requires c κs = search search-listed
+plan-of-requires c κs = search plan-of-pre
 
 same-length : tie.Need-same-length
 same-length c = search needs

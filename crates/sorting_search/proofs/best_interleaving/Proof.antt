@@ -1,6 +1,6 @@
 -- `sorting_search::best_interleaving` meets its contract: the table holds at the start, and the search from the greedy figure plus one returns
 -- what it returns from no incumbent.
-use Rattle.sorting_search.specs.Found.{bounded-start, searchable-start, found}
+use Rattle.sorting_search.specs.Found.{lower-bound-pre-start, search-pre-start, found}
 use borrow.Author.Needs.{needs}
 use Rattle.sorting_search.proofs.best_interleaving.Statement.{statement}
 use Rattle.sorting_search.proofs.best_interleaving.Tie as tie
@@ -15,13 +15,13 @@ start-state-requires : tie.Need-start-state-requires
 start-state-requires c κs = search needs
 
 greedy-requires : tie.Need-greedy-requires
-greedy-requires c κs = search bounded-start
+greedy-requires c κs = search lower-bound-pre-start
 
 add-t13 : tie.Need-add-t13
 add-t13 c = search needs
 
 search-requires : tie.Need-search-requires
-search-requires c κs = search searchable-start
+search-requires c κs = search search-pre-start
 
 same-length : tie.Need-same-length
 same-length c = search needs

@@ -4,8 +4,8 @@ use borrow.Author.Needs.{needs}
 use Rattle.plan_fields.proofs.heads.put_refusal.Statement.{statement}
 use Rattle.plan_fields.proofs.heads.put_refusal.Tie as tie
 
-put-head-requires : tie.Need-put-head-requires
-put-head-requires c κs = search needs
+put-tag-requires : tie.Need-put-tag-requires
+put-tag-requires c κs = search needs
 
 put-number-requires : tie.Need-put-number-requires
 put-number-requires c κs = search needs
@@ -21,4 +21,4 @@ returns c = search refusal-stored
 
 pub put-refusal-spec : {M : Type 1} → statement M
 put-refusal-spec =
-    tie.close (tie.spec put-head-requires put-number-requires put-number-requires-2 same-length returns)
+    tie.close (tie.spec put-tag-requires put-number-requires put-number-requires-2 same-length returns)

@@ -4,8 +4,8 @@ use borrow.Author.Needs.{needs}
 use Rattle.plan_fields.proofs.members.put_batch.Statement.{statement}
 use Rattle.plan_fields.proofs.members.put_batch.Tie as tie
 
-put-head-requires : tie.Need-put-head-requires
-put-head-requires c κs = search needs
+put-tag-requires : tie.Need-put-tag-requires
+put-tag-requires c κs = search needs
 
 add-put-number : tie.Need-add-put-number
 add-put-number c = search needs
@@ -29,13 +29,13 @@ same-length : tie.Need-same-length
 same-length c = search needs
 
 returns : tie.Need-returns
-returns c = batch-stored _ _ _ _ _ _ _ _ _ (c .before .before .before .before .before .before .before .before .before .before .before .before .before .before .put-head .ensures) (c .before .before .before .before .before .before .before .before .before .before .put-number .ensures) (c .before .before .before .before .before .before .put-number2 .ensures) (c .before .before .put-number3 .ensures)
+returns c = batch-stored _ _ _ _ _ _ _ _ _ (c .before .before .before .before .before .before .before .before .before .before .before .before .before .before .put-tag .ensures) (c .before .before .before .before .before .before .before .before .before .before .put-number .ensures) (c .before .before .before .before .before .before .put-number2 .ensures) (c .before .before .put-number3 .ensures)
 
 pub put-batch-spec : {M : Type 1} → statement M
 put-batch-spec =
     tie.close
     (tie.spec
-    put-head-requires
+    put-tag-requires
     add-put-number
     put-number-requires
     add-put-number-2

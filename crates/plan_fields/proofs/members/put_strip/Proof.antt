@@ -4,8 +4,8 @@ use borrow.Author.Needs.{needs}
 use Rattle.plan_fields.proofs.members.put_strip.Statement.{statement}
 use Rattle.plan_fields.proofs.members.put_strip.Tie as tie
 
-put-head-requires : tie.Need-put-head-requires
-put-head-requires c κs = search needs
+put-tag-requires : tie.Need-put-tag-requires
+put-tag-requires c κs = search needs
 
 add-put-number : tie.Need-add-put-number
 add-put-number c = search needs
@@ -29,7 +29,7 @@ pub put-strip-spec : {M : Type 1} → statement M
 put-strip-spec =
     tie.close
     (tie.spec
-    put-head-requires
+    put-tag-requires
     add-put-number
     put-number-requires
     add-put-number-2

@@ -1,5 +1,5 @@
 -- `sorting::writing::plan_of` meets its contract. The loop's invariant: the jobs written are those of the chosen list, and the state is the one that it has reached.
-use Rattle.sorting.specs.Writing.{Begun, begun-start, loop-digit, loop-appending, loop-serves, loop-falls, loop-more, begun-end}
+use Rattle.sorting.specs.Writing.{Begun, begun-start, loop-digit, loop-with-job-pre, loop-serves, loop-falls, loop-more, begun-end}
 use borrow.Author.Needs.{needs}
 use native.Mathlib.Omega.{arith}
 use Rattle.sorting.proofs.writing.plan_of.Statement.{statement}
@@ -27,7 +27,7 @@ sub-d : tie.Need-sub-d Inv-loop μ-loop
 sub-d c = search loop-digit
 
 with-job-requires : tie.Need-with-job-requires Inv-loop μ-loop
-with-job-requires c κs = search loop-appending
+with-job-requires c κs = search loop-with-job-pre
 
 step-requires : tie.Need-step-requires Inv-loop μ-loop
 step-requires c κs = search loop-serves

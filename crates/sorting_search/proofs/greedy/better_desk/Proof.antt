@@ -1,5 +1,5 @@
 -- `sorting_search::greedy::better_desk` meets its contract: both desks have a strip left where they are compared.
-use Rattle.sorting_search.specs.Greedy.{serve-if, bounded-step, better-other, better-chosen, better-none}
+use Rattle.sorting_search.specs.Greedy.{serve-if, lower-bound-pre-step, better-other, better-chosen, better-none}
 use borrow.Author.Needs.{needs}
 use Rattle.sorting_search.proofs.greedy.better_desk.Statement.{statement}
 use Rattle.sorting_search.proofs.greedy.better_desk.Tie as tie
@@ -11,13 +11,13 @@ step-requires : tie.Need-step-requires
 step-requires c κs = search needs
 
 lower-bound-requires : tie.Need-lower-bound-requires
-lower-bound-requires c κs = search bounded-step
+lower-bound-requires c κs = search lower-bound-pre-step
 
 step-requires-2 : tie.Need-step-requires-2
 step-requires-2 c κs = search serve-if
 
 lower-bound-requires-2 : tie.Need-lower-bound-requires-2
-lower-bound-requires-2 c κs = search (bounded-step, serve-if)
+lower-bound-requires-2 c κs = search (lower-bound-pre-step, serve-if)
 
 returns : tie.Need-returns
 returns c = search better-other
