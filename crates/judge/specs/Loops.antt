@@ -16,26 +16,26 @@ use Rattle.sheet.specs.declared.Sheet.{Sheet}
 use Rattle.plan_format.specs.Format.{sizeOf, mosaicHeadForm, batchForm, sortingHeadForm, jobForm, flightHeadForm, passesForm}
 use Rattle.plan_read.specs.PlanRead.{figureFrom}
 use Rattle.judge_layout.specs.Layout.{mosaicPart, sortingPart, flightPart, verdict, layoutVerdict}
-use Rattle.judge_layout.specs.Laws.{VerdictAsked, PartFits, parts-fit}
+use Rattle.judge_layout.specs.Laws.{LayoutVerdictPre, PartFits, parts-fit}
 use Rattle.judge_layout.specs.declared.Part.{Part}
 use Rattle.judge_layout.specs.declared.Verdict.{Verdict}
 use Rattle.judge_members.specs.Members.{present, headForm, memberForm, memberPlace, begun, memberFollows, afterMember, headNumber}
-use Rattle.judge_members.specs.Laws.{Kept, PlaceAsked, MemberAsked, AfterAsked, HeadAsked, begun-kept, member-kept}
+use Rattle.judge_members.specs.Laws.{Kept, MemberPlacePre, MemberFollowsPre, AfterMemberPre, HeadAsked, begun-kept, member-kept}
 use Rattle.judge_members.specs.declared.Progress.{Progress}
 use Rattle.judge.specs.Judged.{pickPart, partAt, sectionFrom, sectionVerdict, sectionsFrom, statedFigure, turnedBack, found, concluded, judgedPlan}
 use Rattle.judge.specs.Judged.{judged}
 use Rattle.judge.specs.declared.Judged.{Judged}
 
-pub record PartsAsked (s : Sheet) (plan : List ℕ) (mosaic sorting flight : Part) : Type 0 where
+pub record PickPartPre (s : Sheet) (plan : List ℕ) (mosaic sorting flight : Part) : Type 0 where
   pub sound : SheetSound s
-  pub parts : VerdictAsked s plan mosaic sorting flight
+  pub parts : LayoutVerdictPre s plan mosaic sorting flight
 
-pub record StatedAsked (s : Sheet) (plan : List ℕ) (section head : ℕ) : Type 0 where
+pub record StatedFigurePre (s : Sheet) (plan : List ℕ) (section head : ℕ) : Type 0 where
   pub sound : SheetSound s
   pub here : head ≡ partAt s plan section .head
 
 -- the part that is picked is the plan's
-pub picked : (s : Sheet) (plan : List ℕ) (section : ℕ) (mosaic sorting flight part : Part) → VerdictAsked s plan mosaic sorting flight
+pub picked : (s : Sheet) (plan : List ℕ) (section : ℕ) (mosaic sorting flight part : Part) → LayoutVerdictPre s plan mosaic sorting flight
     → part ≡ pickPart section mosaic sorting flight → part ≡ partAt s plan section
 unfolding partAt
 picked s plan section mosaic sorting flight part a e = e ∙ rw (a .mosaic-is, a .sorting-is, a .flight-is)
@@ -165,7 +165,7 @@ unfolding sectionFrom
 members-judged s plan section part k p = refl
 
 pub inner-start : (s : Sheet) (plan : List ℕ) (section : ℕ) (part mosaic sorting flight : Part) (p : Progress) (x : Bool) → Outer s plan section → section ≤ 3
-    → x ≡ present s section → not x ≡ false → PartsAsked s plan mosaic sorting flight → length plan * 1 < 2 ^ 63 → part ≡ pickPart section mosaic sorting flight
+    → x ≡ present s section → not x ≡ false → PickPartPre s plan mosaic sorting flight → length plan * 1 < 2 ^ 63 → part ≡ pickPart section mosaic sorting flight
     → p ≡ begun → Inner s plan section part 0 p
 inner-start s plan section part mosaic sorting flight p x o h ex hx a small ep eb =
     let e = picked s plan section mosaic sorting flight part (a .parts) ep in
@@ -198,7 +198,7 @@ module _ (s : Sheet) (plan : List ℕ) (section : ℕ) (part : Part) (k : ℕ) (
     before-end =
         let l : k ≤ part .members = omega arith in omega (arith, i .small, fits .within, fits .members, mul-le-mul-left (sizeOf (memberForm section)) l)
 
-    pub place-asked : PlaceAsked section (part .head) k
+    pub place-asked : MemberPlacePre section (part .head) k
     place-asked = record { room = place-small section (part .head) k before-end }
 
     pub index-fits : k + 1 < 2 ^ 64
@@ -207,14 +207,14 @@ module _ (s : Sheet) (plan : List ℕ) (section : ℕ) (part : Part) (k : ℕ) (
         omega (arith, before-end, mul-le-mul-left k l, mul-comm (sizeOf (memberForm section)) k)
 
     module _ (place : ℕ) (ep : place ≡ memberPlace section (part .head) k) where
-      pub member-asked : MemberAsked s p
+      pub member-asked : MemberFollowsPre s p
       member-asked = record { sound = i .sound; kept = i .kept }
 
       module _ (x : Bool) (ex : x ≡ memberFollows s plan section k place p) where
         followed : not x ≡ false → memberFollows s plan section k (memberPlace section (part .head) k) p ≡ true
         followed h = ap (λ n. memberFollows s plan section k n p) (sym ep) ∙ sym ex ∙ not-false x h
 
-        pub after-asked : not x ≡ false → AfterAsked s plan section place p
+        pub after-asked : not x ≡ false → AfterMemberPre s plan section place p
         after-asked h = record { asked = member-asked; index = k; follows = sym ex ∙ not-false x h }
 
         pub inner-wrong : not x ≡ true → _≡_ {A = Verdict} (record { number = ruleBroken; place = place }) (sectionsFrom 3 s plan 1)
@@ -270,7 +270,7 @@ module _ (s : Sheet) (plan : List ℕ) (section : ℕ) (part : Part) (k : ℕ) (
 
 -- the answer
 
-module _ (s : Sheet) (plan : List ℕ) (section head : ℕ) (a : StatedAsked s plan section head) (x : Bool) (ex : x ≡ present s section) where
+module _ (s : Sheet) (plan : List ℕ) (section head : ℕ) (a : StatedFigurePre s plan section head) (x : Bool) (ex : x ≡ present s section) where
   pub stated-none : not x ≡ true → 0 ≡ statedFigure s plan section
   unfolding statedFigure
   stated-none h = rw (← ex, not-true x h)
@@ -281,15 +281,15 @@ module _ (s : Sheet) (plan : List ℕ) (section head : ℕ) (a : StatedAsked s p
 
 module _ (s : Sheet) (plan : List ℕ) (mosaic sorting flight : Part) (em : mosaic ≡ mosaicPart s plan) (es : sorting ≡ sortingPart s plan)
     (ef : flight ≡ flightPart s plan) where
-  pub stated-mosaic : SheetSound s → StatedAsked s plan 1 (mosaic .head)
+  pub stated-mosaic : SheetSound s → StatedFigurePre s plan 1 (mosaic .head)
   unfolding partAt pickPart
   stated-mosaic sound = record { sound = sound; here = ap (λ p. p .head) em }
 
-  pub stated-sorting : SheetSound s → StatedAsked s plan 2 (sorting .head)
+  pub stated-sorting : SheetSound s → StatedFigurePre s plan 2 (sorting .head)
   unfolding partAt pickPart
   stated-sorting sound = record { sound = sound; here = ap (λ p. p .head) es }
 
-  pub stated-flight : SheetSound s → StatedAsked s plan 3 (flight .head)
+  pub stated-flight : SheetSound s → StatedFigurePre s plan 3 (flight .head)
   unfolding partAt pickPart
   stated-flight sound = record { sound = sound; here = ap (λ p. p .head) ef }
 

@@ -21,7 +21,7 @@ use Rattle.plan_read.specs.Laws.{member-at}
 use Rattle.running.specs.FunctionLaws.{TimeTold}
 use Rattle.rules.specs.declared.Passes.{Passes}
 use Rattle.judge_rules.specs.Follows.{passesInOrder, flightHead}
-use Rattle.judge_flight.specs.Starts.{startOf, endOf, StartAsked, StartTold, FigureTold, HeadAsked, PassesAsked, OrderAsked}
+use Rattle.judge_flight.specs.Starts.{startOf, endOf, PassStartPre, StartTold, FigureTold, FlightHeadPre, PassEndPre, PassesInOrderPre}
 
 module _ (f : FlightSection) (plan : List ℕ) (at p : ℕ) (known : p < 2 * f .blocks) where
   start-case : Dec (p < f .blocks) → startOf plan at (f .blocks) p ≡ passStart f (blocksFrom plan at (f .blocks)) p
@@ -78,7 +78,7 @@ pub ordered-none : (f : FlightSection) (order : ℕ) (ps : List Passes) → Orde
 unfolding passesInOrder
 ordered-none f order ps = record { within = omega arith; so-far = refl }
 
-module _ (f : FlightSection) (order : ℕ) (plan : List ℕ) (at k : ℕ) (a : OrderAsked f order at) (t : OrderedSoFar f order (blocksFrom plan at (f .blocks)) k)
+module _ (f : FlightSection) (order : ℕ) (plan : List ℕ) (at k : ℕ) (a : PassesInOrderPre f order at) (t : OrderedSoFar f order (blocksFrom plan at (f .blocks)) k)
     (less : k + 1 < 2 * f .blocks) (p q start end : ℕ) (ep : p ≡ passAt (f .blocks) order k) (eq : q ≡ passAt (f .blocks) order (k + 1))
     (ts : StartTold (startOf plan at (f .blocks) q) start) (te : FigureTold (endOf f plan at p) end) where
   known-p : p < 2 * f .blocks
@@ -122,17 +122,17 @@ ordered-all f order ps k t h = sym (ap (passesInOrder f order ps) all ∙ t .so-
     all : 2 * f .blocks - 1 ≡ k
     all = let w = t .within in omega arith
 
-module _ (f : FlightSection) (order at k p : ℕ) (a : OrderAsked f order at) (less : k + 1 < 2 * f .blocks) where
+module _ (f : FlightSection) (order at k p : ℕ) (a : PassesInOrderPre f order at) (less : k + 1 < 2 * f .blocks) where
   pub this-position : k < 64
   this-position = omega (arith, a .sound .most-blocks)
 
   pub next-position : k + 1 < 64
   next-position = omega (arith, a .sound .most-blocks)
 
-  pub next-start : p ≡ passAt (f .blocks) order (k + 1) → StartAsked at (f .blocks) p
+  pub next-start : p ≡ passAt (f .blocks) order (k + 1) → PassStartPre at (f .blocks) p
   next-start e = record { room = a .room; few = a .sound .most-blocks; known = rw e (pass-known (a .proper) (k + 1) less) }
 
-  pub this-end : p ≡ passAt (f .blocks) order k → PassesAsked f at p
+  pub this-end : p ≡ passAt (f .blocks) order k → PassEndPre f at p
   this-end e = record { sound = a .sound; room = a .room; known = rw e (pass-known (a .proper) k (omega arith)) }
 
 -- the greatest end of the first p passes
@@ -158,7 +158,7 @@ module _ (f : FlightSection) (plan : List ℕ) (at p value : ℕ) (t : LatestSoF
         fits = omega arith;
       }
 
-  pub latest-asked : HeadAsked f at → p < 2 * f .blocks → PassesAsked f at p
+  pub latest-asked : FlightHeadPre f at → p < 2 * f .blocks → PassEndPre f at p
   latest-asked a h = record { sound = a .sound; room = a .room; known = h }
 
   pub latest-all : 2 * f .blocks ≤ p → FigureTold (flightFigure f (blocksFrom plan at (f .blocks))) value
@@ -169,7 +169,7 @@ module _ (f : FlightSection) (plan : List ℕ) (at p value : ℕ) (t : LatestSoF
       all = let w = t .within in omega arith
 
 -- the head of the flight
-pub order-asked : (f : FlightSection) (order at : ℕ) (x : Bool) → x ≡ isProper (f .blocks) order → not x ≡ false → HeadAsked f at → OrderAsked f order at
+pub order-asked : (f : FlightSection) (order at : ℕ) (x : Bool) → x ≡ isProper (f .blocks) order → not x ≡ false → FlightHeadPre f at → PassesInOrderPre f order at
 order-asked f order at x ex hx a = record { sound = a .sound; room = a .room; proper = proper-true (f .blocks) order (sym ex ∙ not-false x hx) }
 
 given-right : (o e : Bool) → o ≡ true → e ≡ true → (not o || e) ≡ true

@@ -18,7 +18,7 @@ startOf plan at n p = cond (ltb p n) (passesFrom plan (at + sizeOf passesForm * 
 unfoldable pub endOf : FlightSection → List ℕ → ℕ → ℕ → ℕ
 endOf f plan at p = startOf plan at (f .blocks) p + passTime f p
 
-pub record StartAsked (at n p : ℕ) : Type 0 where
+pub record PassStartPre (at n p : ℕ) : Type 0 where
   pub room : at + sizeOf passesForm * mostBlocks < 2 ^ 64
   pub few : n ≤ mostBlocks
   pub known : p < 2 * n
@@ -32,16 +32,16 @@ pub record FigureTold (value r : ℕ) : Type 0 where
   pub is : r ≡ value
   pub fits : r < 2 ^ (8 * widthOf passesForm 0 + 1)
 
-pub record HeadAsked (f : FlightSection) (at : ℕ) : Type 0 where
+pub record FlightHeadPre (f : FlightSection) (at : ℕ) : Type 0 where
   pub sound : FlightSound f
   pub room : at + sizeOf passesForm * mostBlocks < 2 ^ 64
 
-pub record PassesAsked (f : FlightSection) (at p : ℕ) : Type 0 where
+pub record PassEndPre (f : FlightSection) (at p : ℕ) : Type 0 where
   pub sound : FlightSound f
   pub room : at + sizeOf passesForm * mostBlocks < 2 ^ 64
   pub known : p < 2 * f .blocks
 
-pub record OrderAsked (f : FlightSection) (order at : ℕ) : Type 0 where
+pub record PassesInOrderPre (f : FlightSection) (order at : ℕ) : Type 0 where
   pub sound : FlightSound f
   pub room : at + sizeOf passesForm * mostBlocks < 2 ^ 64
   pub proper : Proper (f .blocks) order

@@ -11,11 +11,11 @@ ghost use Prim.Native.Nat.{_+_, _-_, _*_, _<_};
 ghost use Rattle.rules.specs.Flight.{flightFigure};
 ghost use Rattle.plan_read.specs.PlanRead.{blocksFrom};
 ghost use Rattle.judge_rules.specs.Follows.{passesInOrder, flightHead};
-ghost use Rattle.judge_flight.specs.Starts.{StartAsked, StartTold, PassesAsked, OrderAsked, FigureTold, HeadAsked, startOf, endOf};
+ghost use Rattle.judge_flight.specs.Starts.{PassStartPre, StartTold, PassEndPre, PassesInOrderPre, FigureTold, FlightHeadPre, startOf, endOf};
 
 // The start of pass p of n blocks.
 fn pass_start(plan: &[u8], at: usize, n: usize, p: usize) -> u64
-    requires { ⌜ StartAsked at n p ⌝ }
+    requires { ⌜ PassStartPre at n p ⌝ }
     ensures { λ r. ⌜ StartTold (startOf (now (plan .entry)) at n p) r ⌝ }
 {
     if p < n {
@@ -28,7 +28,7 @@ fn pass_start(plan: &[u8], at: usize, n: usize, p: usize) -> u64
 
 // The end of pass p.
 fn pass_end(f: FlightSection, plan: &[u8], at: usize, p: usize) -> u64
-    requires { ⌜ PassesAsked f at p ⌝ }
+    requires { ⌜ PassEndPre f at p ⌝ }
     ensures { λ r. ⌜ FigureTold (endOf f (now (plan .entry)) at p) r ⌝ }
 {
     pass_start(plan, at, f.blocks, p) + pass_time(f, p)
@@ -36,7 +36,7 @@ fn pass_end(f: FlightSection, plan: &[u8], at: usize, p: usize) -> u64
 
 // Whether each pass starts no earlier than the one before it in the order ends.
 pub fn passes_in_order(f: FlightSection, order: u64, plan: &[u8], at: usize) -> bool
-    requires { ⌜ OrderAsked f order at ⌝ }
+    requires { ⌜ PassesInOrderPre f order at ⌝ }
     ensures { λ r. ⌜ r ≡ passesInOrder f order (blocksFrom (now (plan .entry)) at (f .blocks)) (2 * f .blocks - 1) ⌝ }
 {
     let n = f.blocks;
@@ -54,7 +54,7 @@ pub fn passes_in_order(f: FlightSection, order: u64, plan: &[u8], at: usize) -> 
 
 // The end of the last pass.
 pub fn flight_figure(f: FlightSection, plan: &[u8], at: usize) -> u64
-    requires { ⌜ HeadAsked f at ⌝ }
+    requires { ⌜ FlightHeadPre f at ⌝ }
     ensures { λ r. ⌜ FigureTold (flightFigure f (blocksFrom (now (plan .entry)) at (f .blocks))) r ⌝ }
 {
     let n = f.blocks;
@@ -69,7 +69,7 @@ pub fn flight_figure(f: FlightSection, plan: &[u8], at: usize) -> u64
 
 // What is checked at the head of a flight, its members judged.
 pub fn flight_head(f: FlightSection, members: usize, order: u64, plan: &[u8], at: usize) -> bool
-    requires { ⌜ HeadAsked f at ⌝ }
+    requires { ⌜ FlightHeadPre f at ⌝ }
     ensures { λ r. ⌜ r ≡ flightHead f members order (blocksFrom (now (plan .entry)) at members) ⌝ }
 {
     if members != f.blocks {

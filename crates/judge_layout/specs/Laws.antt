@@ -21,7 +21,7 @@ use Rattle.judge_layout.specs.declared.Part.{Part}
 use Rattle.judge_layout.specs.declared.Verdict.{Verdict}
 
 -- a head of a content length stands at the offset
-pub record PartAsked (plan : List ℕ) (at headLen len : ℕ) : Type 0 where
+pub record PartFromPre (plan : List ℕ) (at headLen len : ℕ) : Type 0 where
   pub within : at + (3 + headLen) ≤ length plan
   pub short : len ≤ 65535
 
@@ -95,7 +95,7 @@ times-more n k = add-mul n 1 k ∙ ap (λ m. n * k + m) (one-mul k)
 times-suc : (n k : ℕ) → suc n * k ≡ n * k + k
 times-suc n k = ap (λ m. m * k) (sym (add-one n)) ∙ times-more n k
 
-pub counted-none : (plan : List ℕ) (at headLen tag len : ℕ) → PartAsked plan at headLen len → Counted plan (at + (3 + headLen)) tag len 0 (at + (3 + headLen))
+pub counted-none : (plan : List ℕ) (at headLen tag len : ℕ) → PartFromPre plan at headLen len → Counted plan (at + (3 + headLen)) tag len 0 (at + (3 + headLen))
 counted-none plan at headLen tag len a =
     let w = a .within in
     record { turns = length plan; enough = omega arith; within = a .within; ahead = omega arith; place = omega (arith, times-zero (3 + len)); same = omega arith }
@@ -152,7 +152,7 @@ module _ (present : Bool) (plan : List ℕ) (at headTag headLen tag len : ℕ) w
     part-right r h e = rw (not-false present hp, ← ex, not-false x h) e
 
 pub part-asked : (plan : List ℕ) (at headTag headLen len : ℕ) (x : Bool) → x ≡ isField (fieldAt plan at) headTag headLen → not x ≡ false → len ≤ 65535
-    → PartAsked plan at headLen len
+    → PartFromPre plan at headLen len
 part-asked plan at headTag headLen len x ex h l = record { within = field-within plan at headTag headLen (sym ex ∙ not-false x h); short = l }
 
 -- the fields that follow lie within the plan
@@ -193,13 +193,13 @@ part-fits true plan at headTag headLen tag len h = go (isField (fieldAt plan at)
         }
     go false e = record { within = h; members = none }
 
-pub record VerdictAsked (s : Sheet) (plan : List ℕ) (mosaic sorting flight : Part) : Type 0 where
+pub record LayoutVerdictPre (s : Sheet) (plan : List ℕ) (mosaic sorting flight : Part) : Type 0 where
   pub mosaic-is : mosaic ≡ mosaicPart s plan
   pub sorting-is : sorting ≡ sortingPart s plan
   pub flight-is : flight ≡ flightPart s plan
 
 -- 12, by what is not right first
-module _ (s : Sheet) (plan : List ℕ) (mosaic sorting flight : Part) (a : VerdictAsked s plan mosaic sorting flight) where
+module _ (s : Sheet) (plan : List ℕ) (mosaic sorting flight : Part) (a : LayoutVerdictPre s plan mosaic sorting flight) where
   right-of : (p q : Part) (b : Bool) → p ≡ q → p .right ≡ b → q .right ≡ b
   right-of p q b e h = sym (ap (λ x. x .right) e) ∙ h
 

@@ -22,7 +22,7 @@ ghost use Prim.Native.Nat.{_+_, _≤_, _<_};
 ghost use lib.ListN.{length};
 ghost use Rattle.field.specs.Field.{fieldAt};
 ghost use Rattle.judge_layout.specs.Layout.{isField, partFrom, partOf, mosaicPart, sortingPart, flightPart, layoutVerdict};
-ghost use Rattle.judge_layout.specs.Laws.{PartAsked, VerdictAsked};
+ghost use Rattle.judge_layout.specs.Laws.{PartFromPre, LayoutVerdictPre};
 ghost use Rattle.sheet.specs.Sound.{SortingSound};
 
 // A section of a plan: the place of its head, its members, and the place behind its last one. Where its head is not the one due, it is not right.
@@ -57,7 +57,7 @@ fn is_field(plan: &[u8], at: usize, tag: u8, length: usize) -> bool
 
 // The section whose head stands at an offset, with the members that follow it.
 fn part_from(plan: &[u8], at: usize, head_length: usize, tag: u8, length: usize) -> Part
-    requires { ⌜ PartAsked (now plan) at «head_length» length ⌝ }
+    requires { ⌜ PartFromPre (now plan) at «head_length» length ⌝ }
     ensures { λ r. ⌜ r ≡ partFrom (now (plan .entry)) at «head_length» tag length ⌝ }
 {
     let mut end = at + (CONTENT + head_length);
@@ -158,7 +158,7 @@ pub fn flight_part(s: Sheet, plan: &[u8], at: usize) -> Part
 
 // 12 and its place, 0 and 0 where the plan is laid out as its sheet asks.
 pub fn layout_verdict(s: Sheet, plan: &[u8], mosaic: Part, sorting: Part, flight: Part) -> Verdict
-    requires { ⌜ VerdictAsked s (now plan) mosaic sorting flight ⌝ }
+    requires { ⌜ LayoutVerdictPre s (now plan) mosaic sorting flight ⌝ }
     ensures { λ r. ⌜ r ≡ layoutVerdict s (now (plan .entry)) ⌝ }
 {
     if !mosaic.right {

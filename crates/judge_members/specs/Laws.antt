@@ -26,7 +26,7 @@ use Rattle.rules.specs.declared.Job.{Job}
 use Rattle.rules.specs.declared.Passes.{Passes}
 use Rattle.running.specs.declared.Desks.{Desks}
 use Rattle.judge_rules.specs.Follows.{batchInRun, batchInTime, batchFollows, jobInTurn, jobInTime, jobFollows, blockFollows, allDone, flightHead}
-use Rattle.judge_rules.specs.Asked.{DesksFit, BatchAsked, JobAsked, JobTaken, BlockAsked}
+use Rattle.judge_rules.specs.Contracts.{DesksFit, BatchFollowsPre, JobFollowsPre, AfterJobPre, BlockFollowsPre}
 use Rattle.judge_flight.specs.Starts.{FigureTold}
 use Rattle.judge_layout.specs.declared.Part.{Part}
 use Rattle.judge_members.specs.Members.{present, headForm, memberForm, memberPlace, begun, memberFollows, afterBatch, afterStrip, afterMember}
@@ -39,36 +39,36 @@ pub record Kept (p : Progress) : Type 0 where
   pub most-last : p .before .last ≤ mostStrips
   pub most-figure : p .figure ≤ (p .before .last + getD (p .desks .done) 0 0 + getD (p .desks .done) 1 0 + getD (p .desks .done) 2 0) * ceiling
 
-pub record PlaceAsked (section head k : ℕ) : Type 0 where
+pub record MemberPlacePre (section head k : ℕ) : Type 0 where
   pub room : memberPlace section head k < 2 ^ 64
 
-pub record MemberAsked (s : Sheet) (p : Progress) : Type 0 where
+pub record MemberFollowsPre (s : Sheet) (p : Progress) : Type 0 where
   pub sound : SheetSound s
   pub kept : Kept p
 
-pub record AfterAsked (s : Sheet) (plan : List ℕ) (section place : ℕ) (p : Progress) : Type 0 where
-  pub asked : MemberAsked s p
+pub record AfterMemberPre (s : Sheet) (plan : List ℕ) (section place : ℕ) (p : Progress) : Type 0 where
+  pub asked : MemberFollowsPre s p
   pub index : ℕ
   pub follows : memberFollows s plan section index place p ≡ true
 
-pub record AfterBatchAsked (p : Progress) (b : Batch) : Type 0 where
+pub record AfterBatchPre (p : Progress) (b : Batch) : Type 0 where
   pub kept : Kept p
   pub rises : p .before .last ≤ b .last
   pub most-last : b .last ≤ mostStrips
   pub within : b .finish ≤ ceiling
 
-pub record AfterStripAsked (s : Sheet) (p : Progress) (j : Job) : Type 0 where
+pub record AfterStripPre (s : Sheet) (p : Progress) (j : Job) : Type 0 where
   pub kept : Kept p
-  pub taken : JobTaken (s .sorting) (p .desks) j
+  pub taken : AfterJobPre (s .sorting) (p .desks) j
   pub in-turn : j .number ≡ getD (p .desks .done) (j .desk - 1) 0 + 1
   pub within : deskFinish (s .sorting) j ≤ ceiling
 
-pub record HeadAsked (s : Sheet) (part : Part) : Type 0 where
+pub record HeadNumberPre (s : Sheet) (part : Part) : Type 0 where
   pub sound : SheetSound s
   pub room : part .head + sizeOf flightHeadForm + sizeOf passesForm * mostBlocks < 2 ^ 64
 
-pub record FigureAsked (s : Sheet) (plan : List ℕ) (section : ℕ) (part : Part) (p : Progress) : Type 0 where
-  pub asked : HeadAsked s part
+pub record FigureOfPre (s : Sheet) (plan : List ℕ) (section : ℕ) (part : Part) (p : Progress) : Type 0 where
+  pub asked : HeadNumberPre s part
   pub follows : headFollows s plan section part p ≡ true
 
 -- the section by its number
@@ -130,13 +130,13 @@ module _ (section : ℕ) where
     unfolding memberPlace
     place-is = rw (es, et)
 
-    pub place-fits : PlaceAsked section head k → head + skip + k * step < 2 ^ 64
+    pub place-fits : MemberPlacePre section head k → head + skip + k * step < 2 ^ 64
     place-fits a = omega (arith, place-is, a .room)
 
-    pub members-fit : PlaceAsked section head k → k * step < 2 ^ 64
+    pub members-fit : MemberPlacePre section head k → k * step < 2 ^ 64
     members-fit a = omega (arith, place-fits a)
 
-  pub head-fits : (head k skip : ℕ) → skip ≡ sizeOf (headForm section) → PlaceAsked section head k → head + skip < 2 ^ 64
+  pub head-fits : (head k skip : ℕ) → skip ≡ sizeOf (headForm section) → MemberPlacePre section head k → head + skip < 2 ^ 64
   unfolding memberPlace
   head-fits head k skip es a = omega (arith, es, a .room)
 
@@ -157,14 +157,14 @@ module _ (s : Sheet) (plan : List ℕ) (section k place : ℕ) (p : Progress) (r
   unfolding memberFollows
   member-block q h₁ h₂ t h = h ∙ rw (ne-eqb _ _ h₁, ne-eqb _ _ h₂, t .is)
 
-module _ (s : Sheet) (plan : List ℕ) (place : ℕ) (p : Progress) (a : MemberAsked s p) where
-  pub batch-asked : (b : Batch) → BatchRead plan place b → BatchAsked (s .mosaic) b
+module _ (s : Sheet) (plan : List ℕ) (place : ℕ) (p : Progress) (a : MemberFollowsPre s p) where
+  pub batch-asked : (b : Batch) → BatchRead plan place b → BatchFollowsPre (s .mosaic) b
   batch-asked b t = record { sound = a .sound .mosaic; fits = t .fits }
 
-  pub job-asked : (j : Job) → JobRead plan place j → JobAsked (s .sorting) (p .desks) j
+  pub job-asked : (j : Job) → JobRead plan place j → JobFollowsPre (s .sorting) (p .desks) j
   job-asked j t = record { sound = a .sound .sorting; desks = a .kept .desks; fits = t .fits }
 
-  pub block-asked : (q : Passes) → PassesRead plan place q → BlockAsked (s .flight) q
+  pub block-asked : (q : Passes) → PassesRead plan place q → BlockFollowsPre (s .flight) q
   block-asked q t = record { sound = a .sound .flight; fits = t .fits }
 
 -- after a member that follows
@@ -202,14 +202,14 @@ job-facts s p j e =
     let v = both _ _ (u .1) in
     (leb-true _ _ (t .0), leb-true _ _ (u .0), eqb-true _ _ (v .0), leb-true _ _ (v .1), job-within _ _ _ _ _ _ (x .1))
 
-module _ (s : Sheet) (plan : List ℕ) (section place : ℕ) (p : Progress) (a : AfterAsked s plan section place p) where
-  pub after-batch-asked : (b : Batch) → section ≡ 1 → BatchRead plan place b → AfterBatchAsked p b
+module _ (s : Sheet) (plan : List ℕ) (section place : ℕ) (p : Progress) (a : AfterMemberPre s plan section place p) where
+  pub after-batch-asked : (b : Batch) → section ≡ 1 → BatchRead plan place b → AfterBatchPre p b
   unfolding memberFollows
   after-batch-asked b e t =
       let f = batch-facts s p b (rw (t .is) (rw e at (a .follows))) in
       record { kept = a .asked .kept; rises = omega (arith, f .0); most-last = omega (arith, f .1, a .asked .sound .mosaic .most-strips); within = f .2 }
 
-  pub after-strip-asked : (j : Job) → section ≡ 2 → JobRead plan place j → AfterStripAsked s p j
+  pub after-strip-asked : (j : Job) → section ≡ 2 → JobRead plan place j → AfterStripPre s p j
   unfolding memberFollows stripsOf
   after-strip-asked j e t =
       let f = job-facts s p j (rw (t .is) (rw e at (a .follows))) in
@@ -246,7 +246,7 @@ product-most x y h = mul-le-mul-left x h
 sums-few : (d : Desks) → DesksFit d → getD (d .done) 0 0 + getD (d .done) 1 0 + getD (d .done) 2 0 ≤ 18
 sums-few d f = omega (arith, f .most-done 0, f .most-done 1, f .most-done 2)
 
-module _ (p : Progress) (b : Batch) (a : AfterBatchAsked p b) where
+module _ (p : Progress) (b : Batch) (a : AfterBatchPre p b) where
   most : (b .last - p .before .last) * b .finish ≤ (b .last - p .before .last) * ceiling
   most = product-most (b .last - p .before .last) (b .finish) (a .within)
 
@@ -269,7 +269,7 @@ module _ (p : Progress) (b : Batch) (a : AfterBatchAsked p b) where
       let r = a .rises in
       record { desks = a .kept .desks; most-last = a .most-last; most-figure = omega (arith, most) }
 
-module _ (s : Sheet) (p : Progress) (j : Job) (a : AfterStripAsked s p j) where
+module _ (s : Sheet) (p : Progress) (j : Job) (a : AfterStripPre s p j) where
   pub strip-figure-fits : (time : ℕ) → TimeTold (deskTime (s .sorting) j) time → p .figure + (j .start + time) < 2 ^ 64
   strip-figure-fits time t =
       let l = a .kept .most-last in
@@ -368,7 +368,7 @@ module _ (s : Sheet) (plan : List ℕ) (section : ℕ) (part : Part) (p : Progre
   unfolding figureOf
   figure-sorting e = rw e
 
-  pub figure-flight : (r : ℕ) → FigureAsked s plan section part p → (section ≡ 1 → ⊥) → (section ≡ 2 → ⊥)
+  pub figure-flight : (r : ℕ) → FigureOfPre s plan section part p → (section ≡ 1 → ⊥) → (section ≡ 2 → ⊥)
       → FigureTold (flightFigure (s .flight) (blocksFrom plan (part .head + sizeOf flightHeadForm) (s .flight .blocks))) r → r ≡ figureOf s plan section part p
   unfolding figureOf headFollows flightHead
   figure-flight r a h₁ h₂ t =
@@ -382,7 +382,7 @@ module _ (s : Sheet) (plan : List ℕ) (section : ℕ) (part : Part) (p : Progre
     head-wrong h = rw (← ex, not-true x h)
 
     module _ (hx : not x ≡ false) where
-      pub figure-asked : HeadAsked s part → FigureAsked s plan section part p
+      pub figure-asked : HeadNumberPre s part → FigureOfPre s plan section part p
       figure-asked a = record { asked = a; follows = sym ex ∙ not-false x hx }
 
       pub figure-wrong : (figure stated : ℕ) → figure ≡ figureOf s plan section part p → stated ≡ figureFrom (headForm section) plan (part .head)

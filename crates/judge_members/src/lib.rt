@@ -35,7 +35,7 @@ ghost use Rattle.plan_format.specs.Format.{sizeOf};
 ghost use Rattle.plan_read.specs.PlanRead.{figureFrom};
 ghost use Rattle.judge_members.specs.Members.{present, headForm, memberForm, memberPlace, begun, memberFollows, afterBatch, afterStrip, afterMember};
 ghost use Rattle.judge_members.specs.Members.{headFollows, figureOf, headNumber};
-ghost use Rattle.judge_members.specs.Laws.{PlaceAsked, MemberAsked, AfterAsked, AfterBatchAsked, AfterStripAsked, HeadAsked, FigureAsked};
+ghost use Rattle.judge_members.specs.Laws.{MemberPlacePre, MemberFollowsPre, AfterMemberPre, AfterBatchPre, AfterStripPre, HeadNumberPre, FigureOfPre};
 
 // How far the members of a section have been judged: the batch before, the desks, the figure so far.
 pub struct Progress {
@@ -87,7 +87,7 @@ fn member_size(section: u64) -> usize
 
 // The place of member k, from 0, of a section whose head stands at an offset.
 pub fn member_place(section: u64, head: usize, k: usize) -> usize
-    requires { ⌜ PlaceAsked section head k ⌝ }
+    requires { ⌜ MemberPlacePre section head k ⌝ }
     ensures { λ r. ⌜ r ≡ memberPlace section head k ⌝ }
 {
     head + head_size(section) + k * member_size(section)
@@ -121,7 +121,7 @@ pub fn member_follows(
     place: usize,
     progress: Progress,
 ) -> bool
-    requires { ⌜ MemberAsked s progress ⌝ }
+    requires { ⌜ MemberFollowsPre s progress ⌝ }
     ensures { λ r. ⌜ r ≡ memberFollows s (now (plan .entry)) section k place progress ⌝ }
 {
     if section == 1 {
@@ -139,7 +139,7 @@ pub fn member_follows(
 }
 
 fn after_batch(progress: Progress, b: Batch) -> Progress
-    requires { ⌜ AfterBatchAsked progress b ⌝ }
+    requires { ⌜ AfterBatchPre progress b ⌝ }
     ensures { λ r. ⌜ r ≡ afterBatch progress b ⌝ }
 {
     let desks = progress.desks;
@@ -152,7 +152,7 @@ fn after_batch(progress: Progress, b: Batch) -> Progress
 }
 
 fn after_strip(s: Sheet, progress: Progress, j: Job) -> Progress
-    requires { ⌜ AfterStripAsked s progress j ⌝ }
+    requires { ⌜ AfterStripPre s progress j ⌝ }
     ensures { λ r. ⌜ r ≡ afterStrip s progress j ⌝ }
 {
     let t = s.sorting;
@@ -174,7 +174,7 @@ pub fn after_member(
     place: usize,
     progress: Progress,
 ) -> Progress
-    requires { ⌜ AfterAsked s (now plan) section place progress ⌝ }
+    requires { ⌜ AfterMemberPre s (now plan) section place progress ⌝ }
     ensures { λ r. ⌜ r ≡ afterMember s (now (plan .entry)) section place progress ⌝ }
 {
     if section == 1 {
@@ -188,7 +188,7 @@ pub fn after_member(
 
 // Whether a head follows its members.
 fn head_follows(s: Sheet, plan: &[u8], section: u64, part: Part, progress: Progress) -> bool
-    requires { ⌜ HeadAsked s part ⌝ }
+    requires { ⌜ HeadNumberPre s part ⌝ }
     ensures { λ r. ⌜ r ≡ headFollows s (now (plan .entry)) section part progress ⌝ }
 {
     if section == 1 {
@@ -212,7 +212,7 @@ fn head_follows(s: Sheet, plan: &[u8], section: u64, part: Part, progress: Progr
 
 // The figure that the rules give, the head judged.
 fn figure_of(s: Sheet, plan: &[u8], section: u64, part: Part, progress: Progress) -> u64
-    requires { ⌜ FigureAsked s (now plan) section part progress ⌝ }
+    requires { ⌜ FigureOfPre s (now plan) section part progress ⌝ }
     ensures { λ r. ⌜ r ≡ figureOf s (now (plan .entry)) section part progress ⌝ }
 {
     if section == 1 {
@@ -240,7 +240,7 @@ pub fn head_figure(plan: &[u8], section: u64, head: usize) -> u64
 
 // 13 or 14 at a head, 0 where it follows and its figure is true.
 pub fn head_number(s: Sheet, plan: &[u8], section: u64, part: Part, progress: Progress) -> u64
-    requires { ⌜ HeadAsked s part ⌝ }
+    requires { ⌜ HeadNumberPre s part ⌝ }
     ensures { λ r. ⌜ r ≡ headNumber s (now (plan .entry)) section part progress ⌝ }
 {
     if !head_follows(s, plan, section, part, progress) {

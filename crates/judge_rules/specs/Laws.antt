@@ -17,13 +17,13 @@ use Rattle.rules.specs.Mosaic.{ready, finishDue}
 use Rattle.rules.specs.Flight.{secondDue}
 use Rattle.rules.specs.Sorting.{stripsOf, scanTime, deskTime, scanEnd, deskFinish}
 use Rattle.running.specs.Running.{afterJob}
-use Rattle.running.specs.FunctionLaws.{ReadyPre, FinishPre, SumTold, SlotPre, TimeTold}
+use Rattle.running.specs.FunctionLaws.{ReadyTimePre, FinishDuePre, SumTold, SlotPre, TimeTold}
 use Rattle.rules.specs.declared.Batch.{Batch}
 use Rattle.rules.specs.declared.Job.{Job}
 use Rattle.rules.specs.declared.Passes.{Passes}
 use Rattle.running.specs.declared.Desks.{Desks}
 use Rattle.judge_rules.specs.Follows.{batchInRun, batchInTime, batchFollows, jobInTurn, jobInTime, jobFollows, blockInTime, blockFollows, allDone}
-use Rattle.judge_rules.specs.Asked.{BatchAsked, JobAsked, JobTaken, BlockAsked}
+use Rattle.judge_rules.specs.Contracts.{BatchFollowsPre, JobFollowsPre, AfterJobPre, BlockFollowsPre}
 
 -- batches
 
@@ -40,10 +40,10 @@ module _ (m : MosaicSection) (before b : Batch) (x : Bool) (ex : x ≡ batchInRu
     in-run : (before .last < b .last) × (b .last ≤ m .strips)
     in-run = run-is (m .strips) (before .last) (b .last) (sym ex ∙ not-false x h)
 
-    pub batch-ready : BatchAsked m b → ReadyPre m (b .last)
+    pub batch-ready : BatchFollowsPre m b → ReadyTimePre m (b .last)
     batch-ready a = record { sound = a .sound; strips = omega (arith, in-run .1, a .sound .most-strips) }
 
-    pub batch-due : BatchAsked m b → FinishPre m before b
+    pub batch-due : BatchFollowsPre m b → FinishDuePre m before b
     batch-due a =
         record { sound = a .sound; rises = omega (arith, in-run .0); strips = omega (arith, in-run .1, a .sound .most-strips); fits = a .fits .start }
 
@@ -73,7 +73,7 @@ turn-is desks strips done desk number e =
     let r = both _ _ (q .1) in
     (leb-true _ _ (p .0), leb-true _ _ (q .0), eqb-true _ _ (r .0), leb-true _ _ (r .1))
 
-pub done-few : (s : SortingSection) (d : Desks) (j : Job) (done : ℕ) → JobAsked s d j → done ≡ getD (d .done) (j .desk - 1) 0 → done ≤ 6
+pub done-few : (s : SortingSection) (d : Desks) (j : Job) (done : ℕ) → JobFollowsPre s d j → done ≡ getD (d .done) (j .desk - 1) 0 → done ≤ 6
 done-few s d j done a e = rw e (a .desks .most-done (j .desk - 1))
 
 module _ (s : SortingSection) (d : Desks) (j : Job) (strips done : ℕ) (es : strips ≡ stripsOfDesk (s .counts) (j .desk))
@@ -87,7 +87,7 @@ module _ (s : SortingSection) (d : Desks) (j : Job) (strips done : ℕ) (es : st
   unfolding jobFollows
   job-wrong h = rw (turned, not-true x h)
 
-  module _ (h : not x ≡ false) (a : JobAsked s d j) where
+  module _ (h : not x ≡ false) (a : JobFollowsPre s d j) where
     pub job-slot : SlotPre s j
     unfolding stripsOfDesk
     job-slot =
@@ -105,7 +105,7 @@ module _ (s : SortingSection) (d : Desks) (j : Job) (strips done : ℕ) (es : st
     unfolding jobFollows scanEnd deskFinish
     job-right r free scan time ef t u e = rw (turned, not-false x h, ← ef, ← t .is, ← u .is) e
 
-module _ (s : SortingSection) (d : Desks) (j : Job) (k : JobTaken s d j) where
+module _ (s : SortingSection) (d : Desks) (j : Job) (k : AfterJobPre s d j) where
   pub after-is : (i scan time : ℕ) → i ≡ j .desk - 1 → TimeTold (scanTime s j) scan → TimeTold (deskTime s j) time
       → _≡_ {A = Desks} (record { done = set (d .done) i (j .number); free = set (d .free) i (j .start + time); scanner = j .scan + scan }) (afterJob s d j)
   unfolding afterJob scanEnd deskFinish
@@ -165,7 +165,7 @@ module _ (f : FlightSection) (i : ℕ) (p : Passes) where
   unfolding blockFollows secondDue
   block-due r h e = rw (lt-ltb _ _ h) e
 
-  module _ (a : BlockAsked f p) where
+  module _ (a : BlockFollowsPre f p) where
     pub flown-fits : p .first + getD (f .first) i 0 < 2 ^ 64
     flown-fits = omega (arith, a .fits .first, a .sound .most-first i)
 

@@ -17,7 +17,7 @@ ghost use mathlib.Core.Path.{_≡_};
 ghost use Prim.Native.Nat.{_+_, _-_, _≤_, _<_};
 ghost use lib.ListN.{getD};
 ghost use Rattle.judge_rules.specs.Follows.{batchInRun, batchInTime, batchFollows, jobInTurn, jobInTime, jobFollows, blockInTime, blockFollows, allDone};
-ghost use Rattle.judge_rules.specs.Asked.{BatchAsked, JobAsked, JobTaken, BlockAsked};
+ghost use Rattle.judge_rules.specs.Contracts.{BatchFollowsPre, JobFollowsPre, AfterJobPre, BlockFollowsPre};
 ghost use Rattle.running.specs.Running.{afterJob};
 
 fn batch_in_run(strips: u64, before: u64, last: u64) -> bool
@@ -43,7 +43,7 @@ fn batch_in_time(ready: u64, before: u64, start: u64, finish: u64, due: u64) -> 
 
 // Whether a batch may follow the batch before it.
 pub fn batch_follows(m: MosaicSection, before: Batch, b: Batch) -> bool
-    requires { ⌜ BatchAsked m b ⌝ }
+    requires { ⌜ BatchFollowsPre m b ⌝ }
     ensures { λ r. ⌜ r ≡ batchFollows m before b ⌝ }
 {
     let last = b.last;
@@ -96,7 +96,7 @@ pub fn of_desk(values: [u64; 3], desk: u64) -> u64
 
 // Whether a job may follow where the desks have come so far.
 pub fn job_follows(s: SortingSection, d: Desks, j: Job) -> bool
-    requires { ⌜ JobAsked s d j ⌝ }
+    requires { ⌜ JobFollowsPre s d j ⌝ }
     ensures { λ r. ⌜ r ≡ jobFollows s d j ⌝ }
 {
     let desk = j.desk;
@@ -121,7 +121,7 @@ pub fn job_follows(s: SortingSection, d: Desks, j: Job) -> bool
 
 // The desks and the scanner after one more job.
 pub fn after_job(s: SortingSection, d: Desks, j: Job) -> Desks
-    requires { ⌜ JobTaken s d j ⌝ }
+    requires { ⌜ AfterJobPre s d j ⌝ }
     ensures { λ r. ⌜ r ≡ afterJob s d j ⌝ }
 {
     let i = desk_index(j.desk);
@@ -160,7 +160,7 @@ fn block_in_time(due: u64, second: u64, end: u64) -> bool
 
 // Whether the passes of block i keep its exact delay.
 pub fn block_follows(f: FlightSection, i: usize, p: Passes) -> bool
-    requires { ⌜ BlockAsked f p ⌝ }
+    requires { ⌜ BlockFollowsPre f p ⌝ }
     ensures { λ r. ⌜ r ≡ blockFollows f i p ⌝ }
 {
     if f.blocks <= i {

@@ -45,20 +45,20 @@ membersTo bytes member zero = []
 membersTo bytes member (suc n) = membersTo bytes member n ++ bytes (member n)
 
 -- n members in the lists, and room for their fields
-pub record BatchLists (d : List ℕ) (at : ℕ) (last start finish : List ℕ) (n : ℕ) : Type 0 where
+pub record PutBatchesPre (d : List ℕ) (at : ℕ) (last start finish : List ℕ) (n : ℕ) : Type 0 where
   pub last-long : n ≤ length last
   pub start-long : n ≤ length start
   pub finish-long : n ≤ length finish
   pub room : at + sizeOf batchForm * n ≤ length d
 
-pub record JobLists (d : List ℕ) (at : ℕ) (desk number scan start : List ℕ) (n : ℕ) : Type 0 where
+pub record PutJobsPre (d : List ℕ) (at : ℕ) (desk number scan start : List ℕ) (n : ℕ) : Type 0 where
   pub desk-long : n ≤ length desk
   pub number-long : n ≤ length number
   pub scan-long : n ≤ length scan
   pub start-long : n ≤ length start
   pub room : at + sizeOf jobForm * n ≤ length d
 
-pub record PassLists (d : List ℕ) (at : ℕ) (first second : List ℕ) (n : ℕ) : Type 0 where
+pub record PutBlocksPre (d : List ℕ) (at : ℕ) (first second : List ℕ) (n : ℕ) : Type 0 where
   pub first-long : n ≤ length first
   pub second-long : n ≤ length second
   pub room : at + sizeOf passesForm * n ≤ length d

@@ -5,7 +5,7 @@ ghost use lib.ListN.{length};
 ghost use Rattle.field.specs.Put.{put};
 ghost use Rattle.plan_format.specs.Format.{sizeOf, offsetOf, batchForm, jobForm, passesForm};
 ghost use Rattle.rules.specs.Plan.{batchBytes, jobBytes, passesBytes};
-ghost use Rattle.plan_fields.specs.Stored.{stripBytes, batch, job, passes, batchIn, jobIn, passesIn, membersTo, BatchLists, JobLists, PassLists};
+ghost use Rattle.plan_fields.specs.Stored.{stripBytes, batch, job, passes, batchIn, jobIn, passesIn, membersTo, PutBatchesPre, PutJobsPre, PutBlocksPre};
 use crate::tag::put_tag;
 use field::put_number;
 use plan_format::BATCH_FINISH;
@@ -46,7 +46,7 @@ pub fn put_batches<'a>(
     finish: &'a [u64],
     n: usize,
 )
-    requires { ⌜ BatchLists (now d) at (now last) (now start) (now finish) n ⌝ }
+    requires { ⌜ PutBatchesPre (now d) at (now last) (now start) (now finish) n ⌝ }
     ensures { λ _. ⌜ now (d .exit)
         ≡ put (now (d .entry)) at (membersTo batchBytes (batchIn (now (last .entry)) (now (start .entry)) (now (finish .entry))) n) ⌝ }
 {
@@ -86,7 +86,7 @@ pub fn put_jobs<'a>(
     start: &'a [u64],
     n: usize,
 )
-    requires { ⌜ JobLists (now d) at (now desk) (now number) (now scan) (now start) n ⌝ }
+    requires { ⌜ PutJobsPre (now d) at (now desk) (now number) (now scan) (now start) n ⌝ }
     ensures { λ _. ⌜ now (d .exit)
         ≡ put (now (d .entry)) at (membersTo jobBytes (jobIn (now (desk .entry)) (now (number .entry)) (now (scan .entry)) (now (start .entry))) n) ⌝ }
 {
@@ -108,7 +108,7 @@ fn put_passes(d: &mut [u8], at: usize, first: u64, second: u64)
 
 // The first n pairs of starts of the lists.
 pub fn put_blocks<'a>(d: &mut [u8], at: usize, first: &'a [u64], second: &'a [u64], n: usize)
-    requires { ⌜ PassLists (now d) at (now first) (now second) n ⌝ }
+    requires { ⌜ PutBlocksPre (now d) at (now first) (now second) n ⌝ }
     ensures { λ _. ⌜ now (d .exit) ≡ put (now (d .entry)) at (membersTo passesBytes (passesIn (now (first .entry)) (now (second .entry))) n) ⌝ }
 {
     let mut i: usize = 0;

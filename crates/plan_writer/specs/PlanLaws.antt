@@ -15,7 +15,7 @@ use Rattle.flight.specs.Choice.{passesOfPlan}
 use Rattle.flight.specs.declared.FlightPlan.{FlightPlan}
 use native.Mathlib.Omega.{arith}
 use Rattle.plan_fields.specs.FieldLaws.{joined}
-use Rattle.plan_writer.specs.Written.{SortingAsked, FlightAsked, PlanAsked, Written, planOf}
+use Rattle.plan_writer.specs.Written.{WriteSortingPre, WriteFlightPre, WritePlanPre, Written, planOf}
 use Rattle.plan_writer.specs.SectionLaws.{mosaic-long, sorting-long}
 
 -- what is written behind what was written
@@ -24,18 +24,18 @@ then-written d d₁ d₂ at at₁ at₂ xs ys w₁ w₂ =
     record { buffer = joined d d₁ d₂ at at₁ xs ys (w₁ .buffer) (w₂ .buffer) (w₁ .end); end = omega (arith, w₁ .end, w₂ .end, length-append xs ys) }
 
 -- The whole plan: room behind each section, and its sections joined.
-module _ (d : List ℕ) (s : Sheet) (m : MosaicPlan) (t : SortingPlan) (asked : PlanAsked d s m t) where
+module _ (d : List ℕ) (s : Sheet) (m : MosaicPlan) (t : SortingPlan) (asked : WritePlanPre d s m t) where
   module _ (d₁ : List ℕ) (at₁ : ℕ) (w₁ : Written d d₁ 0 (ifPresent (s .mosaic .strips) (mosaicBytes (m .figure) (batchesOf m))) at₁) where
     first-long : length d₁ ≡ length d
     first-long = ap length (w₁ .buffer) ∙ length-put d 0 (ifPresent (s .mosaic .strips) (mosaicBytes (m .figure) (batchesOf m)))
 
-    pub sorting-room : SortingAsked d₁ at₁ t
+    pub sorting-room : WriteSortingPre d₁ at₁ t
     sorting-room =
         record { few = asked .jobs; room = omega (arith, first-long, w₁ .end, mosaic-long (s .mosaic .strips) m, asked .room, asked .batches, asked .jobs) }
 
     module _ (d₂ : List ℕ) (strips at₂ : ℕ) (e : strips ≡ stripsInAll (s .sorting))
         (w₂ : Written d₁ d₂ at₁ (ifPresent strips (sortingBytes (t .figure) (jobsOfPlan t))) at₂) where
-      pub flight-room : FlightAsked d₂ at₂ (s .flight .blocks)
+      pub flight-room : WriteFlightPre d₂ at₂ (s .flight .blocks)
       flight-room =
           record {
             few = asked .blocks;

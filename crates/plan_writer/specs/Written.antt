@@ -17,28 +17,28 @@ use Rattle.flight.specs.Choice.{passesOfPlan}
 use Rattle.flight.specs.declared.FlightPlan.{FlightPlan}
 
 -- a plan of no more members than a sheet may have, and room for their fields
-pub record BatchesAsked (d : List ℕ) (at : ℕ) (p : MosaicPlan) : Type 0 where
+pub record PutMosaicBatchesPre (d : List ℕ) (at : ℕ) (p : MosaicPlan) : Type 0 where
   pub few : p .batches ≤ mostStrips
   pub room : at + sizeOf batchForm * p .batches ≤ length d
 
-pub record JobsAsked (d : List ℕ) (at : ℕ) (p : SortingPlan) : Type 0 where
+pub record PutSortingJobsPre (d : List ℕ) (at : ℕ) (p : SortingPlan) : Type 0 where
   pub few : p .jobs ≤ 18
   pub room : at + sizeOf jobForm * p .jobs ≤ length d
 
-pub record BlocksAsked (d : List ℕ) (at n : ℕ) : Type 0 where
+pub record PutFlightBlocksPre (d : List ℕ) (at n : ℕ) : Type 0 where
   pub few : n ≤ mostBlocks
   pub room : at + sizeOf passesForm * n ≤ length d
 
 -- the same with room for the section's head
-pub record MosaicAsked (d : List ℕ) (at : ℕ) (p : MosaicPlan) : Type 0 where
+pub record WriteMosaicPre (d : List ℕ) (at : ℕ) (p : MosaicPlan) : Type 0 where
   pub few : p .batches ≤ mostStrips
   pub room : at + sizeOf mosaicHeadForm + sizeOf batchForm * p .batches ≤ length d
 
-pub record SortingAsked (d : List ℕ) (at : ℕ) (p : SortingPlan) : Type 0 where
+pub record WriteSortingPre (d : List ℕ) (at : ℕ) (p : SortingPlan) : Type 0 where
   pub few : p .jobs ≤ 18
   pub room : at + sizeOf sortingHeadForm + sizeOf jobForm * p .jobs ≤ length d
 
-pub record FlightAsked (d : List ℕ) (at n : ℕ) : Type 0 where
+pub record WriteFlightPre (d : List ℕ) (at n : ℕ) : Type 0 where
   pub few : n ≤ mostBlocks
   pub room : at + sizeOf flightHeadForm + sizeOf passesForm * n ≤ length d
 
@@ -48,7 +48,7 @@ pub record Written (before after : List ℕ) (at : ℕ) (bytes : List ℕ) (behi
   pub end : behind ≡ at + length bytes
 
 -- a plan buffer of the length that every plan fits, and plans of no more members than a sheet may have
-pub record PlanAsked (d : List ℕ) (s : Sheet) (m : MosaicPlan) (t : SortingPlan) : Type 0 where
+pub record WritePlanPre (d : List ℕ) (s : Sheet) (m : MosaicPlan) (t : SortingPlan) : Type 0 where
   pub room : planLength ≤ length d
   pub batches : m .batches ≤ mostStrips
   pub jobs : t .jobs ≤ 18

@@ -5,7 +5,7 @@ ghost use Rattle.rules.specs.Plan.{membersBytes, batchBytes, jobBytes, passesBy
 ghost use Rattle.mosaic.specs.Plan.{batchesOf};
 ghost use Rattle.sorting.specs.Plan.{jobsOfPlan};
 ghost use Rattle.flight.specs.Choice.{passesOfPlan};
-ghost use Rattle.plan_writer.specs.Written.{BatchesAsked, JobsAsked, BlocksAsked, MosaicAsked, SortingAsked, FlightAsked, PlanAsked, Written, planOf};
+ghost use Rattle.plan_writer.specs.Written.{PutMosaicBatchesPre, PutSortingJobsPre, PutFlightBlocksPre, WriteMosaicPre, WriteSortingPre, WriteFlightPre, WritePlanPre, Written, planOf};
 use flight::FlightPlan;
 use mosaic::MosaicPlan;
 use plan_fields::heads::put_flight_head;
@@ -25,7 +25,7 @@ use sheet::desks::strips_in_all;
 use sorting::SortingPlan;
 
 fn put_mosaic_batches(d: &mut [u8], at: usize, p: MosaicPlan)
-    requires { ⌜ BatchesAsked (now d) at p ⌝ }
+    requires { ⌜ PutMosaicBatchesPre (now d) at p ⌝ }
     ensures { λ _. ⌜ now (d .exit) ≡ put (now (d .entry)) at (membersBytes batchBytes (batchesOf p)) ⌝ }
 {
     let last = p.last;
@@ -35,7 +35,7 @@ fn put_mosaic_batches(d: &mut [u8], at: usize, p: MosaicPlan)
 }
 
 fn put_sorting_jobs(d: &mut [u8], at: usize, p: SortingPlan)
-    requires { ⌜ JobsAsked (now d) at p ⌝ }
+    requires { ⌜ PutSortingJobsPre (now d) at p ⌝ }
     ensures { λ _. ⌜ now (d .exit) ≡ put (now (d .entry)) at (membersBytes jobBytes (jobsOfPlan p)) ⌝ }
 {
     let desk = p.desk;
@@ -46,7 +46,7 @@ fn put_sorting_jobs(d: &mut [u8], at: usize, p: SortingPlan)
 }
 
 fn put_flight_blocks(d: &mut [u8], at: usize, n: usize, p: FlightPlan)
-    requires { ⌜ BlocksAsked (now d) at n ⌝ }
+    requires { ⌜ PutFlightBlocksPre (now d) at n ⌝ }
     ensures { λ _. ⌜ now (d .exit) ≡ put (now (d .entry)) at (membersBytes passesBytes (passesOfPlan n p)) ⌝ }
 {
     let first = p.first;
@@ -56,7 +56,7 @@ fn put_flight_blocks(d: &mut [u8], at: usize, n: usize, p: FlightPlan)
 
 // The mosaic section of a plan, none where the sheet has no strip of it. Returns the offset behind it.
 fn write_mosaic(d: &mut [u8], at: usize, strips: usize, p: MosaicPlan) -> usize
-    requires { ⌜ MosaicAsked (now d) at p ⌝ }
+    requires { ⌜ WriteMosaicPre (now d) at p ⌝ }
     ensures { λ r. ⌜ Written (now (d .entry)) (now (d .exit)) at (ifPresent strips (mosaicBytes (p .figure) (batchesOf p))) r ⌝ }
 {
     if strips < 1 {
@@ -69,7 +69,7 @@ fn write_mosaic(d: &mut [u8], at: usize, strips: usize, p: MosaicPlan) -> usize
 
 // The sorting section of a plan, none where the sheet has no strip of it. Returns the offset behind it.
 fn write_sorting(d: &mut [u8], at: usize, strips: usize, p: SortingPlan) -> usize
-    requires { ⌜ SortingAsked (now d) at p ⌝ }
+    requires { ⌜ WriteSortingPre (now d) at p ⌝ }
     ensures { λ r. ⌜ Written (now (d .entry)) (now (d .exit)) at (ifPresent strips (sortingBytes (p .figure) (jobsOfPlan p))) r ⌝ }
 {
     if strips < 1 {
@@ -82,7 +82,7 @@ fn write_sorting(d: &mut [u8], at: usize, strips: usize, p: SortingPlan) -> usiz
 
 // The flight section of a plan of n blocks, none where the sheet has no block. Returns the offset behind it.
 fn write_flight(d: &mut [u8], at: usize, n: usize, p: FlightPlan) -> usize
-    requires { ⌜ FlightAsked (now d) at n ⌝ }
+    requires { ⌜ WriteFlightPre (now d) at n ⌝ }
     ensures { λ r. ⌜ Written (now (d .entry)) (now (d .exit)) at (ifPresent n (flightBytes (p .figure) (p .order) (passesOfPlan n p))) r ⌝ }
 {
     if n < 1 {
@@ -95,7 +95,7 @@ fn write_flight(d: &mut [u8], at: usize, n: usize, p: FlightPlan) -> usize
 
 // The plan of a sheet from the plans of its sections, at the start of the buffer. Returns its length.
 pub fn write_plan(d: &mut [u8], s: Sheet, m: MosaicPlan, t: SortingPlan, f: FlightPlan) -> usize
-    requires { ⌜ PlanAsked (now d) s m t ⌝ }
+    requires { ⌜ WritePlanPre (now d) s m t ⌝ }
     ensures { λ r. ⌜ Written (now (d .entry)) (now (d .exit)) 0 (planOf s m t f) r ⌝ }
 {
     let strips = strips_in_all(s.sorting);

@@ -130,7 +130,7 @@ module _ (s : Sheet) (plan table : List ℕ) (pre : PlanSectionsPre s plan table
 
   module _ (m : MosaicPlan) (mosaic-planned : mosaic.Planned (s .mosaic) m) (t : SortingPlan) (tableEnd : List ℕ)
       (sorting-planned : sorting.Planned (s .sorting) table tableEnd t) where
-    pub write-plan-pre : writer.PlanAsked plan s m t
+    pub write-plan-pre : writer.WritePlanPre plan s m t
     write-plan-pre =
         record {
           room = pre .room;

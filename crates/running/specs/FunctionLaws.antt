@@ -19,21 +19,21 @@ use Rattle.rules.specs.Flight.{passTime}
 use Rattle.rules.specs.declared.Batch.{Batch}
 use Rattle.rules.specs.declared.Job.{Job}
 
-pub record StationPre (m : MosaicSection) (k j : ℕ) : Type 0 where
+pub record StationSumPre (m : MosaicSection) (k j : ℕ) : Type 0 where
   pub sound : MosaicSound m
   pub station : k < m .stations
   pub strips : j ≤ mostStrips
 
-pub record ReadyPre (m : MosaicSection) (j : ℕ) : Type 0 where
+pub record ReadyTimePre (m : MosaicSection) (j : ℕ) : Type 0 where
   pub sound : MosaicSound m
   pub strips : j ≤ mostStrips
 
-pub record BenchPre (m : MosaicSection) (i count : ℕ) : Type 0 where
+pub record BenchSumPre (m : MosaicSection) (i count : ℕ) : Type 0 where
   pub sound : MosaicSound m
   pub strips : i + count ≤ mostStrips
 
 -- a batch of known strips, after the batch before it, whose start has four bytes
-pub record FinishPre (m : MosaicSection) (before b : Batch) : Type 0 where
+pub record FinishDuePre (m : MosaicSection) (before b : Batch) : Type 0 where
   pub sound : MosaicSound m
   pub rises : before .last ≤ b .last
   pub strips : b .last ≤ mostStrips
@@ -63,7 +63,7 @@ pub record SlotPre (s : SortingSection) (j : Job) : Type 0 where
   pub least-number : 1 ≤ j .number
   pub most-number : j .number ≤ mostStripsOfDesk
 
-pub record PassPre (f : FlightSection) (p : ℕ) : Type 0 where
+pub record PassTimePre (f : FlightSection) (p : ℕ) : Type 0 where
   pub sound : FlightSound f
   pub known : p < 2 * f .blocks
 
@@ -92,7 +92,7 @@ sum-all f n i sum s h = s .is ∙ ap (λ k. sumOver k f) all
     all : i ≡ n
     all = let w = s .within in omega arith
 
-module _ (m : MosaicSection) (k j : ℕ) (a : StationPre m k j) where
+module _ (m : MosaicSection) (k j : ℕ) (a : StationSumPre m k j) where
   pub station-more : (i sum : ℕ) → Summed (λ i. getD (m .station) (4 * i + k) 0) mostTime j i sum → i < j
       → Summed (λ i. getD (m .station) (4 * i + k) 0) mostTime j (i + 1) (sum + getD (m .station) (4 * i + k) 0)
   station-more i sum s h = sum-more (λ i. getD (m .station) (4 * i + k) 0) j i sum _ s h refl (a .sound .most-station (4 * i + k))
@@ -108,7 +108,7 @@ module _ (m : MosaicSection) (k j : ℕ) (a : StationPre m k j) where
       let l = a .strips in
       record { is = sum-all (λ i. getD (m .station) (4 * i + k) 0) j i sum s h; fits = omega arith }
 
-module _ (m : MosaicSection) (i count : ℕ) (a : BenchPre m i count) where
+module _ (m : MosaicSection) (i count : ℕ) (a : BenchSumPre m i count) where
   pub bench-more : (k sum : ℕ) → Summed (λ k. getD (m .bench) (i + k) 0) mostTime count k sum → k < count
       → Summed (λ k. getD (m .bench) (i + k) 0) mostTime count (k + 1) (sum + getD (m .bench) (i + k) 0)
   bench-more k sum s h = sum-more (λ k. getD (m .bench) (i + k) 0) count k sum _ s h refl (a .sound .most-bench (i + k))
@@ -124,8 +124,8 @@ module _ (m : MosaicSection) (i count : ℕ) (a : BenchPre m i count) where
       let l = a .strips in
       record { is = sum-all (λ k. getD (m .bench) (i + k) 0) count k sum s h; fits = omega arith }
 
-module _ (m : MosaicSection) (before b : Batch) (a : FinishPre m before b) where
-  pub finish-bench : BenchPre m (before .last) (b .last - before .last)
+module _ (m : MosaicSection) (before b : Batch) (a : FinishDuePre m before b) where
+  pub finish-bench : BenchSumPre m (before .last) (b .last - before .last)
   finish-bench = let h = a .rises in let l = a .strips in record { sound = a .sound; strips = omega arith }
 
   module _ (setup : ℕ) (u : SetupTold m setup) where
@@ -179,7 +179,7 @@ unfolding deskTime slot
 desk-told s j a = record { is = refl; fits = a .sound .most-desk _ }
 
 -- the time of a pass
-pub time-told : (f : FlightSection) (p r : ℕ) → PassPre f p → r ≡ timeOf (f .blocks) (f .first) (f .second) p → TimeTold (passTime f p) r
+pub time-told : (f : FlightSection) (p r : ℕ) → PassTimePre f p → r ≡ timeOf (f .blocks) (f .first) (f .second) p → TimeTold (passTime f p) r
 unfolding passTime
 time-told f p r a e = record {
   is = e;

@@ -5,12 +5,12 @@ use sheet::MosaicSection;
 ghost use mathlib.Core.Path.{_≡_};
 ghost use Prim.Native.Nat.{_<_, _+_};
 ghost use Rattle.rules.specs.Mosaic.{stationSum, ready, benchSum, finishDue};
-ghost use Rattle.running.specs.FunctionLaws.{StationPre, ReadyPre, BenchPre, FinishPre, SetupTold, SumTold};
+ghost use Rattle.running.specs.FunctionLaws.{StationSumPre, ReadyTimePre, BenchSumPre, FinishDuePre, SetupTold, SumTold};
 ghost use Rattle.sheet.specs.Sound.{MosaicSound};
 
 // When station k, from 0, is done with the first j strips.
 fn station_sum(m: MosaicSection, k: usize, j: usize) -> u64
-    requires { ⌜ StationPre m k j ⌝ }
+    requires { ⌜ StationSumPre m k j ⌝ }
     ensures { λ r. ⌜ SumTold (stationSum m k j) r ⌝ }
 {
     let times = m.station;
@@ -25,7 +25,7 @@ fn station_sum(m: MosaicSection, k: usize, j: usize) -> u64
 
 // When strip j, from 1, is ready.
 pub fn ready_time(m: MosaicSection, j: usize) -> u64
-    requires { ⌜ ReadyPre m j ⌝ }
+    requires { ⌜ ReadyTimePre m j ⌝ }
     ensures { λ r. ⌜ SumTold (ready m j) r ⌝ }
 {
     let stations = m.stations;
@@ -40,7 +40,7 @@ pub fn ready_time(m: MosaicSection, j: usize) -> u64
 
 // The bench times of `count` strips after the first i.
 fn bench_sum(m: MosaicSection, i: usize, count: usize) -> u64
-    requires { ⌜ BenchPre m i count ⌝ }
+    requires { ⌜ BenchSumPre m i count ⌝ }
     ensures { λ r. ⌜ SumTold (benchSum m i count) r ⌝ }
 {
     let times = m.bench;
@@ -63,7 +63,7 @@ pub fn setup_time(m: MosaicSection) -> u64
 
 // When a batch is due to finish, by the batch before it.
 pub fn finish_due(m: MosaicSection, before: Batch, b: Batch) -> u64
-    requires { ⌜ FinishPre m before b ⌝ }
+    requires { ⌜ FinishDuePre m before b ⌝ }
     ensures { λ r. ⌜ r ≡ finishDue m before b ⌝ }
 {
     let from = before.last;

@@ -1,13 +1,13 @@
 -- A batch's start, its setup and its bench times are when it is due to finish, and their sum fits.
-use Rattle.running.specs.FunctionLaws.{FinishPre, finish-bench, finish-mounted, finish-fits, finish-is}
+use Rattle.running.specs.FunctionLaws.{FinishDuePre, finish-bench, finish-mounted, finish-fits, finish-is}
 use Rattle.running.proofs.mosaic.finish_due.Statement.{statement}
 use Rattle.running.proofs.mosaic.finish_due.Tie as tie
 
 sub-count : tie.Need-sub-count
-sub-count c = search FinishPre.rises
+sub-count c = search FinishDuePre.rises
 
 setup-time-requires : tie.Need-setup-time-requires
-setup-time-requires c κs = search FinishPre.sound
+setup-time-requires c κs = search FinishDuePre.sound
 
 add-result : tie.Need-add-result
 add-result c = search finish-mounted

@@ -19,22 +19,22 @@ pub record DesksFit (d : Desks) : Type 0 where
   pub free-length : length (d .free) ≡ 3
   pub most-done : (i : ℕ) → getD (d .done) i 0 ≤ mostStripsOfDesk
 
-pub record BatchAsked (m : MosaicSection) (b : Batch) : Type 0 where
+pub record BatchFollowsPre (m : MosaicSection) (b : Batch) : Type 0 where
   pub sound : MosaicSound m
   pub fits : BatchFits b
 
-pub record JobAsked (s : SortingSection) (d : Desks) (j : Job) : Type 0 where
+pub record JobFollowsPre (s : SortingSection) (d : Desks) (j : Job) : Type 0 where
   pub sound : SortingSound s
   pub desks : DesksFit d
   pub fits : JobFits j
 
-pub record BlockAsked (f : FlightSection) (p : Passes) : Type 0 where
+pub record BlockFollowsPre (f : FlightSection) (p : Passes) : Type 0 where
   pub sound : FlightSound f
   pub fits : PassesFits p
 
 -- a job of a known strip, as it is taken
-pub record JobTaken (s : SortingSection) (d : Desks) (j : Job) : Type 0 where
-  pub asked : JobAsked s d j
+pub record AfterJobPre (s : SortingSection) (d : Desks) (j : Job) : Type 0 where
+  pub asked : JobFollowsPre s d j
   pub least-desk : 1 ≤ j .desk
   pub most-desk : j .desk ≤ mostDesks
   pub least-number : 1 ≤ j .number
