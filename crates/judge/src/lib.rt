@@ -19,7 +19,7 @@ ghost use mathlib.Core.Path.{_≡_};
 ghost use Prim.Native.Nat.{_+_, _<_};
 ghost use Rattle.sheet.specs.Sound.{SheetSound};
 ghost use Rattle.judge.specs.Judged.{pickPart, sectionsFrom, statedFigure, turnedBack, judgedPlan, judged};
-ghost use Rattle.judge.specs.Loops.{PickPartPre, StatedFigurePre};
+ghost use Rattle.judge.specs.Loops.{JudgeSectionsPre, StatedFigurePre};
 
 // What the judge answers: number 0, place 0 and the figure of each section, 0 for an absent one; or the number and place of a fault and no figure.
 #[repr(C)]
@@ -58,7 +58,7 @@ fn pick_part(section: u64, mosaic: Part, sorting: Part, flight: Part) -> Part
 
 // Judges section by section the members in order, then the head. The first field that breaks a rule ends the judging.
 fn judge_sections(s: Sheet, plan: &[u8], mosaic: Part, sorting: Part, flight: Part) -> Verdict
-    requires { ⌜ PickPartPre s (now plan) mosaic sorting flight ⌝ }
+    requires { ⌜ JudgeSectionsPre s (now plan) mosaic sorting flight ⌝ }
     ensures { λ r. ⌜ r ≡ sectionsFrom 3 s (now (plan .entry)) 1 ⌝ }
 {
     let mut section: u64 = 1;
