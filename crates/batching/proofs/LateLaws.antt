@@ -76,7 +76,8 @@ module _ {rs sums late₀ row₀ : List ℕ} {s n i : ℕ} (P : FillLateAfterPre
         row-is = R .row .at (q + 1) (omega arith) (omega arith)
 
         pub after-sum : (q + 1 - i) * (begin + (getD sums (q + 1) 0 - getD sums i 0)) + getD row₁ (q + 1) 0 < 2 ^ 64
-        after-sum = omega (arith, product-most, row-is, least-most (P .input) (q + 1) (begin + (getD sums (q + 1) 0 - getD sums i 0)) (omega (arith, finish-most)))
+        after-sum =
+            omega (arith, product-most, row-is, least-most (P .input) (q + 1) (begin + (getD sums (q + 1) 0 - getD sums i 0)) (omega (arith, finish-most)))
 
         new-is : (p : ℕ) → p ≡ q + 1
             → getD (set late (width * i + (q + 1)) ((q + 1 - i) * (begin + (getD sums (q + 1) 0 - getD sums i 0)) + getD row₁ (q + 1) 0)) (width * i + p) 0
@@ -84,7 +85,8 @@ module _ {rs sums late₀ row₀ : List ℕ} {s n i : ℕ} (P : FillLateAfterPre
         unfolding closedAt
         new-is p e = rw (e, row-is, ← b) (getD-set-same late (width * i + (q + 1)) _ 0 (omega (arith, P .late-long, M .late-len, P .input .most-strips)))
 
-        pub after-step : LateSoFar rs sums late₀ row₀ (set late (width * i + (q + 1)) ((q + 1 - i) * (begin + (getD sums (q + 1) 0 - getD sums i 0)) + getD row₁ (q + 1) 0)) row₁ s n i (q + 1)
+        pub after-step : LateSoFar rs sums late₀ row₀
+            (set late (width * i + (q + 1)) ((q + 1 - i) * (begin + (getD sums (q + 1) 0 - getD sums i 0)) + getD row₁ (q + 1) 0)) row₁ s n i (q + 1)
         after-step =
             let x : ℕ = (q + 1 - i) * (begin + (getD sums (q + 1) 0 - getD sums i 0)) + getD row₁ (q + 1) 0 in record {
               kept = λ k g. getD-set-other late (width * i + (q + 1)) k x 0 (g (q + 1) (omega (arith, M .from)) (omega arith)) ∙ M .kept k g;

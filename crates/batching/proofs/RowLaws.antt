@@ -1,4 +1,5 @@
--- A row is filled in place from lo on: entry p becomes the least figure at this block's time, while the entries above it still are those of the block with one batch more.
+-- A row is filled in place from lo on: entry p becomes the least figure at this block's time, while the entries above it still are those of the block with one
+-- batch more.
 use mathlib.Core.Path.{_≡_, refl, ap, _∙_, sym}
 use mathlib.Core.List.{List}
 use Prim.Native.Nat.{ℕ, _+_, _-_, _≤_, _<_, _^_}

@@ -50,7 +50,9 @@ module _ {x y : Instance} (A : Alike x y) where
   open-same (suc d) i q t h k =
       let c = closed-same i q t h (omega arith)
       (λ F. least-open x q F (omega arith) ∙ open-same d q (q + 1) F (omega arith) (omega arith) ∙ sym (least-open y q F (omega (arith, A .strips)))) in
-      open-more x i q t (omega arith) ∙ omega (arith, c, open-same d i (q + 1) t (omega arith) (omega arith)) ∙ sym (open-more y i q t (omega (arith, A .strips)))
+      open-more x i q t (omega arith)
+      ∙ omega (arith, c, open-same d i (q + 1) t (omega arith) (omega arith))
+      ∙ sym (open-more y i q t (omega (arith, A .strips)))
 
   pub least-same : (i t : ℕ) → leastAt x i t ≡ leastAt y i t
   least-same i t = elim (decLt i (x .strips)) [
@@ -61,7 +63,9 @@ module _ {x y : Instance} (A : Alike x y) where
 
   chosen-open-same : (d i q t : ℕ) → i < q → q + d ≡ x .strips → chosenOpenAt x i q t ≡ chosenOpenAt y i q t
   chosen-open-same zero i q t h k =
-      chosen-last x i q t (omega arith) ∙ cons-same i q t h (omega arith) (λ F. chosen-end-same q F (omega arith)) ∙ sym (chosen-last y i q t (omega (arith, A .strips)))
+      chosen-last x i q t (omega arith)
+      ∙ cons-same i q t h (omega arith) (λ F. chosen-end-same q F (omega arith))
+      ∙ sym (chosen-last y i q t (omega (arith, A .strips)))
   chosen-open-same (suc d) i q t h k =
       let l : q < x .strips = omega arith in
       let m : q < y .strips = omega (arith, A .strips) in
@@ -81,6 +85,8 @@ module _ {x y : Instance} (A : Alike x y) where
   pub chosen-same : (i t : ℕ) → chosenAt x i t ≡ chosenAt y i t
   chosen-same i t = elim (decLt i (x .strips)) [
     | yes h ↦
-        chosen-open x i t h ∙ chosen-open-same (x .strips - (i + 1)) i (i + 1) t (omega arith) (omega arith) ∙ sym (chosen-open y i t (omega (arith, A .strips)))
+        chosen-open x i t h
+        ∙ chosen-open-same (x .strips - (i + 1)) i (i + 1) t (omega arith) (omega arith)
+        ∙ sym (chosen-open y i t (omega (arith, A .strips)))
     | no h ↦ chosen-end-same i t (omega arith)
   ]

@@ -6,7 +6,8 @@ ghost use Prim.Native.Nat.{_+_, _-_, _<_, _^_};
 ghost use lib.ListN.{getD};
 ghost use Rattle.batching.specs.Least.{benchStart};
 ghost use Rattle.batching.specs.Index.{lateStart, closedAt};
-ghost use Rattle.batching.specs.Tables.{instanceIn, InTime, CandidatePre, ChooseBatchPre, First, FillRowPre, RowFilled, FillBlockPre, FillLateAfterPre, LateAfter, FillLatePre, LateFilled, FirstBatchPre};
+ghost use Rattle.batching.specs.Tables.{instanceIn, InTime, CandidatePre, ChooseBatchPre, First, FillRowPre, RowFilled, FillBlockPre, FillLateAfterPre};
+ghost use Rattle.batching.specs.Tables.{LateAfter, FillLatePre, LateFilled, FirstBatchPre};
 
 // The entries of a row, for the strips from 0 to 40, and of `late`, which has a row for each strip from 0 to 39.
 const WIDTH: usize = 41;

@@ -1,6 +1,7 @@
 -- The three demands on the planner and the judge, in their own words and order, as theorems about calls. What a theorem asks of a call is what the
 -- contract of the function gives: `Called` of `planner::plan` (planner, Call.antt), `Viewed` of `sevulamon_plan` (viewer, Viewed.antt), and
--- `j ≡ judged sheet plan` of `judge::judge` and `sevulamon_judge` (judge, Judged.antt). When a plan is allowed is said by the rules alone (rules: Mosaic, Sorting,
+-- `j ≡ judged sheet plan` of `judge::judge` and `sevulamon_judge` (judge, Judged.antt). When a plan is allowed is said by the rules alone (rules: Mosaic,
+-- Sorting,
 -- Flight, Plan). Rows of bytes are lists of numbers; where a law needs that they are below 256, as those of every lent slice are, it says so (`AreBytes`).
 use Prim.Native.Nat.{ℕ, _≤_, _<_}
 use mathlib.Core.Path.{_≡_, refl, sym, ap, subst, _∙_}
@@ -26,12 +27,14 @@ use Rattle.rules_laws.specs.Determined.{plan-most, plan-determined}
 use Rattle.judge.specs.Judged.{turnedBack, found, judged}
 use Rattle.judge.specs.declared.Judged.{Judged}
 use Rattle.judge_laws.specs.Fault.{Fault}
-use Rattle.judge_laws.specs.Theorems.{FiguresTrue, FiguresGiven, judge-allows, allowed-judged, allowed-found, judged-figures, figures-given, fault-judged, judged-fault}
+use Rattle.judge_laws.specs.Theorems.{FiguresTrue, FiguresGiven, judge-allows, allowed-judged, allowed-found, judged-figures, figures-given, fault-judged}
+use Rattle.judge_laws.specs.Theorems.{judged-fault}
 use Rattle.mosaic.specs.Plan.{lasts}
 use Rattle.planner.specs.Call.{chosenPlan, answer, clearedTo, tableAfter, Called}
 use Rattle.planner.specs.Outcomes.{Large, Accepted, written, call-accepted, call-refused, call-small, call-cleared, ourBytes}
 use Rattle.planner.specs.TurnedBack.{TurnedBack, turned-back, turned-back-only, eleven-only, else-accepted}
-use Rattle.planner.specs.Theorems.{figureOfMosaic, figureOfSorting, figureOfFlight, Least, Impossible, plan-lawful, plan-least-mosaic, plan-least-sorting, plan-least-flight, plan-early-mosaic, plan-early-sorting, plan-early-flight, plan-earliest}
+use Rattle.planner.specs.Theorems.{figureOfMosaic, figureOfSorting, figureOfFlight, Least, Impossible, plan-lawful, plan-least-mosaic, plan-least-sorting}
+use Rattle.planner.specs.Theorems.{plan-least-flight, plan-early-mosaic, plan-early-sorting, plan-early-flight, plan-earliest}
 use Rattle.planner.specs.declared.Answer.{Answer}
 use Rattle.viewer.specs.Viewed.{Viewed}
 
@@ -52,7 +55,8 @@ pub record NoneLarger (s : Sheet) (p q : Plan) : Type 0 where
 
 -- No allowed plan of the sheet has a smaller figure, of one section, than q.
 unfoldable pub IsLeast : (Sheet → Plan → ℕ) → (sheet q : List ℕ) → AllowedFor sheet q → Type 0
-IsLeast figure sheet q a = (other : List ℕ) (b : AllowedFor sheet other) → figure (readSheet sheet) (a .allowed .plan) ≤ figure (readSheet sheet) (b .allowed .plan)
+IsLeast figure sheet q a =
+    (other : List ℕ) (b : AllowedFor sheet other) → figure (readSheet sheet) (a .allowed .plan) ≤ figure (readSheet sheet) (b .allowed .plan)
 
 -- The figure of q equals ours exactly when no allowed plan of the sheet has a smaller one than q.
 pub record BestExactly (figure : Sheet → Plan → ℕ) (sheet ours q : List ℕ) (o : AllowedFor sheet ours) (a : AllowedFor sheet q) : Type 0 where
@@ -85,7 +89,8 @@ module _ (sheet plan table planAfter tableEnd : List ℕ) (r : Answer) (call : C
   pub refused-writes-nothing : (r .number ≡ 0 → ⊥) → (planAfter ≡ plan) × (r .length ≡ 0)
   refused-writes-nothing = call-refused sheet plan table planAfter tableEnd r call
 
-  -- "an accepted one writes the plan and no byte past it": `written` is as many bytes as the answer says, at most 1,095, and behind them the buffer is as it was.
+  -- "an accepted one writes the plan and no byte past it": `written` is as many bytes as the answer says, at most 1,095, and behind them the buffer is as it
+  -- was.
   -- That they are the plan is demand 3.
   pub accepted-writes-the-plan : r .number ≡ 0 → WritesPlan plan planAfter r
   accepted-writes-the-plan z =
@@ -149,7 +154,8 @@ module _ (sheet plan table planAfter tableEnd : List ℕ) (r : Answer) (call : C
   our-plan-judged = (allowed-judged sheet (written r planAfter) chosen, allowed-found sheet (written r planAfter) chosen)
 
   -- .. and those are the true ones.
-  pub our-figures-true : (ours : AllowedFor sheet (written r planAfter)) → FiguresTrue (readSheet sheet) (ours .allowed .plan) (judged sheet (written r planAfter))
+  pub our-figures-true : (ours : AllowedFor sheet (written r planAfter))
+      → FiguresTrue (readSheet sheet) (ours .allowed .plan) (judged sheet (written r planAfter))
   our-figures-true ours = judged-figures sheet (written r planAfter) ours
 
   -- DEMAND 3. "Our plan is allowed;"
@@ -175,7 +181,8 @@ module _ (sheet plan table planAfter tableEnd : List ℕ) (r : Answer) (call : C
           flight = plan-least-flight sheet (a .sound) (a .allowed .plan) (a .allowed .lawful);
         })
 
-    best-exactly : (figure : Sheet → Plan → ℕ) → Least figure (readSheet sheet) (chosenPlan (readSheet sheet)) → BestExactly figure sheet (written r planAfter) q ours a
+    best-exactly : (figure : Sheet → Plan → ℕ) → Least figure (readSheet sheet) (chosenPlan (readSheet sheet))
+        → BestExactly figure sheet (written r planAfter) q ours a
     unfolding Least IsLeast
     best-exactly figure least =
         record {
@@ -233,7 +240,8 @@ module _ (sheet plan table planAfter tableEnd : List ℕ) (r : Answer) (call : C
   eleven-only-then = eleven-only sheet plan table planAfter tableEnd r call
 
   -- .. and then always, at the order field, with buffers large enough.
-  pub eleven-always-then : Large plan table → readSheet sheet .number ≡ 0 → Impossible (readSheet sheet) → r ≡ answer orderImpossible (readSheet sheet .flight .place) 0
+  pub eleven-always-then : Large plan table → readSheet sheet .number ≡ 0 → Impossible (readSheet sheet)
+      → r ≡ answer orderImpossible (readSheet sheet .flight .place) 0
   eleven-always-then large sound none =
       turned-back sheet plan table planAfter tableEnd r call orderImpossible (readSheet sheet .flight .place) (TurnedBack.impossible large sound none refl refl)
 
@@ -242,5 +250,7 @@ module _ (sheet plan table planAfter tableEnd : List ℕ) (r : Answer) (call : C
   accepted-else = else-accepted sheet plan table planAfter tableEnd r call
 
 -- A call from C is a call with a working table of 6,400 zeros: all that is said of calls holds of it.
-pub from-c : (sheet plan planAfter : List ℕ) (r : Answer) → Viewed sheet plan planAfter r → Called sheet plan (zeros tableLength) planAfter (tableAfter (length plan) (zeros tableLength)) r
-from-c sheet plan planAfter r v = record { answer = rw (length-zeros tableLength) (v .answer); buffer = rw (length-zeros tableLength) (v .buffer); table = refl }
+pub from-c : (sheet plan planAfter : List ℕ) (r : Answer) → Viewed sheet plan planAfter r
+    → Called sheet plan (zeros tableLength) planAfter (tableAfter (length plan) (zeros tableLength)) r
+from-c sheet plan planAfter r v =
+    record { answer = rw (length-zeros tableLength) (v .answer); buffer = rw (length-zeros tableLength) (v .buffer); table = refl }

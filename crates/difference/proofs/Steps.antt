@@ -56,7 +56,8 @@ module _ (S : System) (t₀ t : List ℕ) (held : Bool) (k : ℕ) (inv : InRound
       go false q = refl
 
 pub round-end : {S : System} {t₀ t : List ℕ} {held : Bool} {k : ℕ} → InRound S t₀ t held k → S .count ≤ k → RoundDone S t₀ t held
-round-end {S} {t₀} {t} {held} {k} inv h = record { values = inv .values ∙ ap (λ (n : ℕ). relaxed S n t₀) e; result = inv .result ∙ ap (λ (n : ℕ). holds S n t₀) e }
+round-end {S} {t₀} {t} {held} {k} inv h =
+    record { values = inv .values ∙ ap (λ (n : ℕ). relaxed S n t₀) e; result = inv .result ∙ ap (λ (n : ℕ). holds S n t₀) e }
   where
     e : k ≡ S .count
     e = omega arith

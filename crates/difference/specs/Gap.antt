@@ -82,7 +82,8 @@ module _ (S : System) (inside : Inside S) (x : ℕ → ℕ → ℕ)
         go (inr z) (no h) = inl (less (lower (x r) y) z (omega (arith, shrink (S .variables) (x r) y (below y sol r))))
         go (inl w) (no h) = inr (inr (
           omega (arith, sum-lt (S .variables) (λ j. 0) (same (x r) y) (λ j q. omega arith) (S .from (w .0)) (inside .from-in (w .0) (w .1)) (omega (arith, broken-from r (w .0) (w .1) (w .2)))),
-          sum-lt (S .variables) (same (x r) y) (same (x (suc r)) y) (λ j q. kept r j) (S .to (w .0)) (inside .to-in (w .0) (w .1)) (broken-to r (w .0) (w .1) (w .2)),
+          sum-lt (S .variables) (same (x r) y) (same (x (suc r)) y) (λ j q. kept r j) (S .to (w .0)) (inside .to-in (w .0) (w .1))
+              (broken-to r (w .0) (w .1) (w .2)),
         ))
 
     -- so by round r at least r + 1 variables are settled
@@ -112,7 +113,8 @@ module _ (S : System) (inside : Inside S) (x : ℕ → ℕ → ℕ)
     reach = go (grown (S .variables - 1))
       where
         equal : S .variables ≤ settled y (S .variables - 1) → (j : ℕ) → j < S .variables → x (S .variables - 1) j ≡ y j
-        equal h j l = omega (arith, sum-full (S .variables) (same (x (S .variables - 1)) y) (same-le (x (S .variables - 1)) y) h j l, below y sol (S .variables - 1) j)
+        equal h j l =
+            omega (arith, sum-full (S .variables) (same (x (S .variables - 1)) y) (same-le (x (S .variables - 1)) y) h j l, below y sol (S .variables - 1) j)
 
         go : Done ⊎ (min (S .variables) (S .variables - 1 + 1) ≤ settled y (S .variables - 1)) → Done
         go (inl d) = d

@@ -68,7 +68,8 @@ module _ (S : System) where
     where
       go : Dec (k ≡ n) → (k < n → value t (S .from k) + S .up k ≤ value (relaxed S n t) (S .to k) + S .down k)
           → value t (S .from k) + S .up k ≤ value (relax S n (relaxed S n t)) (S .to k) + S .down k
-      go (yes w) ih = rw w (omega (arith, relax-push n (relaxed S n t) (omega (arith, i .to-in n (omega arith), relaxed-length n t)), relaxed-rise n t (S .from n)))
+      go (yes w) ih =
+          rw w (omega (arith, relax-push n (relaxed S n t) (omega (arith, i .to-in n (omega arith), relaxed-length n t)), relaxed-rise n t (S .from n)))
       go (no ne) ih = omega (arith, ih (omega arith), relax-rise n (relaxed S n t) (S .to k))
 
   pub relaxed-bound : (n : ℕ) (t : List ℕ) (b c : ℕ) → ((k : ℕ) → k < n → S .up k ≤ c) → ((j : ℕ) → value t j ≤ b)

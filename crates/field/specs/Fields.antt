@@ -25,11 +25,13 @@ module _ (s : List ℕ) (at : ℕ) where
   unfolding fieldAt
   field-past len r h k l = simp (sym (r .is), lt-leb _ _ h, le-ltb _ _ k, lt-leb _ _ l)
 
-  pub field-whole : (len : ℕ) → NumberRead s (at + 1) 2 len → at < length s → 3 ≤ length s - at → len ≤ length s - at - 3 → Whole (getD s at 0) len ≡ fieldAt s at
+  pub field-whole : (len : ℕ) → NumberRead s (at + 1) 2 len → at < length s → 3 ≤ length s - at → len ≤ length s - at - 3
+      → Whole (getD s at 0) len ≡ fieldAt s at
   unfolding fieldAt
   field-whole len r h k l = simp (sym (r .is), lt-leb _ _ h, le-ltb _ _ k, le-leb _ _ l)
 
-whole-cases : (b1 b2 b3 : Bool) (tag len t l : ℕ) → cond b1 End (cond b2 Cut (cond b3 (Whole tag len) Cut)) ≡ Whole t l → (b1 ≡ false) × (b2 ≡ false) × (b3 ≡ true) × (tag ≡ t) × (len ≡ l)
+whole-cases : (b1 b2 b3 : Bool) (tag len t l : ℕ) → cond b1 End (cond b2 Cut (cond b3 (Whole tag len) Cut)) ≡ Whole t l
+    → (b1 ≡ false) × (b2 ≡ false) × (b3 ≡ true) × (tag ≡ t) × (len ≡ l)
 whole-cases true b2 b3 tag len t l e = let z : _≡_ {A = ℕ} 0 1 = cc in absurd (omega arith)
 whole-cases false true b3 tag len t l e = let z : _≡_ {A = ℕ} 0 1 = cc in absurd (omega arith)
 whole-cases false false false tag len t l e = let z : _≡_ {A = ℕ} 0 1 = cc in absurd (omega arith)

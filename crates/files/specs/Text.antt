@@ -78,11 +78,13 @@ few-digits value k h f = cases (leb k 20) refl
         let least : 10 ^ (k - 1) ≤ value = f .2 (omega arith) in
         omega arith
 
-pub digits-few : (value : ℕ) (text : List ℕ) (k : ℕ) → value < 2 ^ 64 → Counts k text → Fewest 10 1 value k → take k text ≡ digits 10 k value → DigitsOf value text k
+pub digits-few : (value : ℕ) (text : List ℕ) (k : ℕ) → value < 2 ^ 64 → Counts k text → Fewest 10 1 value k → take k text ≡ digits 10 k value
+    → DigitsOf value text k
 digits-few value text k h c f d = record { counts = c; fewest = f; is = d; most = few-digits value k h f }
 
 -- a name is stored, and then the digits behind it
-pub decimal-put : (before : List ℕ) (at : ℕ) (name : List ℕ) (value : ℕ) (mid : List ℕ) (behind : ℕ) (text : List ℕ) (k : ℕ) (after : List ℕ) (r : ℕ) → DigitsOf value text k → BytesPut before at name mid behind → BytesPut mid behind (take k text) after r → DecimalPut before at name value after r
+pub decimal-put : (before : List ℕ) (at : ℕ) (name : List ℕ) (value : ℕ) (mid : List ℕ) (behind : ℕ) (text : List ℕ) (k : ℕ) (after : List ℕ) (r : ℕ)
+    → DigitsOf value text k → BytesPut before at name mid behind → BytesPut mid behind (take k text) after r → DecimalPut before at name value after r
 decimal-put before at name value mid behind text k after r d first second =
     record { width = k; fewest = d .fewest; is = is; end = omega (arith, first .end, second .end, d .counts .1); most = d .most; counts = second .counts }
   where

@@ -12,7 +12,8 @@ use borrow.Author.Tests.{lt-ltb, le-ltb}
 use Rattle.order.specs.Order.{bit, seconds, firsts, Proper}
 use Rattle.order.specs.Seconds.{bit-first, bit-second, seconds-more, firsts-seconds, seconds-first, firsts-first, seconds-second, firsts-second}
 use Rattle.order.specs.Beginning.{Beginning, Extends}
-use Rattle.order.specs.Children.{beginning-empty, first-child, second-child, whole-proper, extends-bit, extends-seconds, extends-firsts, extends-itself, first-parent, second-parent}
+use Rattle.order.specs.Children.{beginning-empty, first-child, second-child, whole-proper, extends-bit, extends-seconds, extends-firsts, extends-itself}
+use Rattle.order.specs.Children.{first-parent, second-parent}
 use Rattle.order.specs.Passes.{passAt, timeOf}
 use Rattle.order.specs.PassLaws.{pass-first, pass-second}
 use Rattle.sheet.specs.Sound.{FlightSound}

@@ -26,5 +26,6 @@ module _ {f : FlightSection} {p r : FlightPlan} (P : Planned f p) (R : Planned f
     figure = (P .figure ∙ sym (R .figure)) i;
     order = (P .order ∙ sym (R .order)) i;
     first = padded-same (f .blocks) (p .first) (r .first) l₁ (λ j l. ap (λ (q : Passes). q .first) (same-passes j l)) (P .no-more-first) (R .no-more-first) i;
-    second = padded-same (f .blocks) (p .second) (r .second) l₂ (λ j l. ap (λ (q : Passes). q .second) (same-passes j l)) (P .no-more-second) (R .no-more-second) i;
+    second =
+        padded-same (f .blocks) (p .second) (r .second) l₂ (λ j l. ap (λ (q : Passes). q .second) (same-passes j l)) (P .no-more-second) (R .no-more-second) i;
   }

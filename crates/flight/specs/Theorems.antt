@@ -43,7 +43,8 @@ module _ (f : FlightSection) (sound : FlightSound f) where
       → (passesAt (chosenPasses f) i .first ≤ passesAt ps i .first) × (passesAt (chosenPasses f) i .second ≤ passesAt ps i .second)
   unfolding chosenPasses
   flight-earliest ps law keeps i l = (
-    rw (start-first f (chosenPasses f) i l, start-first f ps i l) at (least-earliest f (chosenOrder f) sound (chosen-proper f sound) ps law keeps i (omega arith)),
+    rw (start-first f (chosenPasses f) i l, start-first f ps i l)
+        at (least-earliest f (chosenOrder f) sound (chosen-proper f sound) ps law keeps i (omega arith)),
     rw (second-start f (chosenPasses f) i, second-start f ps i)
         at (least-earliest f (chosenOrder f) sound (chosen-proper f sound) ps law keeps (f .blocks + i) (omega arith)),
   )

@@ -81,7 +81,8 @@ module _ (f : FlightSection) where
     all-sum : (m : ℕ) → sumOver (f .blocks + m) (reach f) ≤ 20000 * f .blocks + 10000 * m
     unfolding sumOver
     all-sum zero = rw (add-zero (f .blocks)) (omega (arith, firsts-sum (f .blocks) (omega arith)))
-    all-sum (suc m) = rw (add-suc (f .blocks) m) (omega (arith, all-sum m, reach-second (f .blocks + m) (omega arith), s .most-second (f .blocks + m - f .blocks)))
+    all-sum (suc m) =
+        rw (add-suc (f .blocks) m) (omega (arith, all-sum m, reach-second (f .blocks + m) (omega arith), s .most-second (f .blocks + m - f .blocks)))
 
     reach-sum : sumOver (2 * f .blocks) (reach f) ≤ 960000
     reach-sum = rw e (omega (arith, all-sum (f .blocks), s .most-blocks))

@@ -1,4 +1,5 @@
--- A schedule of the constraints is what the rules call a timetable that keeps the order, and conversely: by the constraints each pass ends before the next in the order
+-- A schedule of the constraints is what the rules call a timetable that keeps the order, and conversely: by the constraints each pass ends before the next in
+-- the order
 -- starts, which by the laws of the rules makes all pairs apart. The last pass of the order ends last, and so gives the figure.
 use mathlib.Core.Path.{_≡_, sym, ap, _∙_}
 use mathlib.Core.List.{List}
@@ -82,7 +83,9 @@ module _ (f : FlightSection) (w : ℕ) (proper : Proper (f .blocks) w) where
             at (no e) = omega (arith, before, clear-end f ps p, end-is f ps (2 * f .blocks - 1))
               where
                 before : Clear f ps p (2 * f .blocks - 1)
-                before = rw (a .2, last-pass proper some) at (before-later f ps w proper (next-apart f ps w law keeps proper) (a .0) (2 * f .blocks - 1) (omega arith) (omega arith))
+                before =
+                    rw (a .2, last-pass proper some)
+                    at (before-later f ps w proper (next-apart f ps w law keeps proper) (a .0) (2 * f .blocks - 1) (omega arith) (omega arith))
 
     pub figure-last : flightFigure f ps ≡ passEnd f ps (2 * f .blocks - 1)
     unfolding flightFigure

@@ -77,7 +77,8 @@ fn write_constraints<'a>(
     rows: &mut [u64],
 )
     requires { ⌜ WriteConstraintsPre (orderedFlight n order turn (now first) (now second) (now least) (now most)) (now rows) ⌝ }
-    ensures { λ _. ⌜ Rows (orderedFlight n order turn (now (first .entry)) (now (second .entry)) (now (least .entry)) (now (most .entry))) (now (rows .exit)) (4 * n - 1) ⌝ }
+    ensures { λ _. ⌜ Rows (orderedFlight n order turn (now (first .entry)) (now (second .entry)) (now (least .entry)) (now (most .entry)))
+        (now (rows .exit)) (4 * n - 1) ⌝ }
 {
     let count = 4 * n - 1;
     let mut k = 0;
@@ -105,7 +106,8 @@ pub fn least_starts<'a>(
     starts: &mut [u64],
 ) -> bool
     requires { ⌜ LeastStartsPre (orderedFlight n order turn (now first) (now second) (now least) (now most)) (now rows) (now starts) ⌝ }
-    ensures { λ r. ⌜ Least (orderedFlight n order turn (now (first .entry)) (now (second .entry)) (now (least .entry)) (now (most .entry))) (now (rows .exit)) (now (starts .exit)) r ⌝ }
+    ensures { λ r. ⌜ Least (orderedFlight n order turn (now (first .entry)) (now (second .entry)) (now (least .entry)) (now (most .entry)))
+        (now (rows .exit)) (now (starts .exit)) r ⌝ }
 {
     write_constraints(n, order, turn, first, second, least, most, rows);
     difference::solve(rows, starts)

@@ -50,7 +50,8 @@ module _ {n left x : ℕ} {first second delay rows₀ starts₀ : List ℕ} (pre
 
     pub only-second-search-pre : (a y : ℕ) → a ≡ firsts x (2 * n - left) → n ≤ a → y ≡ x + 2 ^ (2 * n - left)
         → SearchPre n (left - 1) y first second delay rows₀ starts₀
-    only-second-search-pre a y e l d = record { room = pre .room; within = short; begun = second-begun y (second-left n left x more (pre .within) (omega arith)) d }
+    only-second-search-pre a y e l d =
+        record { room = pre .room; within = short; begun = second-begun y (second-left n left x more (pre .within) (omega arith)) d }
 
     pub second-search-pre : {rows starts : List ℕ} → length rows ≡ length rows₀ → length starts ≡ length starts₀
         → (a b y : ℕ) → a ≡ firsts x (2 * n - left) → b ≡ seconds x (2 * n - left) → b < a → y ≡ x + 2 ^ (2 * n - left)
@@ -70,7 +71,9 @@ module _ (n left x : ℕ) (first second delay : List ℕ) (more : left ≡ 0 →
       → r ≡ searched (ordersOf (freeSection n first second delay)) left x best
   unfolding ordersOf
   only-second within a y e l d q =
-      q ∙ ap (λ (z : ℕ). searched O (left - 1) z best) d ∙ sym (rw (← step) at (searched-second O (left - 1) x best (rw (← step, ← e) l) (rw (← step) (second-left n left x more within (omega arith)))))
+      q
+      ∙ ap (λ (z : ℕ). searched O (left - 1) z best) d
+      ∙ sym (rw (← step) at (searched-second O (left - 1) x best (rw (← step, ← e) l) (rw (← step) (second-left n left x more within (omega arith)))))
 
   pub only-first : (a b : ℕ) → a ≡ firsts x (2 * n - left) → b ≡ seconds x (2 * n - left) → a < n → a ≤ b
       → r ≡ searched (ordersOf (freeSection n first second delay)) (left - 1) x best

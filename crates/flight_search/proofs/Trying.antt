@@ -71,7 +71,9 @@ least-starts-pre pre = record {
 module _ {n w : ℕ} {first second delay : List ℕ} (times : BlockTimes n first second delay) (proper : Proper n w) where
   module _ {rows starts : List ℕ} {found : Bool} (least : Least (orderedFlight n w 0 first second delay delay) rows starts found) where
     pub figure-fits : getD starts (2 * n - 1) 0 + getD second (n - 1) 0 < 2 ^ 64
-    figure-fits = rw (least .starts) (omega (arith, least-low (orderedFlight n w 0 first second delay delay) (times-good times proper) (2 * n - 1), times .second-low (n - 1)))
+    figure-fits =
+        rw (least .starts)
+        (omega (arith, least-low (orderedFlight n w 0 first second delay delay) (times-good times proper) (2 * n - 1), times .second-low (n - 1)))
 
     same-possible : ordersOf (freeSection n first second delay) .possible w ≡ found
     unfolding ordersOf possibleIn
@@ -88,7 +90,8 @@ module _ {n w : ℕ} {first second delay : List ℕ} (times : BlockTimes n first
       module _ (e : not found ≡ false) where
         pub try-stays : not (b .possible) ≡ false → b .figure ≤ getD starts (2 * n - 1) 0 + getD second (n - 1) 0
             → b ≡ tried (ordersOf (freeSection n first second delay)) w b
-        try-stays p l = stays-better (ordersOf (freeSection n first second delay)) w b (same-possible ∙ not-false found e) (not-false (b .possible) p) (rw same-figure l)
+        try-stays p l =
+            stays-better (ordersOf (freeSection n first second delay)) w b (same-possible ∙ not-false found e) (not-false (b .possible) p) (rw same-figure l)
 
         pub try-replaces : not (b .possible) ≡ false → getD starts (2 * n - 1) 0 + getD second (n - 1) 0 < b .figure
             → _≡_ {A = Incumbent} (record { possible = true; figure = getD starts (2 * n - 1) 0 + getD second (n - 1) 0; order = w })

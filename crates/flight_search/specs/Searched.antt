@@ -44,7 +44,8 @@ module _ (O : Orders) (w : ℕ) (b : Incumbent) where
   tried-attained proper a = go (improves O w b) refl
     where
       go : (i : Bool) → improves O w b ≡ i → Attained O (cond i (record { possible = true; figure = O .figure w; order = w }) b)
-      go true e = record { proper = λ _. proper; possible = λ _. and-or-first (O .possible w) (b .possible) (ltb (O .figure w) (b .figure)) e; figure = λ _. refl }
+      go true e =
+          record { proper = λ _. proper; possible = λ _. and-or-first (O .possible w) (b .possible) (ltb (O .figure w) (b .figure)) e; figure = λ _. refl }
       go false e = a
 
   pub tried-good : O .possible w ≡ true → AsGood O w (tried O w b)
@@ -62,7 +63,12 @@ module _ (O : Orders) (w : ℕ) (b : Incumbent) where
   tried-keeps v g = go (improves O w b) refl
     where
       go : (i : Bool) → improves O w b ≡ i → AsGood O v (cond i (record { possible = true; figure = O .figure w; order = w }) b)
-      go true e = record { some = refl; below = omega (arith, g .below, ltb-true (O .figure w) (b .figure) (and-or-last (O .possible w) (b .possible) (ltb (O .figure w) (b .figure)) e (g .some))) }
+      go true e =
+          record {
+            some = refl;
+            below =
+                omega (arith, g .below, ltb-true (O .figure w) (b .figure) (and-or-last (O .possible w) (b .possible) (ltb (O .figure w) (b .figure)) e (g .some)));
+          }
       go false e = g
 
 -- What a child keeps, a child that may be left out keeps.

@@ -8,7 +8,8 @@ use native.Mathlib.Omega.{arith}
 use lib.ListN.{length, getD, set, length-set}
 use lib.Seq.{getD-set-same, getD-set-other}
 use Rattle.interleaving.specs.declared.State.{State}
-use Rattle.interleaving.specs.Instance.{Instance, desk-capped, scanOf, deskOf, weightOf, instanceLength, timeCap, weightCap, scannerCap, stripSpan, freeCap, stripCost, costCap, pathCap}
+use Rattle.interleaving.specs.Instance.{Instance, desk-capped, scanOf, deskOf, weightOf, instanceLength, timeCap, weightCap, scannerCap, stripSpan}
+use Rattle.interleaving.specs.Instance.{freeCap, stripCost, costCap, pathCap}
 use Rattle.interleaving.specs.Search.{StripLeft, scanned, finish, stepOf}
 use Rattle.interleaving.specs.SearchLaws.{max-least}
 

@@ -57,14 +57,17 @@ module _ (J : List ℕ) where
       go (yes l) = rw (lt-ltb _ _ l) (inr (record { end = s; ends = refl; figure = refl; path = refl }))
       go (no l) = rw (le-ltb (s .cost) (b .figure) (omega arith)) (inl refl)
   search-attains (suc k) s b =
-      over-cases (Attained J (suc k) s) (branch J (searchFrom J k) s) 3 b (λ d p r. go d p r (decLt (getD (s .taken) d 0) (getD J d 0)) (search-attains k (stepOf J s d) r))
+      over-cases (Attained J (suc k) s) (branch J (searchFrom J k) s) 3 b
+      (λ d p r. go d p r (decLt (getD (s .taken) d 0) (getD J d 0)) (search-attains k (stepOf J s d) r))
     where
       go : (d : ℕ) → d < 3 → (r : Incumbent) → Dec (getD (s .taken) d 0 < getD J d 0)
           → (searchFrom J k (stepOf J s d) r ≡ r) ⊎ Attained J k (stepOf J s d) (searchFrom J k (stepOf J s d) r)
           → (branch J (searchFrom J k) s d r ≡ r) ⊎ Attained J (suc k) s (branch J (searchFrom J k) s d r)
       go d p r (no l) i = inl (branch-no J (searchFrom J k) s d r (omega arith))
       go d p r (yes l) (inl e) = inl (branch-yes J (searchFrom J k) s d r l ∙ e)
-      go d p r (yes l) (inr a) = inr (subst (Attained J (suc k) s) (sym (branch-yes J (searchFrom J k) s d r l)) (record { end = a .end; ends = (d, p, l, a .ends); figure = a .figure; path = a .path }))
+      go d p r (yes l) (inr a) =
+          inr
+          (subst (Attained J (suc k) s) (sym (branch-yes J (searchFrom J k) s d r l)) (record { end = a .end; ends = (d, p, l, a .ends); figure = a .figure; path = a .path }))
 
   -- the numbers of a state's completions lie between two numbers
   pub path-range : (k : ℕ) (s e : State) → Completes J k s e → (s .path * 4 ^ k ≤ e .path) × (e .path < (s .path + 1) * 4 ^ k)
@@ -139,7 +142,8 @@ module _ (J : List ℕ) where
             low : (q ≡ r) ⊎ Attained J k (stepOf J s d) q → q .path ≤ (s .path * 4 + suc d + 1) * 4 ^ k
             low (inl e) = rw e (le-trans (g .low) wider)
             low (inr a) =
-                rw (a .path) (le-trans (le-of-lt (path-range k (stepOf J s d) (a .end) (a .ends) .1)) (mul-le-mul-right (4 ^ k) (omega (arith, step-path J s d))))
+                rw (a .path)
+                (le-trans (le-of-lt (path-range k (stepOf J s d) (a .end) (a .ends) .1)) (mul-le-mul-right (4 ^ k) (omega (arith, step-path J s d))))
 
             at : (x : ℕ) → x < suc d → StripLeft J s x → Dec (x ≡ d) → LowerBound J k (stepOf J s x) (q .figure)
             at x l m (yes e) = rw e (search-bound J k (stepOf J s d) r)

@@ -47,8 +47,11 @@ module _ (J : List ℕ) (j : Instance J) (s : State) (g : Consistent J s) (d : �
   consistent-step = record {
     fits = capped-step J j s (g .fits) d p m more;
     within = λ e q. go e q (ℕ-discrete e d);
-    time = omega (arith, g .time, sum3-set (scanSum J) (s .taken) d (getD (s .taken) d 0 + 1) p (g .fits .takens), ap (scanSum J d) (add-one (getD (s .taken) d 0)));
-    left = one-less _ _ _ (getD J d 0) (getD (s .taken) d 0) (g .left) (sum3-set (λ e i. getD J e 0 - i) (s .taken) d (getD (s .taken) d 0 + 1) p (g .fits .takens)) m;
+    time =
+        omega (arith, g .time, sum3-set (scanSum J) (s .taken) d (getD (s .taken) d 0 + 1) p (g .fits .takens), ap (scanSum J d) (add-one (getD (s .taken) d 0)));
+    left =
+        one-less _ _ _ (getD J d 0) (getD (s .taken) d 0) (g .left)
+        (sum3-set (λ e i. getD J e 0 - i) (s .taken) d (getD (s .taken) d 0 + 1) p (g .fits .takens)) m;
   }
     where
       go : (e : ℕ) → e < 3 → Dec (e ≡ d) → getD (set (s .taken) d (getD (s .taken) d 0 + 1)) e 0 ≤ getD J e 0

@@ -1,4 +1,5 @@
--- The sorting section as one list of numbers, which the search reads: strips of each desk, then scan times, desk times and weights, six to a desk. Desks and strips are counted from 0.
+-- The sorting section as one list of numbers, which the search reads: strips of each desk, then scan times, desk times and weights, six to a desk. Desks and
+-- strips are counted from 0.
 use Prim.Native.Nat.{ℕ, _+_, _*_, _≤_, _<_}
 use mathlib.Core.Path.{_≡_, subst}
 use mathlib.Core.List.{List}

@@ -1,4 +1,5 @@
--- Laws of the search. It never worsens its incumbent; what it returns bounds what it searched; and an incumbent that bounds a state from below stays, which is what every cut asks.
+-- Laws of the search. It never worsens its incumbent; what it returns bounds what it searched; and an incumbent that bounds a state from below stays, which is
+-- what every cut asks.
 use mathlib.Core.Path.{_≡_, refl, sym, ap, _∙_}
 use mathlib.Core.Bool.{cond}
 use mathlib.Core.List.{List}
@@ -68,7 +69,9 @@ module _ (J : List ℕ) where
   unfolding keep
   keep-falls s b = go (decLt (s .cost) (b .figure))
     where
-      go : Dec (s .cost < b .figure) → (cond (ltb (s .cost) (b .figure)) (record { figure = s .cost; path = s .path }) b .figure ≤ b .figure) × (cond (ltb (s .cost) (b .figure)) (record { figure = s .cost; path = s .path }) b .figure ≤ s .cost)
+      go : Dec (s .cost < b .figure)
+          → (cond (ltb (s .cost) (b .figure)) (record { figure = s .cost; path = s .path }) b .figure ≤ b .figure)
+          × (cond (ltb (s .cost) (b .figure)) (record { figure = s .cost; path = s .path }) b .figure ≤ s .cost)
       go (yes l) = rw (lt-ltb _ _ l) (omega arith, omega arith)
       go (no l) = rw (le-ltb (s .cost) (b .figure) (omega arith)) (omega arith, omega arith)
 
@@ -90,13 +93,16 @@ module _ (J : List ℕ) where
     where
       at : (d : ℕ) → d < 3 → StripLeft J s d
           → overDesks (branch J (searchFrom J k) s) 3 b .figure ≤ searchFrom J k (stepOf J s d) (overDesks (branch J (searchFrom J k) s) d b) .figure
-      at d p m = rw (branch-yes (searchFrom J k) s d (overDesks (branch J (searchFrom J k) s) d b) m) at (over-more (branch J (searchFrom J k) s) (branch-falls (searchFrom J k) s (search-falls k)) 3 d b p)
+      at d p m =
+          rw (branch-yes (searchFrom J k) s d (overDesks (branch J (searchFrom J k) s) d b) m)
+          at (over-more (branch J (searchFrom J k) s) (branch-falls (searchFrom J k) s (search-falls k)) 3 d b p)
 
   -- an incumbent that bounds the state stays: what a cut asks
   pub search-stays : (k : ℕ) (s : State) (b : Incumbent) → LowerBound J k s (b .figure) → searchFrom J k s b ≡ b
   unfolding searchFrom LowerBound keep
   search-stays zero s b h = rw (le-ltb (s .cost) (b .figure) h)
-  search-stays (suc k) s b h = over-stays (branch J (searchFrom J k) s) 3 b (λ d p. go d p (decLt (getD (s .taken) d 0) (getD J d 0)) (λ l. search-stays k (stepOf J s d) b (h d p l)))
+  search-stays (suc k) s b h =
+      over-stays (branch J (searchFrom J k) s) 3 b (λ d p. go d p (decLt (getD (s .taken) d 0) (getD J d 0)) (λ l. search-stays k (stepOf J s d) b (h d p l)))
     where
       go : (d : ℕ) → d < 3 → Dec (getD (s .taken) d 0 < getD J d 0) → (StripLeft J s d → searchFrom J k (stepOf J s d) b ≡ b)
           → branch J (searchFrom J k) s d b ≡ b

@@ -22,7 +22,8 @@ use Rattle.judge_layout.specs.declared.Verdict.{Verdict}
 use Rattle.judge_members.specs.Members.{present, headForm, memberForm, memberPlace, begun, memberFollows, afterMember, headNumber}
 use Rattle.judge_members.specs.Laws.{Kept, PlaceAsked, MemberAsked, AfterAsked, HeadAsked, begun-kept, member-kept}
 use Rattle.judge_members.specs.declared.Progress.{Progress}
-use Rattle.judge.specs.Judged.{pickPart, partAt, sectionFrom, sectionVerdict, sectionsFrom, statedFigure, turnedBack, found, concluded, judgedPlan, judged}
+use Rattle.judge.specs.Judged.{pickPart, partAt, sectionFrom, sectionVerdict, sectionsFrom, statedFigure, turnedBack, found, concluded, judgedPlan}
+use Rattle.judge.specs.Judged.{judged}
 use Rattle.judge.specs.declared.Judged.{Judged}
 
 pub record PartsAsked (s : Sheet) (plan : List ℕ) (mosaic sorting flight : Part) : Type 0 where
@@ -34,7 +35,8 @@ pub record StatedAsked (s : Sheet) (plan : List ℕ) (section head : ℕ) : Type
   pub here : head ≡ partAt s plan section .head
 
 -- the part that is picked is the plan's
-pub picked : (s : Sheet) (plan : List ℕ) (section : ℕ) (mosaic sorting flight part : Part) → VerdictAsked s plan mosaic sorting flight → part ≡ pickPart section mosaic sorting flight → part ≡ partAt s plan section
+pub picked : (s : Sheet) (plan : List ℕ) (section : ℕ) (mosaic sorting flight part : Part) → VerdictAsked s plan mosaic sorting flight
+    → part ≡ pickPart section mosaic sorting flight → part ≡ partAt s plan section
 unfolding partAt
 picked s plan section mosaic sorting flight part a e = e ∙ rw (a .mosaic-is, a .sorting-is, a .flight-is)
 
@@ -80,11 +82,13 @@ pub record Outer (s : Sheet) (plan : List ℕ) (section : ℕ) : Type 0 where
 pub outer-start : (s : Sheet) (plan : List ℕ) → Outer s plan 1
 outer-start s plan = record { low = omega arith; high = omega arith; same = refl }
 
-pub sections-next : (left : ℕ) (s : Sheet) (plan : List ℕ) (section : ℕ) → sectionVerdict s plan section .number ≡ 0 → sectionsFrom (suc left) s plan section ≡ sectionsFrom left s plan (section + 1)
+pub sections-next : (left : ℕ) (s : Sheet) (plan : List ℕ) (section : ℕ) → sectionVerdict s plan section .number ≡ 0
+    → sectionsFrom (suc left) s plan section ≡ sectionsFrom left s plan (section + 1)
 unfolding sectionsFrom
 sections-next left s plan section e = rw (eq-eqb _ _ e, sectionsFrom)
 
-pub sections-stop : (left : ℕ) (s : Sheet) (plan : List ℕ) (section : ℕ) → (sectionVerdict s plan section .number ≡ 0 → ⊥) → sectionsFrom (suc left) s plan section ≡ sectionVerdict s plan section
+pub sections-stop : (left : ℕ) (s : Sheet) (plan : List ℕ) (section : ℕ) → (sectionVerdict s plan section .number ≡ 0 → ⊥)
+    → sectionsFrom (suc left) s plan section ≡ sectionVerdict s plan section
 unfolding sectionsFrom
 sections-stop left s plan section e = rw (ne-eqb _ _ e, sectionsFrom)
 
@@ -106,7 +110,12 @@ module _ (s : Sheet) (plan : List ℕ) (section : ℕ) (o : Outer s plan section
     outer-next : sectionVerdict s plan section .number ≡ 0 → Outer s plan (section + 1)
     outer-next e =
         let l = o .low in
-        record { low = omega arith; high = omega arith; same = ap (λ n. sectionsFrom n s plan (section + 1)) fewer ∙ sym (sections-next (3 - section) s plan section e) ∙ opened }
+        record {
+          low = omega arith;
+          high = omega arith;
+          same = ap (λ n. sectionsFrom n s plan (section + 1)) fewer ∙ sym
+              (sections-next (3 - section) s plan section e) ∙ opened;
+        }
       where
         fewer : 4 - (section + 1) ≡ 3 - section
         fewer = omega arith
@@ -132,23 +141,32 @@ pub record Inner (s : Sheet) (plan : List ℕ) (section : ℕ) (part : Part) (k 
   pub kept : Kept p
   pub same : sectionFrom (part .members - k) s plan section part k p ≡ sectionVerdict s plan section
 
-pub section-here : (s : Sheet) (plan : List ℕ) (section : ℕ) (part : Part) → part ≡ partAt s plan section → present s section ≡ true → sectionFrom (part .members) s plan section part 0 begun ≡ sectionVerdict s plan section
+pub section-here : (s : Sheet) (plan : List ℕ) (section : ℕ) (part : Part) → part ≡ partAt s plan section → present s section ≡ true
+    → sectionFrom (part .members) s plan section part 0 begun ≡ sectionVerdict s plan section
 unfolding sectionVerdict
 section-here s plan section part e h = rw (h, e)
 
-pub member-next : (left : ℕ) (s : Sheet) (plan : List ℕ) (section : ℕ) (part : Part) (k : ℕ) (p : Progress) → memberFollows s plan section k (memberPlace section (part .head) k) p ≡ true → sectionFrom (suc left) s plan section part k p ≡ sectionFrom left s plan section part (k + 1) (afterMember s plan section (memberPlace section (part .head) k) p)
+pub member-next : (left : ℕ) (s : Sheet) (plan : List ℕ) (section : ℕ) (part : Part) (k : ℕ) (p : Progress)
+    → memberFollows s plan section k (memberPlace section (part .head) k) p ≡ true
+    → sectionFrom (suc left) s plan section part k p
+    ≡ sectionFrom left s plan section part (k + 1) (afterMember s plan section (memberPlace section (part .head) k) p)
 unfolding sectionFrom
 member-next left s plan section part k p e = rw (e, sectionFrom)
 
-pub member-wrong : (left : ℕ) (s : Sheet) (plan : List ℕ) (section : ℕ) (part : Part) (k : ℕ) (p : Progress) → memberFollows s plan section k (memberPlace section (part .head) k) p ≡ false → sectionFrom (suc left) s plan section part k p ≡ verdict ruleBroken (memberPlace section (part .head) k)
+pub member-wrong : (left : ℕ) (s : Sheet) (plan : List ℕ) (section : ℕ) (part : Part) (k : ℕ) (p : Progress)
+    → memberFollows s plan section k (memberPlace section (part .head) k) p ≡ false
+    → sectionFrom (suc left) s plan section part k p ≡ verdict ruleBroken (memberPlace section (part .head) k)
 unfolding sectionFrom
 member-wrong left s plan section part k p e = rw (e, sectionFrom)
 
-pub members-judged : (s : Sheet) (plan : List ℕ) (section : ℕ) (part : Part) (k : ℕ) (p : Progress) → sectionFrom 0 s plan section part k p ≡ verdict (headNumber s plan section part p) (part .head)
+pub members-judged : (s : Sheet) (plan : List ℕ) (section : ℕ) (part : Part) (k : ℕ) (p : Progress)
+    → sectionFrom 0 s plan section part k p ≡ verdict (headNumber s plan section part p) (part .head)
 unfolding sectionFrom
 members-judged s plan section part k p = refl
 
-pub inner-start : (s : Sheet) (plan : List ℕ) (section : ℕ) (part mosaic sorting flight : Part) (p : Progress) (x : Bool) → Outer s plan section → section ≤ 3 → x ≡ present s section → not x ≡ false → PartsAsked s plan mosaic sorting flight → length plan * 1 < 2 ^ 63 → part ≡ pickPart section mosaic sorting flight → p ≡ begun → Inner s plan section part 0 p
+pub inner-start : (s : Sheet) (plan : List ℕ) (section : ℕ) (part mosaic sorting flight : Part) (p : Progress) (x : Bool) → Outer s plan section → section ≤ 3
+    → x ≡ present s section → not x ≡ false → PartsAsked s plan mosaic sorting flight → length plan * 1 < 2 ^ 63 → part ≡ pickPart section mosaic sorting flight
+    → p ≡ begun → Inner s plan section part 0 p
 inner-start s plan section part mosaic sorting flight p x o h ex hx a small ep eb =
     let e = picked s plan section mosaic sorting flight part (a .parts) ep in
     record {
@@ -177,7 +195,8 @@ module _ (s : Sheet) (plan : List ℕ) (section : ℕ) (part : Part) (k : ℕ) (
     opened-member = ap (λ n. sectionFrom n s plan section part k p) (sym left-over) ∙ i .same
 
     before-end : part .head + sizeOf (memberForm section) * k < 2 ^ 63
-    before-end = let l : k ≤ part .members = omega arith in omega (arith, i .small, fits .within, fits .members, mul-le-mul-left (sizeOf (memberForm section)) l)
+    before-end =
+        let l : k ≤ part .members = omega arith in omega (arith, i .small, fits .within, fits .members, mul-le-mul-left (sizeOf (memberForm section)) l)
 
     pub place-asked : PlaceAsked section (part .head) k
     place-asked = record { room = place-small section (part .head) k before-end }
@@ -200,10 +219,13 @@ module _ (s : Sheet) (plan : List ℕ) (section : ℕ) (part : Part) (k : ℕ) (
 
         pub inner-wrong : not x ≡ true → _≡_ {A = Verdict} (record { number = ruleBroken; place = place }) (sectionsFrom 3 s plan 1)
         unfolding verdict
-        inner-wrong h = ap (λ n. verdict ruleBroken n) ep ∙ sym fault ∙ outer-wrong s plan section (i .outer) (i .below) (λ z. broken (sym (ap (λ v. v .number) fault) ∙ z))
+        inner-wrong h =
+            ap (λ n. verdict ruleBroken n) ep ∙ sym fault ∙ outer-wrong s plan section (i .outer) (i .below) (λ z. broken (sym (ap (λ v. v .number) fault) ∙ z))
           where
             fault : sectionVerdict s plan section ≡ verdict ruleBroken (memberPlace section (part .head) k)
-            fault = sym opened-member ∙ member-wrong (part .members - (k + 1)) s plan section part k p (ap (λ n. memberFollows s plan section k n p) (sym ep) ∙ sym ex ∙ not-true x h)
+            fault =
+                sym opened-member
+                ∙ member-wrong (part .members - (k + 1)) s plan section part k p (ap (λ n. memberFollows s plan section k n p) (sym ep) ∙ sym ex ∙ not-true x h)
 
             broken : _≡_ {A = ℕ} ruleBroken 0 → ⊥
             broken z = omega arith
@@ -229,7 +251,11 @@ module _ (s : Sheet) (plan : List ℕ) (section : ℕ) (part : Part) (k : ℕ) (
 
   module _ (all : part .members ≤ k) (number : ℕ) (en : number ≡ headNumber s plan section part p) where
     judged-head : sectionVerdict s plan section ≡ verdict number (part .head)
-    judged-head = sym (i .same) ∙ ap (λ n. sectionFrom n s plan section part k p) none ∙ members-judged s plan section part k p ∙ ap (λ n. verdict n (part .head)) (sym en)
+    judged-head =
+        sym (i .same)
+        ∙ ap (λ n. sectionFrom n s plan section part k p) none
+        ∙ members-judged s plan section part k p
+        ∙ ap (λ n. verdict n (part .head)) (sym en)
       where
         none : part .members - k ≡ 0
         none = omega arith
@@ -253,7 +279,8 @@ module _ (s : Sheet) (plan : List ℕ) (section head : ℕ) (a : StatedAsked s p
   unfolding statedFigure
   stated-here figure h e = e ∙ rw (← ex, not-false x h, a .here)
 
-module _ (s : Sheet) (plan : List ℕ) (mosaic sorting flight : Part) (em : mosaic ≡ mosaicPart s plan) (es : sorting ≡ sortingPart s plan) (ef : flight ≡ flightPart s plan) where
+module _ (s : Sheet) (plan : List ℕ) (mosaic sorting flight : Part) (em : mosaic ≡ mosaicPart s plan) (es : sorting ≡ sortingPart s plan)
+    (ef : flight ≡ flightPart s plan) where
   pub stated-mosaic : SheetSound s → StatedAsked s plan 1 (mosaic .head)
   unfolding partAt pickPart
   stated-mosaic sound = record { sound = sound; here = ap (λ p. p .head) em }
@@ -276,7 +303,9 @@ module _ (s : Sheet) (plan : List ℕ) (layout : Verdict) (el : layout ≡ layou
     unfolding judgedPlan concluded
     section-wrong r h e = e ∙ rw (← el, eq-eqb _ _ hl, ← ev, ne-eqb _ _ h)
 
-    pub all-right : (mosaic sorting flight : ℕ) → v .number ≡ 0 → mosaic ≡ statedFigure s plan 1 → sorting ≡ statedFigure s plan 2 → flight ≡ statedFigure s plan 3 → _≡_ {A = Judged} (record { number = 0; place = 0; mosaic = mosaic; sorting = sorting; flight = flight }) (judgedPlan s plan)
+    pub all-right : (mosaic sorting flight : ℕ) → v .number ≡ 0 → mosaic ≡ statedFigure s plan 1 → sorting ≡ statedFigure s plan 2
+        → flight ≡ statedFigure s plan 3
+        → _≡_ {A = Judged} (record { number = 0; place = 0; mosaic = mosaic; sorting = sorting; flight = flight }) (judgedPlan s plan)
     unfolding judgedPlan concluded found
     all-right mosaic sorting flight h e₁ e₂ e₃ = rw (← el, eq-eqb _ _ hl, ← ev, eq-eqb _ _ h, e₁, e₂, e₃)
 
@@ -292,7 +321,8 @@ module _ (sheet plan : List ℕ) (s : Sheet) (es : s ≡ readSheet sheet) where
   pub sheet-sound : s .number ≡ 0 → SheetSound s
   sheet-sound h = rw es (read-sound sheet (sym (ap (λ x. x .number) es) ∙ h))
 
-pub sorting-at : (s : Sheet) (plan : List ℕ) (mosaic : Part) → SheetSound s → mosaic ≡ mosaicPart s plan → (SortingSound (s .sorting)) × (mosaic .end ≡ mosaicPart s plan .end)
+pub sorting-at : (s : Sheet) (plan : List ℕ) (mosaic : Part) → SheetSound s → mosaic ≡ mosaicPart s plan
+    → (SortingSound (s .sorting)) × (mosaic .end ≡ mosaicPart s plan .end)
 sorting-at s plan mosaic sound e = (sound .sorting, ap (λ p. p .end) e)
 
 pub flight-at : (s : Sheet) (plan : List ℕ) (sorting : Part) → sorting ≡ sortingPart s plan → sorting .end ≡ sortingPart s plan .end

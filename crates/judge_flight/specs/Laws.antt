@@ -50,7 +50,8 @@ module _ (plan : List ℕ) (at n p : ℕ) (block : Passes) where
   second-start h r = record { is = rw (le-ltb _ _ h) (ap (λ (q : Passes). q .second) (r .is)); fits = r .fits .second }
 
 module _ (f : FlightSection) (plan : List ℕ) (at p : ℕ) where
-  pub end-told : (start time : ℕ) → StartTold (startOf plan at (f .blocks) p) start → TimeTold (passTime f p) time → FigureTold (endOf f plan at p) (start + time)
+  pub end-told : (start time : ℕ) → StartTold (startOf plan at (f .blocks) p) start → TimeTold (passTime f p) time
+      → FigureTold (endOf f plan at p) (start + time)
   unfolding endOf
   end-told start time t u = record { is = rw (t .is, u .is); fits = omega (arith, t .fits, u .fits) }
 
@@ -59,7 +60,9 @@ pub record OrderedSoFar (f : FlightSection) (order : ℕ) (ps : List Passes) (k 
   pub within : k ≤ 2 * f .blocks - 1
   pub so-far : passesInOrder f order ps k ≡ true
 
-order-suc : (f : FlightSection) (order : ℕ) (ps : List Passes) (k : ℕ) → passesInOrder f order ps (suc k) ≡ (passesInOrder f order ps k && leb (clearAt f ps (passAt (f .blocks) order k)) (passStart f ps (passAt (f .blocks) order (k + 1))))
+order-suc : (f : FlightSection) (order : ℕ) (ps : List Passes) (k : ℕ)
+    → passesInOrder f order ps (suc k)
+    ≡ (passesInOrder f order ps k && leb (clearAt f ps (passAt (f .blocks) order k)) (passStart f ps (passAt (f .blocks) order (k + 1))))
 unfolding passesInOrder
 order-suc f order ps k = refl
 
@@ -75,7 +78,9 @@ pub ordered-none : (f : FlightSection) (order : ℕ) (ps : List Passes) → Orde
 unfolding passesInOrder
 ordered-none f order ps = record { within = omega arith; so-far = refl }
 
-module _ (f : FlightSection) (order : ℕ) (plan : List ℕ) (at k : ℕ) (a : OrderAsked f order at) (t : OrderedSoFar f order (blocksFrom plan at (f .blocks)) k) (less : k + 1 < 2 * f .blocks) (p q start end : ℕ) (ep : p ≡ passAt (f .blocks) order k) (eq : q ≡ passAt (f .blocks) order (k + 1)) (ts : StartTold (startOf plan at (f .blocks) q) start) (te : FigureTold (endOf f plan at p) end) where
+module _ (f : FlightSection) (order : ℕ) (plan : List ℕ) (at k : ℕ) (a : OrderAsked f order at) (t : OrderedSoFar f order (blocksFrom plan at (f .blocks)) k)
+    (less : k + 1 < 2 * f .blocks) (p q start end : ℕ) (ep : p ≡ passAt (f .blocks) order k) (eq : q ≡ passAt (f .blocks) order (k + 1))
+    (ts : StartTold (startOf plan at (f .blocks) q) start) (te : FigureTold (endOf f plan at p) end) where
   known-p : p < 2 * f .blocks
   known-p = rw ep (pass-known (a .proper) k (omega arith))
 
@@ -93,11 +98,16 @@ module _ (f : FlightSection) (order : ℕ) (plan : List ℕ) (at k : ℕ) (a : O
   ordered-more h =
       record {
         within = omega arith;
-        so-far = ap (passesInOrder f order (blocksFrom plan at (f .blocks))) (add-one k) ∙ order-suc f order (blocksFrom plan at (f .blocks)) k ∙ rw (t .so-far, ← end-there, ← start-there, le-leb _ _ h);
+        so-far =
+            ap (passesInOrder f order (blocksFrom plan at (f .blocks))) (add-one k)
+            ∙ order-suc f order (blocksFrom plan at (f .blocks)) k
+            ∙ rw (t .so-far, ← end-there, ← start-there, le-leb _ _ h);
       }
 
   pub ordered-wrong : start < end → false ≡ passesInOrder f order (blocksFrom plan at (f .blocks)) (2 * f .blocks - 1)
-  ordered-wrong h = sym (ap (passesInOrder f order (blocksFrom plan at (f .blocks))) all ∙ order-stays f order (blocksFrom plan at (f .blocks)) (suc k) (2 * f .blocks - 1 - suc k) here)
+  ordered-wrong h =
+      sym
+      (ap (passesInOrder f order (blocksFrom plan at (f .blocks))) all ∙ order-stays f order (blocksFrom plan at (f .blocks)) (suc k) (2 * f .blocks - 1 - suc k) here)
     where
       all : 2 * f .blocks - 1 ≡ suc k + (2 * f .blocks - 1 - suc k)
       all = omega arith
@@ -105,7 +115,8 @@ module _ (f : FlightSection) (order : ℕ) (plan : List ℕ) (at k : ℕ) (a : O
       here : passesInOrder f order (blocksFrom plan at (f .blocks)) (suc k) ≡ false
       here = order-suc f order (blocksFrom plan at (f .blocks)) k ∙ rw (t .so-far, ← end-there, ← start-there, lt-leb _ _ h)
 
-pub ordered-all : (f : FlightSection) (order : ℕ) (ps : List Passes) (k : ℕ) → OrderedSoFar f order ps k → 2 * f .blocks ≤ k + 1 → true ≡ passesInOrder f order ps (2 * f .blocks - 1)
+pub ordered-all : (f : FlightSection) (order : ℕ) (ps : List Passes) (k : ℕ) → OrderedSoFar f order ps k → 2 * f .blocks ≤ k + 1
+    → true ≡ passesInOrder f order ps (2 * f .blocks - 1)
 ordered-all f order ps k t h = sym (ap (passesInOrder f order ps) all ∙ t .so-far)
   where
     all : 2 * f .blocks - 1 ≡ k
@@ -135,7 +146,8 @@ unfolding greatestOver
 latest-none f ps = record { within = omega arith; is = refl; fits = omega arith }
 
 module _ (f : FlightSection) (plan : List ℕ) (at p value : ℕ) (t : LatestSoFar f (blocksFrom plan at (f .blocks)) p value) where
-  pub latest-more : (end next : ℕ) → p < 2 * f .blocks → FigureTold (endOf f plan at p) end → next ≡ max value end → LatestSoFar f (blocksFrom plan at (f .blocks)) (p + 1) next
+  pub latest-more : (end next : ℕ) → p < 2 * f .blocks → FigureTold (endOf f plan at p) end → next ≡ max value end
+      → LatestSoFar f (blocksFrom plan at (f .blocks)) (p + 1) next
   unfolding greatestOver
   latest-more end next h u e =
       let b = t .fits in
@@ -190,10 +202,16 @@ module _ (f : FlightSection) (members order : ℕ) (plan : List ℕ) (at : ℕ) 
       unfolding flightHead
       given-wrong g h = third-wrong _ _ _ _ (eq-eqb _ _ em) (sym ex ∙ not-false x hx) (given-other (f .ordered) (eqb order (f .order)) g (ne-eqb _ _ h))
 
-      pub head-given : (r : Bool) → f .ordered ≡ true → order ≡ f .order → r ≡ passesInOrder f order (blocksFrom plan at (f .blocks)) (2 * f .blocks - 1) → r ≡ flightHead f members order (blocksFrom plan at members)
+      pub head-given : (r : Bool) → f .ordered ≡ true → order ≡ f .order → r ≡ passesInOrder f order (blocksFrom plan at (f .blocks)) (2 * f .blocks - 1)
+          → r ≡ flightHead f members order (blocksFrom plan at members)
       unfolding flightHead
-      head-given r g h e = all-right _ _ _ _ r (eq-eqb _ _ em) (sym ex ∙ not-false x hx) (given-right (f .ordered) (eqb order (f .order)) g (eq-eqb _ _ h)) (e ∙ ap (λ n. passesInOrder f order (blocksFrom plan at n) (2 * f .blocks - 1)) (sym em))
+      head-given r g h e =
+          all-right _ _ _ _ r (eq-eqb _ _ em) (sym ex ∙ not-false x hx) (given-right (f .ordered) (eqb order (f .order)) g (eq-eqb _ _ h))
+          (e ∙ ap (λ n. passesInOrder f order (blocksFrom plan at n) (2 * f .blocks - 1)) (sym em))
 
-      pub head-free : (r : Bool) → f .ordered ≡ false → r ≡ passesInOrder f order (blocksFrom plan at (f .blocks)) (2 * f .blocks - 1) → r ≡ flightHead f members order (blocksFrom plan at members)
+      pub head-free : (r : Bool) → f .ordered ≡ false → r ≡ passesInOrder f order (blocksFrom plan at (f .blocks)) (2 * f .blocks - 1)
+          → r ≡ flightHead f members order (blocksFrom plan at members)
       unfolding flightHead
-      head-free r g e = all-right _ _ _ _ r (eq-eqb _ _ em) (sym ex ∙ not-false x hx) (none-given (f .ordered) (eqb order (f .order)) g) (e ∙ ap (λ n. passesInOrder f order (blocksFrom plan at n) (2 * f .blocks - 1)) (sym em))
+      head-free r g e =
+          all-right _ _ _ _ r (eq-eqb _ _ em) (sym ex ∙ not-false x hx) (none-given (f .ordered) (eqb order (f .order)) g)
+          (e ∙ ap (λ n. passesInOrder f order (blocksFrom plan at n) (2 * f .blocks - 1)) (sym em))

@@ -87,12 +87,14 @@ module _ (s : Sheet) (plan : List ℕ) where
       go true h = mosaic-true e h .runs
       go false h = rw (mosaic-none h) (no-batches (s .mosaic) h)
 
-  pub mosaic-figure-read : sectionVerdict s plan 1 .number ≡ 0 → ltb 0 (s .mosaic .strips) ≡ true → figureFrom mosaicHeadForm plan (mosaicPart s plan .head) ≡ mosaicFigure (s .mosaic) (statedBatches s plan)
+  pub mosaic-figure-read : sectionVerdict s plan 1 .number ≡ 0 → ltb 0 (s .mosaic .strips) ≡ true
+      → figureFrom mosaicHeadForm plan (mosaicPart s plan .head) ≡ mosaicFigure (s .mosaic) (statedBatches s plan)
   unfolding begun
   mosaic-figure-read e h = mosaic-true e h .figure ∙ omega (arith, mosaic-figure (s .mosaic) (statedBatches s plan) (mosaic-read e))
 
   -- the sorting
-  sorting-true : sectionVerdict s plan 2 .number ≡ 0 → ltb 0 (stripsInAll (s .sorting)) ≡ true → SortingTrue s plan (sortingPart s plan) begun (statedJobs s plan)
+  sorting-true : sectionVerdict s plan 2 .number ≡ 0 → ltb 0 (stripsInAll (s .sorting)) ≡ true
+      → SortingTrue s plan (sortingPart s plan) begun (statedJobs s plan)
   unfolding present partAt pickPart statedJobs memberPlace headForm memberForm
   sorting-true e h =
       subst (λ (at : ℕ). SortingTrue s plan (sortingPart s plan) begun (jobsFrom plan at (sortingPart s plan .members))) (omega arith)
@@ -100,7 +102,8 @@ module _ (s : Sheet) (plan : List ℕ) where
 
   sorting-none : ltb 0 (stripsInAll (s .sorting)) ≡ false → statedJobs s plan ≡ []
   unfolding statedJobs sortingPart
-  sorting-none h = none-read jobFrom (sizeOf jobForm) plan _ _ (absent-part (ltb 0 (stripsInAll (s .sorting))) plan (mosaicPart s plan .end) sortingHeadForm jobForm h)
+  sorting-none h =
+      none-read jobFrom (sizeOf jobForm) plan _ _ (absent-part (ltb 0 (stripsInAll (s .sorting))) plan (mosaicPart s plan .end) sortingHeadForm jobForm h)
 
 no-strips : (counts : List ℕ) (i : ℕ) → i < 3 → getD counts 0 0 + getD counts 1 0 + getD counts 2 0 ≤ 0 → getD counts i 0 ≡ 0
 no-strips counts zero l h = omega arith
@@ -120,7 +123,8 @@ all-done-none t sound h =
     let l = ltb-false _ _ h in
     record { all = λ desk p q. none-done (desk - 1) ∙ sym (no-strips (t .counts) (desk - 1) (omega (arith, sound .most-desks)) l) }
 
-no-order : (f : FlightSection) → FlightSound f → f .blocks ≡ 0 → (o : Bool) → f .ordered ≡ o → Proper (f .blocks) (cond o (f .order) 0) × (f .ordered ≡ true → cond o (f .order) 0 ≡ f .order)
+no-order : (f : FlightSection) → FlightSound f → f .blocks ≡ 0 → (o : Bool) → f .ordered ≡ o
+    → Proper (f .blocks) (cond o (f .order) 0) × (f .ordered ≡ true → cond o (f .order) 0 ≡ f .order)
 unfolding isProper seconds neverMoreSeconds
 no-order f sound z true e = (sound .given e, λ h. refl)
 no-order f sound z false e = (subst (λ (n : ℕ). Proper n 0) (sym z) (proper-true 0 0 refl), λ h. let y : _≡_ {A = ℕ} 0 1 = cc in absurd (omega arith))
@@ -134,7 +138,8 @@ module _ (s : Sheet) (plan : List ℕ) (sound : SheetSound s) where
       go true h = sorting-true s plan e h .runs
       go false h = rw (sorting-none s plan h) (SortingRuns.none (all-done-none (s .sorting) (sound .sorting) h))
 
-  pub sorting-figure-read : sectionVerdict s plan 2 .number ≡ 0 → ltb 0 (stripsInAll (s .sorting)) ≡ true → figureFrom sortingHeadForm plan (sortingPart s plan .head) ≡ sortingFigure (s .sorting) (statedJobs s plan)
+  pub sorting-figure-read : sectionVerdict s plan 2 .number ≡ 0 → ltb 0 (stripsInAll (s .sorting)) ≡ true
+      → figureFrom sortingHeadForm plan (sortingPart s plan .head) ≡ sortingFigure (s .sorting) (statedJobs s plan)
   unfolding begun
   sorting-figure-read e h = sorting-true s plan e h .figure ∙ omega (arith, sorting-figure (s .sorting) (statedJobs s plan))
 
@@ -145,7 +150,8 @@ module _ (s : Sheet) (plan : List ℕ) (sound : SheetSound s) where
 
   flight-none : ltb 0 (s .flight .blocks) ≡ false → statedPasses s plan ≡ []
   unfolding statedPasses flightPart
-  flight-none h = none-read passesFrom (sizeOf passesForm) plan _ _ (absent-part (ltb 0 (s .flight .blocks)) plan (sortingPart s plan .end) flightHeadForm passesForm h)
+  flight-none h =
+      none-read passesFrom (sizeOf passesForm) plan _ _ (absent-part (ltb 0 (s .flight .blocks)) plan (sortingPart s plan .end) flightHeadForm passesForm h)
 
   no-blocks : ltb 0 (s .flight .blocks) ≡ false → FlightRuns (s .flight) (cond (s .flight .ordered) (s .flight .order) 0) []
   no-blocks h =
@@ -160,11 +166,13 @@ module _ (s : Sheet) (plan : List ℕ) (sound : SheetSound s) where
   unfolding statedOrder statedPasses
   flight-read e = go (ltb 0 (s .flight .blocks)) refl
     where
-      go : (x : Bool) → ltb 0 (s .flight .blocks) ≡ x → FlightRuns (s .flight) (cond x (orderFrom plan (flightPart s plan .head)) (cond (s .flight .ordered) (s .flight .order) 0)) (statedPasses s plan)
+      go : (x : Bool) → ltb 0 (s .flight .blocks) ≡ x
+          → FlightRuns (s .flight) (cond x (orderFrom plan (flightPart s plan .head)) (cond (s .flight .ordered) (s .flight .order) 0)) (statedPasses s plan)
       go true h = flight-true e h .runs
       go false h = subst (λ (ps : List Passes). FlightRuns (s .flight) (cond (s .flight .ordered) (s .flight .order) 0) ps) (sym (flight-none h)) (no-blocks h)
 
-  pub flight-figure-read : sectionVerdict s plan 3 .number ≡ 0 → ltb 0 (s .flight .blocks) ≡ true → figureFrom flightHeadForm plan (flightPart s plan .head) ≡ flightFigure (s .flight) (statedPasses s plan)
+  pub flight-figure-read : sectionVerdict s plan 3 .number ≡ 0 → ltb 0 (s .flight .blocks) ≡ true
+      → figureFrom flightHeadForm plan (flightPart s plan .head) ≡ flightFigure (s .flight) (statedPasses s plan)
   unfolding statedPasses
   flight-figure-read e h = flight-true e h .figure
 
@@ -178,10 +186,27 @@ unfolding partOf partFrom
 part-head true plan at head member = go (isField (fieldAt plan at) (head .tag) (contentLength head))
   where
     go : (b : Bool)
-        → cond b (partFrom plan at (contentLength head) (member .tag) (contentLength member)) (record { right = false; head = at; members = 0; end = at }) .head ≡ at
+        → cond b (partFrom plan at (contentLength head) (member .tag) (contentLength member)) (record { right = false; head = at; members = 0; end = at }) .head
+        ≡ at
     go true = refl
     go false = refl
 part-head false plan at head member = refl
+
+-- the bytes of each section, as its figure and its members are read behind an offset
+abbrev mosaicAt : Sheet → List ℕ → ℕ → List ℕ
+mosaicAt s plan at =
+    formBytes mosaicHeadForm (figureFrom mosaicHeadForm plan at ∷ [])
+    ++ membersBytes batchBytes (batchesFrom plan (at + sizeOf mosaicHeadForm) (mosaicPart s plan .members))
+
+abbrev sortingAt : Sheet → List ℕ → ℕ → List ℕ
+sortingAt s plan at =
+    formBytes sortingHeadForm (figureFrom sortingHeadForm plan at ∷ [])
+    ++ membersBytes jobBytes (jobsFrom plan (at + sizeOf sortingHeadForm) (sortingPart s plan .members))
+
+abbrev flightAt : Sheet → List ℕ → ℕ → List ℕ
+flightAt s plan at =
+    formBytes flightHeadForm (figureFrom flightHeadForm plan at ∷ orderFrom plan at ∷ [])
+    ++ membersBytes passesBytes (blocksFrom plan (at + sizeOf flightHeadForm) (flightPart s plan .members))
 
 module _ (s : Sheet) (plan : List ℕ) (bytes : AreBytes plan) (sound : SheetSound s) (r : PlanRight s plan) where
   mosaic-head : mosaicPart s plan .head ≡ 0
@@ -196,31 +221,41 @@ module _ (s : Sheet) (plan : List ℕ) (bytes : AreBytes plan) (sound : SheetSou
   unfolding flightPart
   flight-head = part-head (ltb 0 (s .flight .blocks)) plan (sortingPart s plan .end) flightHeadForm passesForm
 
-  mosaic-raw : drop 0 plan ≡ cond (ltb 0 (s .mosaic .strips)) (formBytes mosaicHeadForm (figureFrom mosaicHeadForm plan 0 ∷ []) ++ membersBytes batchBytes (batchesFrom plan (0 + sizeOf mosaicHeadForm) (mosaicPart s plan .members))) [] ++ drop (mosaicPart s plan .end) plan
+  mosaic-raw : drop 0 plan ≡ cond (ltb 0 (s .mosaic .strips)) (mosaicAt s plan 0) [] ++ drop (mosaicPart s plan .end) plan
   unfolding batchKind mosaicPart
   mosaic-raw = part-stands batchKind plan bytes 0 mosaicHeadForm _ (mosaic-head-stands plan bytes 0) (ltb 0 (s .mosaic .strips)) (r .layout .mosaic)
 
-  sorting-raw : drop (mosaicPart s plan .end) plan ≡ cond (ltb 0 (stripsInAll (s .sorting))) (formBytes sortingHeadForm (figureFrom sortingHeadForm plan (mosaicPart s plan .end) ∷ []) ++ membersBytes jobBytes (jobsFrom plan (mosaicPart s plan .end + sizeOf sortingHeadForm) (sortingPart s plan .members))) [] ++ drop (sortingPart s plan .end) plan
+  sorting-raw : drop (mosaicPart s plan .end) plan
+      ≡ cond (ltb 0 (stripsInAll (s .sorting))) (sortingAt s plan (mosaicPart s plan .end)) [] ++ drop (sortingPart s plan .end) plan
   unfolding jobKind sortingPart
-  sorting-raw = part-stands jobKind plan bytes (mosaicPart s plan .end) sortingHeadForm _ (sorting-head-stands plan bytes (mosaicPart s plan .end)) (ltb 0 (stripsInAll (s .sorting))) (r .layout .sorting)
+  sorting-raw =
+      part-stands jobKind plan bytes (mosaicPart s plan .end) sortingHeadForm _ (sorting-head-stands plan bytes (mosaicPart s plan .end))
+      (ltb 0 (stripsInAll (s .sorting))) (r .layout .sorting)
 
-  flight-raw : drop (sortingPart s plan .end) plan ≡ cond (ltb 0 (s .flight .blocks)) (formBytes flightHeadForm (figureFrom flightHeadForm plan (sortingPart s plan .end) ∷ orderFrom plan (sortingPart s plan .end) ∷ []) ++ membersBytes passesBytes (blocksFrom plan (sortingPart s plan .end + sizeOf flightHeadForm) (flightPart s plan .members))) [] ++ drop (flightPart s plan .end) plan
+  flight-raw : drop (sortingPart s plan .end) plan
+      ≡ cond (ltb 0 (s .flight .blocks)) (flightAt s plan (sortingPart s plan .end)) [] ++ drop (flightPart s plan .end) plan
   unfolding passesKind flightPart
-  flight-raw = part-stands passesKind plan bytes (sortingPart s plan .end) flightHeadForm _ (flight-head-stands plan bytes (sortingPart s plan .end)) (ltb 0 (s .flight .blocks)) (r .layout .flight)
+  flight-raw =
+      part-stands passesKind plan bytes (sortingPart s plan .end) flightHeadForm _ (flight-head-stands plan bytes (sortingPart s plan .end))
+      (ltb 0 (s .flight .blocks)) (r .layout .flight)
 
-  mosaic-stands : drop 0 plan ≡ ifPresent (s .mosaic .strips) (mosaicBytes (mosaicFigure (s .mosaic) (statedBatches s plan)) (statedBatches s plan)) ++ drop (mosaicPart s plan .end) plan
+  mosaic-stands : drop 0 plan
+      ≡ ifPresent (s .mosaic .strips) (mosaicBytes (mosaicFigure (s .mosaic) (statedBatches s plan)) (statedBatches s plan))
+      ++ drop (mosaicPart s plan .end) plan
   unfolding ifPresent mosaicBytes statedBatches
   mosaic-stands =
       mosaic-raw
-      ∙ ap (λ (at : ℕ). cond (ltb 0 (s .mosaic .strips)) (formBytes mosaicHeadForm (figureFrom mosaicHeadForm plan at ∷ []) ++ membersBytes batchBytes (batchesFrom plan (at + sizeOf mosaicHeadForm) (mosaicPart s plan .members))) [] ++ drop (mosaicPart s plan .end) plan) (sym mosaic-head)
+      ∙ ap (λ (at : ℕ). cond (ltb 0 (s .mosaic .strips)) (mosaicAt s plan at) [] ++ drop (mosaicPart s plan .end) plan) (sym mosaic-head)
       ∙ ap (λ (l : List ℕ). l ++ drop (mosaicPart s plan .end) plan)
       (same-bytes (λ (figure : ℕ). mosaicBytes figure (statedBatches s plan)) (ltb 0 (s .mosaic .strips)) _ _ (mosaic-figure-read s plan (r .sections .mosaic)))
 
-  sorting-stands : drop (mosaicPart s plan .end) plan ≡ ifPresent (stripsInAll (s .sorting)) (sortingBytes (sortingFigure (s .sorting) (statedJobs s plan)) (statedJobs s plan)) ++ drop (sortingPart s plan .end) plan
+  sorting-stands : drop (mosaicPart s plan .end) plan
+      ≡ ifPresent (stripsInAll (s .sorting)) (sortingBytes (sortingFigure (s .sorting) (statedJobs s plan)) (statedJobs s plan))
+      ++ drop (sortingPart s plan .end) plan
   unfolding ifPresent sortingBytes statedJobs
   sorting-stands =
       sorting-raw
-      ∙ ap (λ (at : ℕ). cond (ltb 0 (stripsInAll (s .sorting))) (formBytes sortingHeadForm (figureFrom sortingHeadForm plan at ∷ []) ++ membersBytes jobBytes (jobsFrom plan (at + sizeOf sortingHeadForm) (sortingPart s plan .members))) [] ++ drop (sortingPart s plan .end) plan) (sym sorting-head)
+      ∙ ap (λ (at : ℕ). cond (ltb 0 (stripsInAll (s .sorting))) (sortingAt s plan at) [] ++ drop (sortingPart s plan .end) plan) (sym sorting-head)
       ∙ ap (λ (l : List ℕ). l ++ drop (sortingPart s plan .end) plan)
       (same-bytes (λ (figure : ℕ). sortingBytes figure (statedJobs s plan)) (ltb 0 (stripsInAll (s .sorting))) _ _ (sorting-figure-read s plan sound (r .sections .sorting)))
 
@@ -228,11 +263,13 @@ module _ (s : Sheet) (plan : List ℕ) (bytes : AreBytes plan) (sound : SheetSou
   unfolding statedOrder
   order-read h = rw h
 
-  flight-stands : drop (sortingPart s plan .end) plan ≡ ifPresent (s .flight .blocks) (flightBytes (flightFigure (s .flight) (statedPasses s plan)) (statedOrder s plan) (statedPasses s plan)) ++ drop (flightPart s plan .end) plan
+  flight-stands : drop (sortingPart s plan .end) plan
+      ≡ ifPresent (s .flight .blocks) (flightBytes (flightFigure (s .flight) (statedPasses s plan)) (statedOrder s plan) (statedPasses s plan))
+      ++ drop (flightPart s plan .end) plan
   unfolding ifPresent flightBytes statedPasses
   flight-stands =
       flight-raw
-      ∙ ap (λ (at : ℕ). cond (ltb 0 (s .flight .blocks)) (formBytes flightHeadForm (figureFrom flightHeadForm plan at ∷ orderFrom plan at ∷ []) ++ membersBytes passesBytes (blocksFrom plan (at + sizeOf flightHeadForm) (flightPart s plan .members))) [] ++ drop (flightPart s plan .end) plan) (sym flight-head)
+      ∙ ap (λ (at : ℕ). cond (ltb 0 (s .flight .blocks)) (flightAt s plan at) [] ++ drop (flightPart s plan .end) plan) (sym flight-head)
       ∙ ap (λ (l : List ℕ). l ++ drop (flightPart s plan .end) plan)
       (same-bytes (λ (figure : ℕ). flightBytes figure (orderFrom plan (flightPart s plan .head)) (statedPasses s plan)) (ltb 0 (s .flight .blocks)) _ _ (flight-figure-read s plan sound (r .sections .flight))
       ∙ same-bytes (λ (order : ℕ). flightBytes (flightFigure (s .flight) (statedPasses s plan)) order (statedPasses s plan)) (ltb 0 (s .flight .blocks)) _ _ order-read)

@@ -26,7 +26,8 @@ one-of-three true c dp dq dr = dp
 one-of-three false true dp dq dr = dq
 one-of-three false false dp dq dr = dr
 
-pub member-decided : (s : Sheet) (plan : List ℕ) (section k place : ℕ) (st : Progress) → Decides (MemberFollows s plan section k place st) (memberFollows s plan section k place st)
+pub member-decided : (s : Sheet) (plan : List ℕ) (section k place : ℕ) (st : Progress)
+    → Decides (MemberFollows s plan section k place st) (memberFollows s plan section k place st)
 unfolding MemberFollows memberFollows
 member-decided s plan section k place st =
     one-of-three (eqb section 1) (eqb section 2)
@@ -34,7 +35,8 @@ member-decided s plan section k place st =
     (both-ways (true-job (s .sorting) (st .desks) (jobFrom plan place)) (job-true (s .sorting) (st .desks) (jobFrom plan place)))
     (both-ways (true-block (s .flight) k (passesFrom plan place)) (block-true (s .flight) k (passesFrom plan place)))
 
-pub head-decided : (s : Sheet) (plan : List ℕ) (section : ℕ) (part : Part) (st : Progress) → Decides (HeadFollows s plan section part st) (headFollows s plan section part st)
+pub head-decided : (s : Sheet) (plan : List ℕ) (section : ℕ) (part : Part) (st : Progress)
+    → Decides (HeadFollows s plan section part st) (headFollows s plan section part st)
 unfolding HeadFollows headFollows
 head-decided s plan section part st =
     one-of-three (eqb section 1) (eqb section 2)

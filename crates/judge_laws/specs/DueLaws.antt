@@ -1,4 +1,5 @@
--- The judge decides 12. Walking from part to part as it does, every field passed is due where it stands, and where a part is not right, no field that is due stands
+-- The judge decides 12. Walking from part to part as it does, every field passed is due where it stands, and where a part is not right, no field that is due
+-- stands
 -- (Standing). And the fields that are due are determined by the plan, so that no other place is the first wrong one (stuck-once).
 use Prim.Native.Nat.{ℕ, zero, suc, _+_, _*_, _≤_, _<_}
 use mathlib.Core.Path.{_≡_, refl, sym, ap, ap₂, subst, _∙_}
@@ -46,10 +47,12 @@ module _ (s : Sheet) (plan : List ℕ) where
   members-passed : (k : ℕ) → 1 ≤ k → (turns at : ℕ) → Passed at k → Passed (at + run turns plan at (memberTag k) (memberLength k) * (3 + memberLength k)) k
   unfolding run
   members-passed k l zero at p = subst (λ (i : ℕ). Passed i k) (omega (arith, mul-comm 0 (3 + memberLength k))) p
-  members-passed k l (suc turns) at p = go (isField (fieldAt plan at) (memberTag k) (memberLength k)) refl (members-passed k l turns (at + (3 + memberLength k)))
+  members-passed k l (suc turns) at p =
+      go (isField (fieldAt plan at) (memberTag k) (memberLength k)) refl (members-passed k l turns (at + (3 + memberLength k)))
     where
       go : (b : Bool) → isField (fieldAt plan at) (memberTag k) (memberLength k) ≡ b
-          → (Passed (at + (3 + memberLength k)) k → Passed (at + (3 + memberLength k) + run turns plan (at + (3 + memberLength k)) (memberTag k) (memberLength k) * (3 + memberLength k)) k)
+          → (Passed (at + (3 + memberLength k)) k
+          → Passed (at + (3 + memberLength k) + run turns plan (at + (3 + memberLength k)) (memberTag k) (memberLength k) * (3 + memberLength k)) k)
           → Passed (at + elim b [ true ↦ suc (run turns plan (at + (3 + memberLength k)) (memberTag k) (memberLength k)) | false ↦ 0 ] * (3 + memberLength k)) k
       go true e ih =
           subst (λ (i : ℕ). Passed i k)
@@ -57,13 +60,15 @@ module _ (s : Sheet) (plan : List ℕ) where
           (ih (record { fields = suc (p .fields); due = DueUpTo.more (memberTag k) (memberLength k) (p .due) (is-field-true (fieldAt plan at) (memberTag k) (memberLength k) e) (Due.member l refl refl) }))
       go false e ih = subst (λ (i : ℕ). Passed i k) (omega (arith, mul-comm 0 (3 + memberLength k))) p
 
-run-stops : (turns : ℕ) (plan : List ℕ) (at tag len : ℕ) → length plan ≤ turns + at → isField (fieldAt plan (at + run turns plan at tag len * (3 + len))) tag len ≡ false
+run-stops : (turns : ℕ) (plan : List ℕ) (at tag len : ℕ) → length plan ≤ turns + at
+    → isField (fieldAt plan (at + run turns plan at tag len * (3 + len))) tag len ≡ false
 unfolding run
 run-stops zero plan at tag len h = end-none plan (at + 0 * (3 + len)) tag len (omega (arith, mul-comm 0 (3 + len)))
 run-stops (suc turns) plan at tag len h = go (isField (fieldAt plan at) tag len) refl (run-stops turns plan (at + (3 + len)) tag len)
   where
     go : (b : Bool) → isField (fieldAt plan at) tag len ≡ b
-        → (length plan ≤ turns + (at + (3 + len)) → isField (fieldAt plan (at + (3 + len) + run turns plan (at + (3 + len)) tag len * (3 + len))) tag len ≡ false)
+        → (length plan ≤ turns + (at + (3 + len))
+        → isField (fieldAt plan (at + (3 + len) + run turns plan (at + (3 + len)) tag len * (3 + len))) tag len ≡ false)
         → isField (fieldAt plan (at + elim b [ true ↦ suc (run turns plan (at + (3 + len)) tag len) | false ↦ 0 ] * (3 + len))) tag len ≡ false
     go true e ih =
         subst (λ (i : ℕ). isField (fieldAt plan i) tag len ≡ false)
@@ -86,15 +91,18 @@ partNumbered s plan at j = partOf (present s j) plan at (headTag j) (headLength 
 
 data PartCase (s : Sheet) (plan : List ℕ) (at j : ℕ) : Part → Type 0 where
   absent : present s j ≡ false → PartCase s plan at j (record { right = true; head = at; members = 0; end = at })
-  no-head : present s j ≡ true → isField (fieldAt plan at) (headTag j) (headLength j) ≡ false → PartCase s plan at j (record { right = false; head = at; members = 0; end = at })
-  found : present s j ≡ true → isField (fieldAt plan at) (headTag j) (headLength j) ≡ true → PartCase s plan at j (partFrom plan at (headLength j) (memberTag j) (memberLength j))
+  no-head : present s j ≡ true → isField (fieldAt plan at) (headTag j) (headLength j) ≡ false
+      → PartCase s plan at j (record { right = false; head = at; members = 0; end = at })
+  found : present s j ≡ true → isField (fieldAt plan at) (headTag j) (headLength j) ≡ true
+      → PartCase s plan at j (partFrom plan at (headLength j) (memberTag j) (memberLength j))
 
 part-case : (s : Sheet) (plan : List ℕ) (at j : ℕ) → PartCase s plan at j (partNumbered s plan at j)
 unfolding partOf
 part-case s plan at j = go (present s j) refl (isField (fieldAt plan at) (headTag j) (headLength j)) refl
   where
     go : (b : Bool) → present s j ≡ b → (c : Bool) → isField (fieldAt plan at) (headTag j) (headLength j) ≡ c
-        → PartCase s plan at j (cond b (cond c (partFrom plan at (headLength j) (memberTag j) (memberLength j)) (record { right = false; head = at; members = 0; end = at })) (record { right = true; head = at; members = 0; end = at }))
+        → PartCase s plan at j
+        (cond b (cond c (partFrom plan at (headLength j) (memberTag j) (memberLength j)) (record { right = false; head = at; members = 0; end = at })) (record { right = true; head = at; members = 0; end = at }))
     go false p c h = PartCase.absent p
     go true p false h = PartCase.no-head p h
     go true p true h = PartCase.found p h
@@ -120,7 +128,8 @@ module _ (s : Sheet) (plan : List ℕ) where
 
     -- a member of the section does not stand there, whatever is due
     not-member : (tag len : ℕ) → 1 ≤ st .section → fieldAt plan at ≡ Whole tag len → tag ≡ memberTag (st .section) → len ≡ memberLength (st .section) → ⊥
-    not-member tag len l f et el = true≢false (sym (is-field (fieldAt plan at) (memberTag (st .section)) (memberLength (st .section)) (f ∙ ap₂ Whole et el)) ∙ st .no-member l)
+    not-member tag len l f et el =
+        true≢false (sym (is-field (fieldAt plan at) (memberTag (st .section)) (memberLength (st .section)) (f ∙ ap₂ Whole et el)) ∙ st .no-member l)
 
     absent-behind : present s (suc k) ≡ false → Standing (suc k) at
     absent-behind p =
@@ -155,7 +164,9 @@ module _ (s : Sheet) (plan : List ℕ) where
         headed =
             record {
               fields = suc (st .fields);
-              due = DueUpTo.more (headTag (suc k)) (headLength (suc k)) (st .due) (is-field-true (fieldAt plan at) (headTag (suc k)) (headLength (suc k)) h) (Due.head (next-section l p) refl refl);
+              due =
+                  DueUpTo.more (headTag (suc k)) (headLength (suc k)) (st .due) (is-field-true (fieldAt plan at) (headTag (suc k)) (headLength (suc k)) h)
+                  (Due.head (next-section l p) refl refl);
             }
 
     -- the next part is right: the walk goes on behind it
@@ -164,7 +175,8 @@ module _ (s : Sheet) (plan : List ℕ) where
     part-passed l p (PartCase.no-head a h) r = absurd (true≢false (sym r))
     part-passed l p (PartCase.found a h) r = found-behind l a h
 
-    head-missing : k < 3 → present s (suc k) ≡ true → isField (fieldAt plan at) (headTag (suc k)) (headLength (suc k)) ≡ false → Dec (at < length plan) → LayoutFault s plan at
+    head-missing : k < 3 → present s (suc k) ≡ true → isField (fieldAt plan at) (headTag (suc k)) (headLength (suc k)) ≡ false → Dec (at < length plan)
+        → LayoutFault s plan at
     unfolding NoneDue
     head-missing l p h (yes a) = LayoutFault.wrong-field (st .fields) (st .section) (st .due) a none-due
       where
@@ -184,7 +196,8 @@ module _ (s : Sheet) (plan : List ℕ) where
     part-fault l p (PartCase.found a h) r = absurd (true≢false r)
 
   -- a section that is found stands where it is due
-  section-found : (k at : ℕ) → Standing k at → k < 3 → (p : Part) → PartCase s plan at (suc k) p → p .right ≡ true → present s (suc k) ≡ true → SectionAt s plan (suc k) (p .head) (p .members)
+  section-found : (k at : ℕ) → Standing k at → k < 3 → (p : Part) → PartCase s plan at (suc k) p → p .right ≡ true → present s (suc k) ≡ true
+      → SectionAt s plan (suc k) (p .head) (p .members)
   unfolding partFrom
   section-found k at st l p (PartCase.absent a) r h = absurd (true≢false (sym h ∙ a))
   section-found k at st l p (PartCase.no-head a n) r h = absurd (true≢false (sym r))
@@ -196,7 +209,8 @@ module _ (s : Sheet) (plan : List ℕ) where
         next = next-section k at st l h;
         head-there = is-field-true (fieldAt plan at) (headTag (suc k)) (headLength (suc k)) f;
         members-there = run-each (length plan) plan (at + (3 + headLength (suc k))) (memberTag (suc k)) (memberLength (suc k));
-        no-more = λ e. true≢false (sym (is-field _ (memberTag (suc k)) (memberLength (suc k)) e) ∙ run-stops (length plan) plan (at + (3 + headLength (suc k))) (memberTag (suc k)) (memberLength (suc k)) (omega arith));
+        no-more =
+            λ e. true≢false (sym (is-field _ (memberTag (suc k)) (memberLength (suc k)) e) ∙ run-stops (length plan) plan (at + (3 + headLength (suc k))) (memberTag (suc k)) (memberLength (suc k)) (omega arith));
       }
 
   -- behind the last section no section is left ..
@@ -213,7 +227,13 @@ module _ (s : Sheet) (plan : List ℕ) where
       none-due tag len j f (Due.member lo et el) = not-member 3 at st tag len lo f et el
 
   all-laid-out : (at : ℕ) → Standing 3 at → at ≡ length plan → LaidOut s plan
-  all-laid-out at st e = record { fields = st .fields; section = st .section; due = subst (λ (i : ℕ). DueUpTo s plan (st .fields) i (st .section)) e (st .due); last = none-left at st }
+  all-laid-out at st e =
+      record {
+        fields = st .fields;
+        section = st .section;
+        due = subst (λ (i : ℕ). DueUpTo s plan (st .fields) i (st .section)) e (st .due);
+        last = none-left at st;
+      }
 
   -- The judge's walk over the three parts.
   mosaic-case : PartCase s plan 0 1 (mosaicPart s plan)
@@ -242,8 +262,10 @@ module _ (s : Sheet) (plan : List ℕ) where
   unfolding partAt pickPart
   part-due r zero lo hi h = absurd (omega arith)
   part-due r (suc zero) lo hi h = section-found 0 0 stand-start (omega arith) (mosaicPart s plan) mosaic-case (r .mosaic) h
-  part-due r (suc (suc zero)) lo hi h = section-found 1 (mosaicPart s plan .end) (after-mosaic (r .mosaic)) (omega arith) (sortingPart s plan) sorting-case (r .sorting) h
-  part-due r (suc (suc (suc zero))) lo hi h = section-found 2 (sortingPart s plan .end) (after-sorting (r .mosaic) (r .sorting)) (omega arith) (flightPart s plan) flight-case (r .flight) h
+  part-due r (suc (suc zero)) lo hi h =
+      section-found 1 (mosaicPart s plan .end) (after-mosaic (r .mosaic)) (omega arith) (sortingPart s plan) sorting-case (r .sorting) h
+  part-due r (suc (suc (suc zero))) lo hi h =
+      section-found 2 (sortingPart s plan .end) (after-sorting (r .mosaic) (r .sorting)) (omega arith) (flightPart s plan) flight-case (r .flight) h
   part-due r (suc (suc (suc (suc k)))) lo hi h = absurd (omega arith)
 
   -- the number is 12 at a fault of the layout ..
@@ -253,9 +275,12 @@ module _ (s : Sheet) (plan : List ℕ) where
     where
       found-wrong : Bool → Bool → Bool → Bool → Verdict
       found-wrong a b c d =
-          cond a (cond b (cond c (cond d (verdict 0 0) (verdict layoutWrong (flightPart s plan .end))) (verdict layoutWrong (flightPart s plan .head))) (verdict layoutWrong (sortingPart s plan .head))) (verdict layoutWrong (mosaicPart s plan .head))
+          cond a
+          (cond b (cond c (cond d (verdict 0 0) (verdict layoutWrong (flightPart s plan .end))) (verdict layoutWrong (flightPart s plan .head))) (verdict layoutWrong (sortingPart s plan .head)))
+          (verdict layoutWrong (mosaicPart s plan .head))
 
-      go : (a : Bool) → mosaicPart s plan .right ≡ a → (b : Bool) → sortingPart s plan .right ≡ b → (c : Bool) → flightPart s plan .right ≡ c → (d : Bool) → eqb (flightPart s plan .end) (length plan) ≡ d
+      go : (a : Bool) → mosaicPart s plan .right ≡ a → (b : Bool) → sortingPart s plan .right ≡ b → (c : Bool) → flightPart s plan .right ≡ c → (d : Bool)
+          → eqb (flightPart s plan .end) (length plan) ≡ d
           → (found-wrong a b c d .number ≡ 0 → ⊥) → (found-wrong a b c d .number ≡ layoutWrong) × LayoutFault s plan (found-wrong a b c d .place)
       go false p b q c r d t h = (refl, part-fault 0 0 stand-start (omega arith) (mosaicPart s plan) mosaic-case p)
       go true p false q c r d t h = (refl, part-fault 1 (mosaicPart s plan .end) (after-mosaic p) (omega arith) (sortingPart s plan) sorting-case q)
@@ -302,7 +327,8 @@ module _ (s : Sheet) (plan : List ℕ) where
       go h =
           let w = whole-once (fieldAt plan at) tag len t u f (ap (fieldAt plan) (h .0) ∙ g) in (
             omega (arith, w .1, h .0),
-            due-once s k tag len i j d (subst (λ (x : ℕ). Due s x tag len j) (sym (h .1)) (subst (λ (x : ℕ). Due s l x len j) (sym (w .0)) (subst (λ (x : ℕ). Due s l t x j) (sym (w .1)) e))),
+            due-once s k tag len i j d
+                (subst (λ (x : ℕ). Due s x tag len j) (sym (h .1)) (subst (λ (x : ℕ). Due s l x len j) (sym (w .0)) (subst (λ (x : ℕ). Due s l t x j) (sym (w .1)) e))),
           )
 
   -- before its end, every field of the walk is due
@@ -357,9 +383,12 @@ module _ (s : Sheet) (plan : List ℕ) where
 
   -- one plan has no two first faults, and none where it is laid out right
   fault-once : (place other : ℕ) → LayoutFault s plan place → LayoutFault s plan other → place ≡ other
-  fault-once place other (LayoutFault.wrong-field n k p l h) (LayoutFault.wrong-field m i q o g) = stuck-once (record { fields = n; up-to = p; none = h }) (record { fields = m; up-to = q; none = g }) .0
-  fault-once place other (LayoutFault.wrong-field n k p l h) (LayoutFault.ends-early m i j q e x) = stuck-once (record { fields = n; up-to = p; none = h }) (record { fields = m; up-to = q; none = at-end other i e }) .0
-  fault-once place other (LayoutFault.ends-early n k j p e x) (LayoutFault.wrong-field m i q o g) = stuck-once (record { fields = n; up-to = p; none = at-end place k e }) (record { fields = m; up-to = q; none = g }) .0
+  fault-once place other (LayoutFault.wrong-field n k p l h) (LayoutFault.wrong-field m i q o g) =
+      stuck-once (record { fields = n; up-to = p; none = h }) (record { fields = m; up-to = q; none = g }) .0
+  fault-once place other (LayoutFault.wrong-field n k p l h) (LayoutFault.ends-early m i j q e x) =
+      stuck-once (record { fields = n; up-to = p; none = h }) (record { fields = m; up-to = q; none = at-end other i e }) .0
+  fault-once place other (LayoutFault.ends-early n k j p e x) (LayoutFault.wrong-field m i q o g) =
+      stuck-once (record { fields = n; up-to = p; none = at-end place k e }) (record { fields = m; up-to = q; none = g }) .0
   fault-once place other (LayoutFault.ends-early n k j p e x) (LayoutFault.ends-early m i l q f y) = e ∙ sym f
 
   right-no-fault : (place : ℕ) → LaidOut s plan → LayoutFault s plan place → ⊥

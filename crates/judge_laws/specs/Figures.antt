@@ -33,7 +33,8 @@ module _ (s : Sheet) (plan : List ℕ) (section head : ℕ) where
 
   unfoldable AllFollow : ℕ → ℕ → Progress → Type 0
   AllFollow zero k st = Unit
-  AllFollow (suc n) k st = MemberFollows s plan section k (memberPlace section head k) st × AllFollow n (k + 1) (afterMember s plan section (memberPlace section head k) st)
+  AllFollow (suc n) k st =
+      MemberFollows s plan section k (memberPlace section head k) st × AllFollow n (k + 1) (afterMember s plan section (memberPlace section head k) st)
 
   -- one member more
   advanced-last : (n k : ℕ) (st : Progress) → advanced (suc n) k st ≡ afterMember s plan section (memberPlace section head (k + n)) (advanced n k st)
@@ -44,7 +45,8 @@ module _ (s : Sheet) (plan : List ℕ) (section head : ℕ) where
       let q : k + 1 + n ≡ k + suc n = omega arith in
       advanced-last n (k + 1) next ∙ ap (λ (i : ℕ). afterMember s plan section (memberPlace section head i) (advanced n (k + 1) next)) q
 
-  follow-last : (n k : ℕ) (st : Progress) → AllFollow n k st → MemberFollows s plan section (k + n) (memberPlace section head (k + n)) (advanced n k st) → AllFollow (suc n) k st
+  follow-last : (n k : ℕ) (st : Progress) → AllFollow n k st → MemberFollows s plan section (k + n) (memberPlace section head (k + n)) (advanced n k st)
+      → AllFollow (suc n) k st
   unfolding advanced AllFollow
   follow-last zero k st a h =
       let q : k + 0 ≡ k = omega arith in
@@ -56,7 +58,8 @@ module _ (s : Sheet) (plan : List ℕ) (section head : ℕ) where
 
 -- what Reached says, from the first member on
 module _ (s : Sheet) (plan : List ℕ) (section : ℕ) where
-  reached-all : {k : ℕ} {st : Progress} → Reached s plan section k st → AllFollow s plan section (partAt s plan section .head) k 0 begun × (st ≡ advanced s plan section (partAt s plan section .head) k 0 begun)
+  reached-all : {k : ℕ} {st : Progress} → Reached s plan section k st
+      → AllFollow s plan section (partAt s plan section .head) k 0 begun × (st ≡ advanced s plan section (partAt s plan section .head) k 0 begun)
   unfolding advanced AllFollow
   reached-all Reached.first = (tt, refl)
   reached-all (Reached.next {k} {st} r l h) =
@@ -81,15 +84,20 @@ module _ (s : Sheet) (plan : List ℕ) (part : Part) where
   mosaic-runs (suc n) k st a e =
       let b = batchFrom plan (memberPlace 1 (part .head) k) in
       let r = mosaic-runs n (k + 1) (afterBatch st b) (a .1) e in
-      subst (λ (bs : List Batch). MosaicRuns (s .mosaic) (st .before) bs × (advanced s plan 1 (part .head) n (k + 1) (afterBatch st b) .figure ≡ st .figure + runningFigure (st .before) bs)) (sym (batches-more s plan part n k))
+      subst
+      (λ (bs : List Batch). MosaicRuns (s .mosaic) (st .before) bs × (advanced s plan 1 (part .head) n (k + 1) (afterBatch st b) .figure ≡ st .figure + runningFigure (st .before) bs))
+      (sym (batches-more s plan part n k))
       (MosaicRuns.more (a .0) (r .0), r .1 ∙ regroup _ _ _)
 
-  sorting-sum : (n k : ℕ) (st : Progress) → advanced s plan 2 (part .head) n k st .figure ≡ st .figure + runningFinishes (s .sorting) (jobsFrom plan (memberPlace 2 (part .head) k) n)
+  sorting-sum : (n k : ℕ) (st : Progress)
+      → advanced s plan 2 (part .head) n k st .figure ≡ st .figure + runningFinishes (s .sorting) (jobsFrom plan (memberPlace 2 (part .head) k) n)
   unfolding advanced afterMember afterStrip membersFrom runningFinishes
   sorting-sum zero k st = omega arith
   sorting-sum (suc n) k st =
       let j = jobFrom plan (memberPlace 2 (part .head) k) in
-      sorting-sum n (k + 1) (afterStrip s st j) ∙ regroup _ _ _ ∙ ap (λ (js : List Job). st .figure + runningFinishes (s .sorting) js) (sym (jobs-more s plan part n k))
+      sorting-sum n (k + 1) (afterStrip s st j)
+      ∙ regroup _ _ _
+      ∙ ap (λ (js : List Job). st .figure + runningFinishes (s .sorting) js) (sym (jobs-more s plan part n k))
 
 first-place : (section head : ℕ) → memberPlace section head 0 ≡ head + sizeOf (headForm section)
 unfolding memberPlace
@@ -99,30 +107,40 @@ from-none : (x : ℕ) → 0 + x ≡ x
 from-none x = omega arith
 
 module _ (s : Sheet) (plan : List ℕ) where
-  mosaic-true : (st : Progress) → Reached s plan 1 (partAt s plan 1 .members) st → HeadFollows s plan 1 (partAt s plan 1) st → figureOf s plan 1 (partAt s plan 1) st ≡ ruleFigure s plan 1 (partAt s plan 1)
+  mosaic-true : (st : Progress) → Reached s plan 1 (partAt s plan 1 .members) st → HeadFollows s plan 1 (partAt s plan 1) st
+      → figureOf s plan 1 (partAt s plan 1) st ≡ ruleFigure s plan 1 (partAt s plan 1)
   unfolding HeadFollows figureOf ruleFigure begun headForm
   mosaic-true st r h =
       let part = partAt s plan 1 in
       let a = reached-all s plan 1 r in
       let m = mosaic-runs s plan part (part .members) 0 begun (a .0) (ap (λ (x : Progress). x .before .last) (sym (a .1)) ∙ h) in
-      ap (λ (x : Progress). x .figure) (a .1) ∙ m .1 ∙ from-none (runningFigure noBatch (batchesFrom plan (memberPlace 1 (part .head) 0) (part .members))) ∙ sym (mosaic-figure (s .mosaic) (batchesFrom plan (memberPlace 1 (part .head) 0) (part .members)) (m .0))
+      ap (λ (x : Progress). x .figure) (a .1)
+      ∙ m .1
+      ∙ from-none (runningFigure noBatch (batchesFrom plan (memberPlace 1 (part .head) 0) (part .members)))
+      ∙ sym (mosaic-figure (s .mosaic) (batchesFrom plan (memberPlace 1 (part .head) 0) (part .members)) (m .0))
       ∙ ap (λ (at : ℕ). mosaicFigure (s .mosaic) (batchesFrom plan at (part .members))) (first-place 1 (part .head))
 
-  sorting-true : (st : Progress) → Reached s plan 2 (partAt s plan 2 .members) st → figureOf s plan 2 (partAt s plan 2) st ≡ ruleFigure s plan 2 (partAt s plan 2)
+  sorting-true : (st : Progress) → Reached s plan 2 (partAt s plan 2 .members) st
+      → figureOf s plan 2 (partAt s plan 2) st ≡ ruleFigure s plan 2 (partAt s plan 2)
   unfolding figureOf ruleFigure begun headForm
   sorting-true st r =
       let part = partAt s plan 2 in
       let a = reached-all s plan 2 r in
-      ap (λ (x : Progress). x .figure) (a .1) ∙ sorting-sum s plan part (part .members) 0 begun ∙ from-none (runningFinishes (s .sorting) (jobsFrom plan (memberPlace 2 (part .head) 0) (part .members))) ∙ sym (sorting-figure (s .sorting) (jobsFrom plan (memberPlace 2 (part .head) 0) (part .members)))
+      ap (λ (x : Progress). x .figure) (a .1)
+      ∙ sorting-sum s plan part (part .members) 0 begun
+      ∙ from-none (runningFinishes (s .sorting) (jobsFrom plan (memberPlace 2 (part .head) 0) (part .members)))
+      ∙ sym (sorting-figure (s .sorting) (jobsFrom plan (memberPlace 2 (part .head) 0) (part .members)))
       ∙ ap (λ (at : ℕ). sortingFigure (s .sorting) (jobsFrom plan at (part .members))) (first-place 2 (part .head))
 
-  pub reached-figure : (section : ℕ) (st : Progress) → Reached s plan section (partAt s plan section .members) st → HeadFollows s plan section (partAt s plan section) st
+  pub reached-figure : (section : ℕ) (st : Progress) → Reached s plan section (partAt s plan section .members) st
+      → HeadFollows s plan section (partAt s plan section) st
       → figureOf s plan section (partAt s plan section) st ≡ ruleFigure s plan section (partAt s plan section)
   unfolding figureOf ruleFigure
   reached-figure section st = go (ℕ-discrete 1 section) (ℕ-discrete 2 section)
     where
       Same : ℕ → Type 0
-      Same n = Reached s plan n (partAt s plan n .members) st → HeadFollows s plan n (partAt s plan n) st → figureOf s plan n (partAt s plan n) st ≡ ruleFigure s plan n (partAt s plan n)
+      Same n =
+          Reached s plan n (partAt s plan n .members) st → HeadFollows s plan n (partAt s plan n) st → figureOf s plan n (partAt s plan n) st ≡ ruleFigure s plan n (partAt s plan n)
 
       go : Dec (1 ≡ section) → Dec (2 ≡ section) → Same section
       go (yes e) d = subst Same e (mosaic-true st)

@@ -44,7 +44,8 @@ run-each zero plan at tag len i h = absurd (omega arith)
 run-each (suc turns) plan at tag len i h = go (isField (fieldAt plan at) tag len) refl i h (run-each turns plan (at + (3 + len)) tag len)
   where
     go : (b : Bool) → isField (fieldAt plan at) tag len ≡ b → (i : ℕ) → i < elim b [ true ↦ suc (run turns plan (at + (3 + len)) tag len) | false ↦ 0 ]
-        → ((i : ℕ) → i < run turns plan (at + (3 + len)) tag len → fieldAt plan (at + (3 + len) + (3 + len) * i) ≡ Whole tag len) → fieldAt plan (at + (3 + len) * i) ≡ Whole tag len
+        → ((i : ℕ) → i < run turns plan (at + (3 + len)) tag len → fieldAt plan (at + (3 + len) + (3 + len) * i) ≡ Whole tag len)
+        → fieldAt plan (at + (3 + len) * i) ≡ Whole tag len
     go false e i h ih = absurd (omega arith)
     go true e zero h ih =
         let here : at + (3 + len) * 0 ≡ at = omega arith in
@@ -52,7 +53,8 @@ run-each (suc turns) plan at tag len i h = go (isField (fieldAt plan at) tag len
     go true e (suc i) h ih = ap (fieldAt plan) (sym (next-member at (3 + len) i)) ∙ ih i (omega arith)
 
 -- .. and members that stand one after another, and no more of them, are counted
-run-is : (n turns : ℕ) (plan : List ℕ) (at tag len : ℕ) → n ≤ turns → ((i : ℕ) → i < n → fieldAt plan (at + (3 + len) * i) ≡ Whole tag len) → isField (fieldAt plan (at + (3 + len) * n)) tag len ≡ false → run turns plan at tag len ≡ n
+run-is : (n turns : ℕ) (plan : List ℕ) (at tag len : ℕ) → n ≤ turns → ((i : ℕ) → i < n → fieldAt plan (at + (3 + len) * i) ≡ Whole tag len)
+    → isField (fieldAt plan (at + (3 + len) * n)) tag len ≡ false → run turns plan at tag len ≡ n
 unfolding run
 run-is zero zero plan at tag len l h e = refl
 run-is zero (suc turns) plan at tag len l h e =
@@ -76,7 +78,9 @@ cut-at plan at n = sym (take-append-drop n (drop at plan)) ∙ ap (λ (l : List 
 module _ {A : Type 0} (kind : Kind A) (plan : List ℕ) (bytes : AreBytes plan) (at : ℕ) (head : Form) (front : List ℕ)
     (stands : fieldAt plan at ≡ Whole (head .tag) (contentLength head) → take (sizeOf head) (drop at plan) ≡ front) where
   members-then : (n : ℕ) → n ≡ run (length plan) plan (at + sizeOf head) (kind .form .tag) (contentLength (kind .form))
-      → drop (at + sizeOf head) plan ≡ membersBytes (kind .bytes) (membersFrom (kind .read) (sizeOf (kind .form)) plan (at + sizeOf head) n) ++ drop (at + sizeOf head + n * sizeOf (kind .form)) plan
+      → drop (at + sizeOf head) plan
+      ≡ membersBytes (kind .bytes) (membersFrom (kind .read) (sizeOf (kind .form)) plan (at + sizeOf head) n)
+      ++ drop (at + sizeOf head + n * sizeOf (kind .form)) plan
   members-then n e =
       cut-at plan (at + sizeOf head) (sizeOf (kind .form) * n)
       ∙ ap₂ (λ (l : List ℕ) (k : ℕ). l ++ drop (at + sizeOf head + k) plan)
@@ -91,14 +95,18 @@ module _ {A : Type 0} (kind : Kind A) (plan : List ℕ) (bytes : AreBytes plan) 
   part-stands false e = refl
   part-stands true e = go (isField (fieldAt plan at) (head .tag) (contentLength head)) refl e
     where
-      found : isField (fieldAt plan at) (head .tag) (contentLength head) ≡ true → drop at plan ≡ front ++ membersBytes (kind .bytes) (membersFrom (kind .read) (sizeOf (kind .form)) plan (at + sizeOf head) (partFrom plan at (contentLength head) (kind .form .tag) (contentLength (kind .form)) .members)) ++ drop (partFrom plan at (contentLength head) (kind .form .tag) (contentLength (kind .form)) .end) plan
+      found : isField (fieldAt plan at) (head .tag) (contentLength head) ≡ true
+          → drop at plan
+          ≡ front ++ membersBytes (kind .bytes) (membersFrom (kind .read) (sizeOf (kind .form)) plan (at + sizeOf head) (partFrom plan at (contentLength head) (kind .form .tag) (contentLength (kind .form)) .members)) ++ drop (partFrom plan at (contentLength head) (kind .form .tag) (contentLength (kind .form)) .end) plan
       found h =
           cut-at plan at (sizeOf head)
           ∙ ap₂ _++_ (stands (is-field-true (fieldAt plan at) (head .tag) (contentLength head) h)) (members-then (run (length plan) plan (at + sizeOf head) (kind .form .tag) (contentLength (kind .form))) refl)
           ∙ sym (append-assoc front _ _)
 
       go : (b : Bool) → isField (fieldAt plan at) (head .tag) (contentLength head) ≡ b
-          → cond b (partFrom plan at (contentLength head) (kind .form .tag) (contentLength (kind .form))) (record { right = false; head = at; members = 0; end = at }) .right ≡ true
+          → cond b (partFrom plan at (contentLength head) (kind .form .tag) (contentLength (kind .form)))
+          (record { right = false; head = at; members = 0; end = at }) .right
+          ≡ true
           → drop at plan
           ≡ front ++ membersBytes (kind .bytes) (membersFrom (kind .read) (sizeOf (kind .form)) plan (at + sizeOf head) (cond b (partFrom plan at (contentLength head) (kind .form .tag) (contentLength (kind .form))) (record { right = false; head = at; members = 0; end = at }) .members))
           ++ drop (cond b (partFrom plan at (contentLength head) (kind .form .tag) (contentLength (kind .form))) (record { right = false; head = at; members = 0; end = at }) .end) plan
@@ -129,7 +137,8 @@ module _ {A : Type 0} (kind : Kind A) (plan pre : List ℕ) (head : Form) (value
         ap (λ (l : List ℕ). fieldAt l (length pre)) head-first
         ∙ form-found head values pre (membersBytes (kind .bytes) xs ++ post) count small
 
-    member-there : (i : ℕ) → i < length xs → fieldAt plan (length pre + sizeOf head + sizeOf (kind .form) * i) ≡ Whole (kind .form .tag) (contentLength (kind .form))
+    member-there : (i : ℕ) → i < length xs
+        → fieldAt plan (length pre + sizeOf head + sizeOf (kind .form) * i) ≡ Whole (kind .form .tag) (contentLength (kind .form))
     member-there i l =
         ap₂ fieldAt behind-members (ap (λ n. n + sizeOf (kind .form) * i) (sym front-length)) ∙ members-found kind xs (pre ++ formBytes head values) post i l
 
@@ -159,7 +168,8 @@ module _ {A : Type 0} (kind : Kind A) (plan pre : List ℕ) (head : Form) (value
     unfolding partOf partFrom
     found-right = rw (is-field (fieldAt plan (length pre)) (head .tag) (contentLength head) head-found, counted, ends)
 
-    found-members : (none : A) → ((i : ℕ) → i < length xs → kind .Fits (getD xs i none)) → membersFrom (kind .read) (sizeOf (kind .form)) plan (length pre + sizeOf head) (length xs) ≡ xs
+    found-members : (none : A) → ((i : ℕ) → i < length xs → kind .Fits (getD xs i none))
+        → membersFrom (kind .read) (sizeOf (kind .form)) plan (length pre + sizeOf head) (length xs) ≡ xs
     found-members none h =
         ap₂ (λ (l : List ℕ) (k : ℕ). membersFrom (kind .read) (sizeOf (kind .form)) l k (length xs)) behind-members (sym front-length)
         ∙ members-back kind xs (pre ++ formBytes head values) post none h
@@ -173,7 +183,8 @@ module _ {A : Type 0} (kind : Kind A) (plan pre : List ℕ) (head : Form) (value
         ≡ record { right = true; head = length pre; members = cond x (length xs) 0; end = length (pre ++ cond x (formBytes head values ++ membersBytes (kind .bytes) xs) []) }
     part-written = go x e
       where
-        go : (x : Bool) → plan ≡ pre ++ (cond x (formBytes head values ++ membersBytes (kind .bytes) xs) [] ++ post) → partByForms x plan (length pre) head (kind .form)
+        go : (x : Bool) → plan ≡ pre ++ (cond x (formBytes head values ++ membersBytes (kind .bytes) xs) [] ++ post)
+            → partByForms x plan (length pre) head (kind .form)
             ≡ record { right = true; head = length pre; members = cond x (length xs) 0; end = length (pre ++ cond x (formBytes head values ++ membersBytes (kind .bytes) xs) []) }
         go true q = found-right q
         go false q = found-absent
@@ -185,5 +196,6 @@ module _ {A : Type 0} (kind : Kind A) (plan pre : List ℕ) (head : Form) (value
       pub head-written : plan ≡ pre ++ formBytes head values ++ (membersBytes (kind .bytes) xs ++ post)
       head-written = behind-head there
 
-      pub members-written : (none : A) → ((i : ℕ) → i < length xs → kind .Fits (getD xs i none)) → membersFrom (kind .read) (sizeOf (kind .form)) plan (length pre + sizeOf head) (length xs) ≡ xs
+      pub members-written : (none : A) → ((i : ℕ) → i < length xs → kind .Fits (getD xs i none))
+          → membersFrom (kind .read) (sizeOf (kind .form)) plan (length pre + sizeOf head) (length xs) ≡ xs
       members-written = found-members there

@@ -58,7 +58,8 @@ first-right true x y w h q e = (eqb-true _ _ h, sym (ap (λ v. v .number) q) ∙
 first-right false x y w h q e = absurd (eqb-false _ _ h (sym (ap (λ v. v .number) q) ∙ e))
 
 module _ (s : Sheet) (plan : List ℕ) where
-  section-right : (left section : ℕ) → sectionsFrom (suc left) s plan section .number ≡ 0 → (sectionVerdict s plan section .number ≡ 0) × (sectionsFrom left s plan (section + 1) .number ≡ 0)
+  section-right : (left section : ℕ) → sectionsFrom (suc left) s plan section .number ≡ 0
+      → (sectionVerdict s plan section .number ≡ 0) × (sectionsFrom left s plan (section + 1) .number ≡ 0)
   unfolding sectionsFrom
   section-right left section e = first-right _ _ _ _ refl refl e
 
@@ -75,10 +76,12 @@ module _ (s : Sheet) (plan : List ℕ) where
 
 -- a section that is present, and one that may be absent
 module _ (s : Sheet) (plan : List ℕ) (section : ℕ) where
-  pub present-right : present s section ≡ true → sectionVerdict s plan section .number ≡ 0 → sectionFrom (partAt s plan section .members) s plan section (partAt s plan section) 0 begun .number ≡ 0
+  pub present-right : present s section ≡ true → sectionVerdict s plan section .number ≡ 0
+      → sectionFrom (partAt s plan section .members) s plan section (partAt s plan section) 0 begun .number ≡ 0
   present-right h e = ap (λ v. v .number) (section-here s plan section (partAt s plan section) refl h) ∙ e
 
-  pub right-present : (present s section ≡ true → sectionFrom (partAt s plan section .members) s plan section (partAt s plan section) 0 begun .number ≡ 0) → sectionVerdict s plan section .number ≡ 0
+  pub right-present : (present s section ≡ true → sectionFrom (partAt s plan section .members) s plan section (partAt s plan section) 0 begun .number ≡ 0)
+      → sectionVerdict s plan section .number ≡ 0
   right-present h = go (present s section) refl
     where
       go : (b : Bool) → present s section ≡ b → sectionVerdict s plan section .number ≡ 0
@@ -106,7 +109,8 @@ module _ (s : Sheet) (plan : List ℕ) where
   right-plan : PlanRight s plan → judgedPlan s plan ≡ found s plan
   unfolding found
   right-plan r =
-      sym (all-right s plan (layoutVerdict s plan) refl (right-layout s plan (r .layout)) (sectionsFrom 3 s plan 1) refl (statedFigure s plan 1) (statedFigure s plan 2) (statedFigure s plan 3) (right-sections s plan (r .sections)) refl refl refl)
+      sym
+      (all-right s plan (layoutVerdict s plan) refl (right-layout s plan (r .layout)) (sectionsFrom 3 s plan 1) refl (statedFigure s plan 1) (statedFigure s plan 2) (statedFigure s plan 3) (right-sections s plan (r .sections)) refl refl refl)
 
 module _ (sheet plan : List ℕ) where
   pub judged-right : judged sheet plan .number ≡ 0 → (readSheet sheet .number ≡ 0) × PlanRight (readSheet sheet) plan

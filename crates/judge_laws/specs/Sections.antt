@@ -14,7 +14,7 @@ use Rattle.sheet.specs.declared.Sheet.{Sheet}
 use Rattle.sheet.specs.declared.MosaicSection.{MosaicSection}
 use Rattle.sheet.specs.declared.SortingSection.{SortingSection}
 use Rattle.rules.specs.Flight.{noPasses, passesAt, flightFigure}
-use Rattle.plan_format.specs.Format.{sizeOf, mosaicHeadForm, batchForm, sortingHeadForm, jobForm, flightHeadForm, passesForm}
+use Rattle.plan_format.specs.Format.{sizeOf, mosaicHeadForm, sortingHeadForm, flightHeadForm, passesForm}
 use Rattle.plan_read.specs.PlanRead.{figureFrom, orderFrom, batchFrom, jobFrom, passesFrom, membersFrom, batchesFrom, jobsFrom, blocksFrom}
 use Rattle.plan_read.specs.Laws.{member-at, length-from}
 use Rattle.running.specs.Running.{BatchFollows, MosaicRuns, JobFollows, AllDone, SortingRuns, afterJob, BlockFollows, FlightRuns}
@@ -26,7 +26,8 @@ use Rattle.rules_laws.specs.SortingRunning.{runningFinishes}
 use Rattle.judge_rules.specs.Follows.{flightHead}
 use Rattle.judge_layout.specs.Layout.{verdict}
 use Rattle.judge_layout.specs.declared.Part.{Part}
-use Rattle.judge_members.specs.Members.{headForm, memberForm, memberPlace, memberFollows, afterBatch, afterStrip, afterMember, headFollows, figureOf, headNumber}
+use Rattle.judge_members.specs.Members.{headForm, memberForm, memberPlace, memberFollows, afterBatch, afterStrip, afterMember, headFollows, figureOf}
+use Rattle.judge_members.specs.Members.{headNumber}
 use Rattle.judge_members.specs.declared.Progress.{Progress}
 use Rattle.judge.specs.Judged.{sectionFrom}
 use Rattle.judge.specs.Loops.{member-next, member-wrong}
@@ -74,7 +75,8 @@ module _ (s : Sheet) (plan : List ℕ) (section : ℕ) (part : Part) where
       let q = passed _ _ _ tt (p .1) in
       (p .0, eqb-true _ _ (q .0))
 
-  judged-head : (k : ℕ) (st : Progress) → headFollows s plan section part st ≡ true → figureFrom (headForm section) plan (part .head) ≡ figureOf s plan section part st
+  judged-head : (k : ℕ) (st : Progress) → headFollows s plan section part st ≡ true
+      → figureFrom (headForm section) plan (part .head) ≡ figureOf s plan section part st
       → sectionFrom 0 s plan section part k st .number ≡ 0
   unfolding sectionFrom verdict headNumber check
   judged-head k st h e = rw (h, eq-eqb _ _ e)
@@ -97,11 +99,14 @@ module _ (s : Sheet) (plan : List ℕ) (part : Part) where
     pub runs : MosaicRuns (s .mosaic) (st .before) bs
     pub figure : figureFrom mosaicHeadForm plan (part .head) ≡ st .figure + runningFigure (st .before) bs
 
-  pub batches-more : (n k : ℕ) → batchesFrom plan (memberPlace 1 (part .head) k) (suc n) ≡ batchFrom plan (memberPlace 1 (part .head) k) ∷ batchesFrom plan (memberPlace 1 (part .head) (k + 1)) n
+  pub batches-more : (n k : ℕ)
+      → batchesFrom plan (memberPlace 1 (part .head) k) (suc n)
+      ≡ batchFrom plan (memberPlace 1 (part .head) k) ∷ batchesFrom plan (memberPlace 1 (part .head) (k + 1)) n
   unfolding membersFrom memberForm
   batches-more n k = ap (λ at. batchFrom plan (memberPlace 1 (part .head) k) ∷ batchesFrom plan at n) (sym (next-place 1 (part .head) k))
 
-  pub mosaic-judged : (n k : ℕ) (st : Progress) → sectionFrom n s plan 1 part k st .number ≡ 0 → MosaicTrue st (batchesFrom plan (memberPlace 1 (part .head) k) n)
+  pub mosaic-judged : (n k : ℕ) (st : Progress) → sectionFrom n s plan 1 part k st .number ≡ 0
+      → MosaicTrue st (batchesFrom plan (memberPlace 1 (part .head) k) n)
   unfolding membersFrom runningFigure headForm headFollows figureOf memberFollows afterMember afterBatch
   mosaic-judged zero k st e =
       let h = head-judged s plan 1 part k st e in
@@ -113,7 +118,8 @@ module _ (s : Sheet) (plan : List ℕ) (part : Part) where
       subst (MosaicTrue st) (sym (batches-more n k))
       (record { runs = MosaicRuns.more (true-batch (s .mosaic) (st .before) b (h .0)) (r .runs); figure = r .figure ∙ regroup _ _ _ })
 
-  pub judged-mosaic : (n k : ℕ) (st : Progress) → MosaicTrue st (batchesFrom plan (memberPlace 1 (part .head) k) n) → sectionFrom n s plan 1 part k st .number ≡ 0
+  pub judged-mosaic : (n k : ℕ) (st : Progress) → MosaicTrue st (batchesFrom plan (memberPlace 1 (part .head) k) n)
+      → sectionFrom n s plan 1 part k st .number ≡ 0
   unfolding membersFrom runningFigure headForm headFollows figureOf memberFollows afterMember afterBatch
   judged-mosaic zero k st t = judged-head s plan 1 part k st (eq-eqb _ _ (no-batch (t .runs))) (t .figure ∙ omega arith)
   judged-mosaic (suc n) k st t =
@@ -129,11 +135,14 @@ module _ (s : Sheet) (plan : List ℕ) (part : Part) where
     pub runs : SortingRuns (s .sorting) (st .desks) js
     pub figure : figureFrom sortingHeadForm plan (part .head) ≡ st .figure + runningFinishes (s .sorting) js
 
-  pub jobs-more : (n k : ℕ) → jobsFrom plan (memberPlace 2 (part .head) k) (suc n) ≡ jobFrom plan (memberPlace 2 (part .head) k) ∷ jobsFrom plan (memberPlace 2 (part .head) (k + 1)) n
+  pub jobs-more : (n k : ℕ)
+      → jobsFrom plan (memberPlace 2 (part .head) k) (suc n)
+      ≡ jobFrom plan (memberPlace 2 (part .head) k) ∷ jobsFrom plan (memberPlace 2 (part .head) (k + 1)) n
   unfolding membersFrom memberForm
   jobs-more n k = ap (λ at. jobFrom plan (memberPlace 2 (part .head) k) ∷ jobsFrom plan at n) (sym (next-place 2 (part .head) k))
 
-  pub sorting-judged : (n k : ℕ) (st : Progress) → sectionFrom n s plan 2 part k st .number ≡ 0 → SortingTrue st (jobsFrom plan (memberPlace 2 (part .head) k) n)
+  pub sorting-judged : (n k : ℕ) (st : Progress) → sectionFrom n s plan 2 part k st .number ≡ 0
+      → SortingTrue st (jobsFrom plan (memberPlace 2 (part .head) k) n)
   unfolding membersFrom runningFinishes headForm headFollows figureOf memberFollows afterMember afterStrip
   sorting-judged zero k st e =
       let h = head-judged s plan 2 part k st e in
@@ -145,7 +154,8 @@ module _ (s : Sheet) (plan : List ℕ) (part : Part) where
       subst (SortingTrue st) (sym (jobs-more n k))
       (record { runs = SortingRuns.more (true-job (s .sorting) (st .desks) j (h .0)) (r .runs); figure = r .figure ∙ regroup _ _ _ })
 
-  pub judged-sorting : (n k : ℕ) (st : Progress) → SortingTrue st (jobsFrom plan (memberPlace 2 (part .head) k) n) → sectionFrom n s plan 2 part k st .number ≡ 0
+  pub judged-sorting : (n k : ℕ) (st : Progress) → SortingTrue st (jobsFrom plan (memberPlace 2 (part .head) k) n)
+      → sectionFrom n s plan 2 part k st .number ≡ 0
   unfolding membersFrom runningFinishes headForm headFollows figureOf memberFollows afterMember afterStrip
   judged-sorting zero k st t = judged-head s plan 2 part k st (done-true (s .sorting) (st .desks) (no-job (t .runs))) (t .figure ∙ omega arith)
   judged-sorting (suc n) k st t =
@@ -164,7 +174,8 @@ module _ (s : Sheet) (plan : List ℕ) (part : Part) where
   -- the blocks left from block k on, and the head
   record BlocksTrue (n k : ℕ) : Type 0 where
     pub blocks : (i : ℕ) → k ≤ i → i < k + n → BlockFollows (s .flight) i (passesFrom plan (memberPlace 3 (part .head) i))
-    pub head : flightHead (s .flight) (part .members) (orderFrom plan (part .head)) (blocksFrom plan (part .head + sizeOf flightHeadForm) (part .members)) ≡ true
+    pub head : flightHead (s .flight) (part .members) (orderFrom plan (part .head)) (blocksFrom plan (part .head + sizeOf flightHeadForm) (part .members))
+        ≡ true
     pub figure : figureFrom flightHeadForm plan (part .head) ≡ flightFigure (s .flight) (blocksFrom plan (part .head + sizeOf flightHeadForm) (part .members))
 
   blocks-judged : (n k : ℕ) (st : Progress) → sectionFrom n s plan 3 part k st .number ≡ 0 → BlocksTrue n k
@@ -177,7 +188,9 @@ module _ (s : Sheet) (plan : List ℕ) (part : Part) where
       let r = blocks-judged n (k + 1) st (h .1) in
       record { blocks = λ i l u. go i l u (true-block (s .flight) k (passesFrom plan (memberPlace 3 (part .head) k)) (h .0)) (r .blocks) (ℕ-discrete k i); head = r .head; figure = r .figure }
     where
-      go : (i : ℕ) → k ≤ i → i < k + suc n → BlockFollows (s .flight) k (passesFrom plan (memberPlace 3 (part .head) k)) → ((i : ℕ) → k + 1 ≤ i → i < k + 1 + n → BlockFollows (s .flight) i (passesFrom plan (memberPlace 3 (part .head) i))) → Dec (k ≡ i) → BlockFollows (s .flight) i (passesFrom plan (memberPlace 3 (part .head) i))
+      go : (i : ℕ) → k ≤ i → i < k + suc n → BlockFollows (s .flight) k (passesFrom plan (memberPlace 3 (part .head) k))
+          → ((i : ℕ) → k + 1 ≤ i → i < k + 1 + n → BlockFollows (s .flight) i (passesFrom plan (memberPlace 3 (part .head) i))) → Dec (k ≡ i)
+          → BlockFollows (s .flight) i (passesFrom plan (memberPlace 3 (part .head) i))
       go i l u f later (yes q) = subst (λ (x : ℕ). BlockFollows (s .flight) x (passesFrom plan (memberPlace 3 (part .head) x))) q f
       go i l u f later (no q) = later i (omega arith) (omega arith)
 
@@ -188,9 +201,11 @@ module _ (s : Sheet) (plan : List ℕ) (part : Part) where
       judged-member s plan 3 part n k st (block-true (s .flight) k (passesFrom plan (memberPlace 3 (part .head) k)) (t .blocks k (omega arith) (omega arith)))
       (judged-blocks n (k + 1) st (record { blocks = λ i l u. t .blocks i (omega arith) (omega arith); head = t .head; figure = t .figure }))
 
-  pass-is : (i : ℕ) → i < part .members → passesAt (blocksFrom plan (part .head + sizeOf flightHeadForm) (part .members)) i ≡ passesFrom plan (memberPlace 3 (part .head) i)
+  pass-is : (i : ℕ) → i < part .members
+      → passesAt (blocksFrom plan (part .head + sizeOf flightHeadForm) (part .members)) i ≡ passesFrom plan (memberPlace 3 (part .head) i)
   unfolding passesAt memberPlace headForm memberForm
-  pass-is i h = member-at passesFrom (sizeOf passesForm) plan (part .head + sizeOf flightHeadForm) (part .members) i noPasses h ∙ ap (passesFrom plan) (omega arith)
+  pass-is i h =
+      member-at passesFrom (sizeOf passesForm) plan (part .head + sizeOf flightHeadForm) (part .members) i noPasses h ∙ ap (passesFrom plan) (omega arith)
 
   passes-length : length (blocksFrom plan (part .head + sizeOf flightHeadForm) (part .members)) ≡ part .members
   passes-length = length-from passesFrom (sizeOf passesForm) plan (part .head + sizeOf flightHeadForm) (part .members)
@@ -201,8 +216,11 @@ module _ (s : Sheet) (plan : List ℕ) (part : Part) where
       record {
         runs =
             record {
-              members = λ i l. let h : i < part .members = omega (arith, passes-length) in subst (BlockFollows (s .flight) i) (sym (pass-is i h)) (t .blocks i (omega arith) (omega arith));
-              head = true-head (s .flight) (orderFrom plan (part .head)) (blocksFrom plan (part .head + sizeOf flightHeadForm) (part .members)) (part .members) (sym passes-length) (t .head);
+              members =
+                  λ i l. let h : i < part .members = omega (arith, passes-length) in subst (BlockFollows (s .flight) i) (sym (pass-is i h)) (t .blocks i (omega arith) (omega arith));
+              head =
+                  true-head (s .flight) (orderFrom plan (part .head)) (blocksFrom plan (part .head + sizeOf flightHeadForm) (part .members)) (part .members)
+                  (sym passes-length) (t .head);
             };
         figure = t .figure;
       }
@@ -212,6 +230,8 @@ module _ (s : Sheet) (plan : List ℕ) (part : Part) where
       judged-blocks (part .members) 0 st
       (record {
         blocks = λ i l u. subst (BlockFollows (s .flight) i) (pass-is i (omega arith)) (t .runs .members i (omega (arith, passes-length)));
-        head = head-true (s .flight) (orderFrom plan (part .head)) (blocksFrom plan (part .head + sizeOf flightHeadForm) (part .members)) (part .members) (sym passes-length) (t .runs .head);
+        head =
+            head-true (s .flight) (orderFrom plan (part .head)) (blocksFrom plan (part .head + sizeOf flightHeadForm) (part .members)) (part .members)
+            (sym passes-length) (t .runs .head);
         figure = t .figure;
       })

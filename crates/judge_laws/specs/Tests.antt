@@ -1,6 +1,6 @@
 -- Each test of the judge decides its rule: where it answers true the rule as it runs over the members holds, and where the rule holds it answers true.
 -- The parts of a conjunction are the fields of the rule's record, in their order; the tests over desks and passes go one by one.
-use Prim.Native.Nat.{ℕ, zero, suc, _+_, _-_, _*_, _≤_, _<_}
+use Prim.Native.Nat.{ℕ, zero, suc, _+_, _-_, _*_, _<_}
 use mathlib.Core.Path.{_≡_, refl, sym, subst, _∙_}
 use mathlib.Core.Bool.{Bool, true, false, not, _&&_, _||_}
 use mathlib.Core.List.{List}
@@ -22,7 +22,8 @@ use Rattle.rules.specs.declared.Batch.{Batch}
 use Rattle.rules.specs.declared.Job.{Job}
 use Rattle.rules.specs.declared.Passes.{Passes}
 use Rattle.running.specs.declared.Desks.{Desks}
-use Rattle.judge_rules.specs.Follows.{batchInRun, batchInTime, batchFollows, jobInTurn, jobInTime, jobFollows, blockInTime, blockFollows, allDone, passesInOrder, flightHead}
+use Rattle.judge_rules.specs.Follows.{batchInRun, batchInTime, batchFollows, jobInTurn, jobInTime, jobFollows, blockInTime, blockFollows, allDone}
+use Rattle.judge_rules.specs.Follows.{passesInOrder, flightHead}
 
 -- a conjunction of two that hold
 all-of : (a b : Bool) → a ≡ true → b ≡ true → (a && b) ≡ true
@@ -109,7 +110,8 @@ unfolding allDone
 done-each counts done zero e d h = absurd (omega arith)
 done-each counts done (suc n) e d h = go (ℕ-discrete d n) (both _ _ e) (done-each counts done n)
   where
-    go : Dec (d ≡ n) → (allDone counts done n ≡ true) × (eqb (getD done n 0) (getD counts n 0) ≡ true) → (allDone counts done n ≡ true → (k : ℕ) → k < n → getD done k 0 ≡ getD counts k 0) → getD done d 0 ≡ getD counts d 0
+    go : Dec (d ≡ n) → (allDone counts done n ≡ true) × (eqb (getD done n 0) (getD counts n 0) ≡ true)
+        → (allDone counts done n ≡ true → (k : ℕ) → k < n → getD done k 0 ≡ getD counts k 0) → getD done d 0 ≡ getD counts d 0
     go (yes q) p ih = subst (λ (k : ℕ). getD done k 0 ≡ getD counts k 0) (sym q) (eqb-true _ _ (p .1))
     go (no q) p ih = ih (p .0) d (omega arith)
 
@@ -139,7 +141,10 @@ module _ (f : FlightSection) (order : ℕ) (ps : List Passes) where
   order-each zero e k h = absurd (omega arith)
   order-each (suc n) e k h = go (ℕ-discrete k n) (both _ _ e) (order-each n)
     where
-      go : Dec (k ≡ n) → (passesInOrder f order ps n ≡ true) × (leb (clearAt f ps (passAt (f .blocks) order n)) (passStart f ps (passAt (f .blocks) order (n + 1))) ≡ true) → (passesInOrder f order ps n ≡ true → (i : ℕ) → i < n → Clear f ps (passAt (f .blocks) order i) (passAt (f .blocks) order (i + 1))) → Clear f ps (passAt (f .blocks) order k) (passAt (f .blocks) order (k + 1))
+      go : Dec (k ≡ n)
+          → (passesInOrder f order ps n ≡ true) × (leb (clearAt f ps (passAt (f .blocks) order n)) (passStart f ps (passAt (f .blocks) order (n + 1))) ≡ true)
+          → (passesInOrder f order ps n ≡ true → (i : ℕ) → i < n → Clear f ps (passAt (f .blocks) order i) (passAt (f .blocks) order (i + 1)))
+          → Clear f ps (passAt (f .blocks) order k) (passAt (f .blocks) order (k + 1))
       go (yes q) p ih = subst (λ (i : ℕ). Clear f ps (passAt (f .blocks) order i) (passAt (f .blocks) order (i + 1))) (sym q) (leb-true _ _ (p .1))
       go (no q) p ih = ih (p .0) k (omega arith)
 

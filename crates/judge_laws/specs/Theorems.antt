@@ -1,4 +1,5 @@
--- The theorems of the judge. It finds no fault exactly in the plans that are allowed for the sheet, and its three figures are then the rules' figures of that plan.
+-- The theorems of the judge. It finds no fault exactly in the plans that are allowed for the sheet, and its three figures are then the rules' figures of that
+-- plan.
 -- 01: "The judge takes a sheet and a plan and gives the figure of each section, 0 for an absent section".
 use Prim.Native.Nat.{ℕ, _≤_, _<_}
 use mathlib.Core.Path.{_≡_, ap, _∙_}
@@ -75,7 +76,8 @@ pub record FiguresGiven (s : Sheet) (j : Judged) : Type 0 where
   pub flight : FigureOf (s .flight .blocks) (j .flight)
 
 figure-given : (members figure : ℕ) → (0 < members → 1 ≤ figure) → (stated : ℕ) → figure ≡ cond (ltb 0 members) stated 0 → FigureOf members figure
-figure-given members figure least stated e = record { absent = λ z. e ∙ ap (λ (b : Bool). cond b stated 0) (le-ltb 0 members (omega arith)); present = λ h. least (omega arith) }
+figure-given members figure least stated e =
+    record { absent = λ z. e ∙ ap (λ (b : Bool). cond b stated 0) (le-ltb 0 members (omega arith)); present = λ h. least (omega arith) }
 
 pub figures-given : (sheet plan : List ℕ) → AllowedFor sheet plan → FiguresGiven (readSheet sheet) (judged sheet plan)
 unfolding found statedFigure present
@@ -85,12 +87,19 @@ figures-given sheet plan a =
     let f = judged-figures sheet plan a in
     let e = allowed-found sheet plan a in
     record {
-      mosaic = figure-given _ _ (λ h. rw (f .mosaic) (mosaic-figure-least (readSheet sheet .mosaic) (a .allowed .plan .batches) (sound .mosaic) (law .mosaic) h)) _ (ap (λ (j : Judged). j .mosaic) e);
-      sorting = figure-given _ _ (λ h. rw (f .sorting) (sorting-figure-least (readSheet sheet .sorting) (a .allowed .plan .jobs) (sound .sorting) (law .sorting) h)) _ (ap (λ (j : Judged). j .sorting) e);
-      flight = figure-given _ _ (λ h. rw (f .flight) (flight-figure-least (readSheet sheet .flight) (a .allowed .plan .passes) (sound .flight) (law .flight) h)) _ (ap (λ (j : Judged). j .flight) e);
+      mosaic =
+          figure-given _ _ (λ h. rw (f .mosaic) (mosaic-figure-least (readSheet sheet .mosaic) (a .allowed .plan .batches) (sound .mosaic) (law .mosaic) h)) _
+          (ap (λ (j : Judged). j .mosaic) e);
+      sorting =
+          figure-given _ _ (λ h. rw (f .sorting) (sorting-figure-least (readSheet sheet .sorting) (a .allowed .plan .jobs) (sound .sorting) (law .sorting) h)) _
+          (ap (λ (j : Judged). j .sorting) e);
+      flight =
+          figure-given _ _ (λ h. rw (f .flight) (flight-figure-least (readSheet sheet .flight) (a .allowed .plan .passes) (sound .flight) (law .flight) h)) _
+          (ap (λ (j : Judged). j .flight) e);
     }
 
--- Each number is given with its place where the fault lies, and not otherwise: 3 to 10 in the sheet, 12 only for the layout, 13 at a member or at a head, 14 at a head
+-- Each number is given with its place where the fault lies, and not otherwise: 3 to 10 in the sheet, 12 only for the layout, 13 at a member or at a head, 14 at
+-- a head
 -- whose figure is untrue (Fault.antt).
 pub fault-judged : (sheet plan : List ℕ) (number place : ℕ) → Fault sheet plan number place → judged sheet plan ≡ turnedBack number place
 fault-judged sheet plan number place f = fault-turned-back sheet plan number place f

@@ -35,26 +35,27 @@ use Rattle.judge_laws.specs.Laid.{part-written, head-written, members-wr
 use Rattle.judge_laws.specs.Outcomes.{LayoutRight, PlanRight, right-present}
 
 -- the values of each head, and the bytes of each section
-abbrev mosaicHead : Sheet → Plan → List ℕ
-mosaicHead s p = mosaicFigure (s .mosaic) (p .batches) ∷ []
+abbrev mosaicHeadValues : Sheet → Plan → List ℕ
+mosaicHeadValues s p = mosaicFigure (s .mosaic) (p .batches) ∷ []
 
-abbrev sortingHead : Sheet → Plan → List ℕ
-sortingHead s p = sortingFigure (s .sorting) (p .jobs) ∷ []
+abbrev sortingHeadValues : Sheet → Plan → List ℕ
+sortingHeadValues s p = sortingFigure (s .sorting) (p .jobs) ∷ []
 
 abbrev flightHeadValues : Sheet → Plan → List ℕ
 flightHeadValues s p = flightFigure (s .flight) (p .passes) ∷ p .order ∷ []
 
 abbrev mosaicPiece : Sheet → Plan → List ℕ
-mosaicPiece s p = cond (ltb 0 (s .mosaic .strips)) (formBytes mosaicHeadForm (mosaicHead s p) ++ membersBytes batchBytes (p .batches)) []
+mosaicPiece s p = cond (ltb 0 (s .mosaic .strips)) (formBytes mosaicHeadForm (mosaicHeadValues s p) ++ membersBytes batchBytes (p .batches)) []
 
 abbrev sortingPiece : Sheet → Plan → List ℕ
-sortingPiece s p = cond (ltb 0 (stripsInAll (s .sorting))) (formBytes sortingHeadForm (sortingHead s p) ++ membersBytes jobBytes (p .jobs)) []
+sortingPiece s p = cond (ltb 0 (stripsInAll (s .sorting))) (formBytes sortingHeadForm (sortingHeadValues s p) ++ membersBytes jobBytes (p .jobs)) []
 
 abbrev flightPiece : Sheet → Plan → List ℕ
 flightPiece s p = cond (ltb 0 (s .flight .blocks)) (formBytes flightHeadForm (flightHeadValues s p) ++ membersBytes passesBytes (p .passes)) []
 
 -- the first byte of what follows a section
-starts : (x : Bool) (head : Form) (values members rest : List ℕ) → getD (cond x (formBytes head values ++ members) [] ++ rest) 0 0 ≡ cond x (head .tag) (getD rest 0 0)
+starts : (x : Bool) (head : Form) (values members rest : List ℕ)
+    → getD (cond x (formBytes head values ++ members) [] ++ rest) 0 0 ≡ cond x (head .tag) (getD rest 0 0)
 unfolding formBytes fieldBytes
 starts true head values members rest = refl
 starts false head values members rest = refl
@@ -93,11 +94,13 @@ module _ (s : Sheet) (p : Plan) (plan : List ℕ) (sound : SheetSound s) (L : Pl
   sorting-next = flight-last ∙ append-assoc (mosaicPiece s p) (sortingPiece s p) (flightPiece s p ++ [])
 
   flight-other : (tag : ℕ) → 0 < tag → (flightHeadForm .tag ≡ tag → ⊥) → getD (flightPiece s p ++ []) 0 0 ≡ tag → ⊥
-  flight-other tag h k = follows-other (ltb 0 (s .flight .blocks)) flightHeadForm (flightHeadValues s p) (membersBytes passesBytes (p .passes)) [] tag k (λ z. omega arith)
+  flight-other tag h k =
+      follows-other (ltb 0 (s .flight .blocks)) flightHeadForm (flightHeadValues s p) (membersBytes passesBytes (p .passes)) [] tag k (λ z. omega arith)
 
   batch-other : getD (sortingPiece s p ++ (flightPiece s p ++ [])) 0 0 ≡ planBatchTag → ⊥
   batch-other =
-      follows-other (ltb 0 (stripsInAll (s .sorting))) sortingHeadForm (sortingHead s p) (membersBytes jobBytes (p .jobs)) (flightPiece s p ++ []) planBatchTag (λ z. omega arith)
+      follows-other (ltb 0 (stripsInAll (s .sorting))) sortingHeadForm (sortingHeadValues s p) (membersBytes jobBytes (p .jobs)) (flightPiece s p ++ [])
+      planBatchTag (λ z. omega arith)
       (flight-other planBatchTag (omega arith) (λ z. omega arith))
 
   strip-other : getD (flightPiece s p ++ []) 0 0 ≡ planStripTag → ⊥
@@ -107,20 +110,24 @@ module _ (s : Sheet) (p : Plan) (plan : List ℕ) (sound : SheetSound s) (L : Pl
   block-other z = omega arith
 
   -- the parts
-  mosaic-part : mosaicPart s plan ≡ record { right = true; head = 0; members = cond (ltb 0 (s .mosaic .strips)) (length (p .batches)) 0; end = length (mosaicPiece s p) }
+  mosaic-part : mosaicPart s plan
+      ≡ record { right = true; head = 0; members = cond (ltb 0 (s .mosaic .strips)) (length (p .batches)) 0; end = length (mosaicPiece s p) }
   unfolding mosaicPart batchKind
   mosaic-part =
-      part-written batchKind plan [] mosaicHeadForm (mosaicHead s p) (p .batches) (sortingPiece s p ++ (flightPiece s p ++ [])) refl (omega arith) batch-other
+      part-written batchKind plan [] mosaicHeadForm (mosaicHeadValues s p) (p .batches) (sortingPiece s p ++ (flightPiece s p ++ [])) refl (omega arith)
+      batch-other
       (ltb 0 (s .mosaic .strips)) sorting-next
 
-  sorting-part : sortingPart s plan ≡ record { right = true; head = length (mosaicPiece s p); members = cond (ltb 0 (stripsInAll (s .sorting))) (length (p .jobs)) 0; end = length (mosaicPiece s p ++ sortingPiece s p) }
+  sorting-part : sortingPart s plan
+      ≡ record { right = true; head = length (mosaicPiece s p); members = cond (ltb 0 (stripsInAll (s .sorting))) (length (p .jobs)) 0; end = length (mosaicPiece s p ++ sortingPiece s p) }
   unfolding sortingPart jobKind
   sorting-part =
       ap (λ (q : Part). partByForms (ltb 0 (stripsInAll (s .sorting))) plan (q .end) sortingHeadForm jobForm) mosaic-part
-      ∙ part-written jobKind plan (mosaicPiece s p) sortingHeadForm (sortingHead s p) (p .jobs) (flightPiece s p ++ []) refl (omega arith) strip-other
+      ∙ part-written jobKind plan (mosaicPiece s p) sortingHeadForm (sortingHeadValues s p) (p .jobs) (flightPiece s p ++ []) refl (omega arith) strip-other
       (ltb 0 (stripsInAll (s .sorting))) sorting-next
 
-  flight-part : flightPart s plan ≡ record { right = true; head = length (mosaicPiece s p ++ sortingPiece s p); members = cond (ltb 0 (s .flight .blocks)) (length (p .passes)) 0; end = length (mosaicPiece s p ++ sortingPiece s p ++ flightPiece s p) }
+  flight-part : flightPart s plan
+      ≡ record { right = true; head = length (mosaicPiece s p ++ sortingPiece s p); members = cond (ltb 0 (s .flight .blocks)) (length (p .passes)) 0; end = length (mosaicPiece s p ++ sortingPiece s p ++ flightPiece s p) }
   unfolding flightPart passesKind
   flight-part =
       ap (λ (q : Part). partByForms (ltb 0 (s .flight .blocks)) plan (q .end) flightHeadForm passesForm) sorting-part
@@ -144,7 +151,7 @@ module _ (s : Sheet) (p : Plan) (plan : List ℕ) (sound : SheetSound s) (L : Pl
     batches-read =
         ap (λ (q : Part). batchesFrom plan (q .head + sizeOf mosaicHeadForm + 0 * sizeOf batchForm) (q .members)) mosaic-part
         ∙ ap (λ (n : ℕ). batchesFrom plan (sizeOf mosaicHeadForm) n) (present-members (ltb 0 (s .mosaic .strips)) (length (p .batches)) h)
-        ∙ members-written batchKind plan [] mosaicHeadForm (mosaicHead s p) (p .batches) (sortingPiece s p ++ (flightPiece s p ++ [])) refl (omega arith) batch-other
+        ∙ members-written batchKind plan [] mosaicHeadForm (mosaicHeadValues s p) (p .batches) (sortingPiece s p ++ (flightPiece s p ++ [])) refl (omega arith) batch-other
         (ltb 0 (s .mosaic .strips)) sorting-next h noBatch (batch-fits (s .mosaic) (p .batches) (sound .mosaic) (L .mosaic))
 
     mosaic-stated : figureFrom mosaicHeadForm plan (mosaicPart s plan .head) ≡ mosaicFigure (s .mosaic) (p .batches)
@@ -152,7 +159,7 @@ module _ (s : Sheet) (p : Plan) (plan : List ℕ) (sound : SheetSound s) (L : Pl
     mosaic-stated =
         ap (λ (q : Part). figureFrom mosaicHeadForm plan (q .head)) mosaic-part
         ∙ ap (λ (l : List ℕ). figureFrom mosaicHeadForm l 0)
-        (head-written batchKind plan [] mosaicHeadForm (mosaicHead s p) (p .batches) (sortingPiece s p ++ (flightPiece s p ++ [])) refl (omega arith) batch-other
+        (head-written batchKind plan [] mosaicHeadForm (mosaicHeadValues s p) (p .batches) (sortingPiece s p ++ (flightPiece s p ++ [])) refl (omega arith) batch-other
         (ltb 0 (s .mosaic .strips)) sorting-next h)
         ∙ figure-back [] (membersBytes batchBytes (p .batches) ++ (sortingPiece s p ++ (flightPiece s p ++ []))) mosaicHeadForm (mosaicFigure (s .mosaic) (p .batches)) []
         (mosaic-head-fits (s .mosaic) (p .batches) (sound .mosaic) (L .mosaic))
@@ -177,7 +184,7 @@ module _ (s : Sheet) (p : Plan) (plan : List ℕ) (sound : SheetSound s) (L : Pl
     jobs-read =
         ap (λ (q : Part). jobsFrom plan (q .head + sizeOf sortingHeadForm + 0 * sizeOf jobForm) (q .members)) sorting-part
         ∙ ap₂ (λ (k n : ℕ). jobsFrom plan k n) first (present-members (ltb 0 (stripsInAll (s .sorting))) (length (p .jobs)) h)
-        ∙ members-written jobKind plan (mosaicPiece s p) sortingHeadForm (sortingHead s p) (p .jobs) (flightPiece s p ++ []) refl (omega arith) strip-other
+        ∙ members-written jobKind plan (mosaicPiece s p) sortingHeadForm (sortingHeadValues s p) (p .jobs) (flightPiece s p ++ []) refl (omega arith) strip-other
         (ltb 0 (stripsInAll (s .sorting))) sorting-next h noJob (job-fits (s .sorting) (p .jobs) (sound .sorting) (L .sorting))
       where
         first : length (mosaicPiece s p) + sizeOf sortingHeadForm + 0 * sizeOf jobForm ≡ length (mosaicPiece s p) + sizeOf sortingHeadForm
@@ -188,7 +195,7 @@ module _ (s : Sheet) (p : Plan) (plan : List ℕ) (sound : SheetSound s) (L : Pl
     sorting-stated =
         ap (λ (q : Part). figureFrom sortingHeadForm plan (q .head)) sorting-part
         ∙ ap (λ (l : List ℕ). figureFrom sortingHeadForm l (length (mosaicPiece s p)))
-        (head-written jobKind plan (mosaicPiece s p) sortingHeadForm (sortingHead s p) (p .jobs) (flightPiece s p ++ []) refl (omega arith) strip-other
+        (head-written jobKind plan (mosaicPiece s p) sortingHeadForm (sortingHeadValues s p) (p .jobs) (flightPiece s p ++ []) refl (omega arith) strip-other
         (ltb 0 (stripsInAll (s .sorting))) sorting-next h)
         ∙ figure-back (mosaicPiece s p) (membersBytes jobBytes (p .jobs) ++ (flightPiece s p ++ [])) sortingHeadForm (sortingFigure (s .sorting) (p .jobs)) []
         (sorting-head-fits (s .sorting) (p .jobs) (sound .sorting) (L .sorting))
@@ -196,7 +203,11 @@ module _ (s : Sheet) (p : Plan) (plan : List ℕ) (sound : SheetSound s) (L : Pl
     sorting-written : SortingTrue s plan (sortingPart s plan) begun (p .jobs)
     unfolding begun
     sorting-written =
-        record { runs = sorting-runs (s .sorting) (p .jobs) (sound .sorting) (L .sorting); figure = sorting-stated ∙ omega (arith, sorting-figure (s .sorting) (p .jobs)) }
+        record {
+          runs = sorting-runs (s .sorting) (p .jobs) (sound .sorting) (L .sorting);
+          figure = sorting-stated ∙ omega
+              (arith, sorting-figure (s .sorting) (p .jobs));
+        }
 
   sorting-right : sectionVerdict s plan 2 .number ≡ 0
   unfolding present partAt pickPart
@@ -254,7 +265,8 @@ module _ (s : Sheet) (p : Plan) (plan : List ℕ) (sound : SheetSound s) (L : Pl
   -- the figures stated are the rules' figures
   pub mosaic-figure-stated : statedFigure s plan 1 ≡ mosaicFigure (s .mosaic) (p .batches)
   unfolding statedFigure present headForm partAt pickPart mosaicFigure
-  mosaic-figure-stated = by-presence (ltb 0 (s .mosaic .strips)) _ _ mosaic-stated (λ h. no-sum (s .mosaic .strips) _ (omega (arith, ltb-false 0 (s .mosaic .strips) h)))
+  mosaic-figure-stated =
+      by-presence (ltb 0 (s .mosaic .strips)) _ _ mosaic-stated (λ h. no-sum (s .mosaic .strips) _ (omega (arith, ltb-false 0 (s .mosaic .strips) h)))
 
   pub sorting-figure-stated : statedFigure s plan 2 ≡ sortingFigure (s .sorting) (p .jobs)
   unfolding statedFigure present headForm partAt pickPart sortingFigure
@@ -264,4 +276,5 @@ module _ (s : Sheet) (p : Plan) (plan : List ℕ) (sound : SheetSound s) (L : Pl
 
   pub flight-figure-stated : statedFigure s plan 3 ≡ flightFigure (s .flight) (p .passes)
   unfolding statedFigure present headForm partAt pickPart flightFigure
-  flight-figure-stated = by-presence (ltb 0 (s .flight .blocks)) _ _ flight-stated (λ h. no-greatest (2 * s .flight .blocks) _ (omega (arith, ltb-false 0 (s .flight .blocks) h)))
+  flight-figure-stated =
+      by-presence (ltb 0 (s .flight .blocks)) _ _ flight-stated (λ h. no-greatest (2 * s .flight .blocks) _ (omega (arith, ltb-false 0 (s .flight .blocks) h)))

@@ -67,7 +67,8 @@ module _ (plan : List ℕ) (at tag len : ℕ) (f : Field) (ef : f ≡ fieldAt pl
 
 -- how many fields follow
 
-run-more : (turns : ℕ) (plan : List ℕ) (at tag len : ℕ) → isField (fieldAt plan at) tag len ≡ true → run (suc turns) plan at tag len ≡ suc (run turns plan (at + (3 + len)) tag len)
+run-more : (turns : ℕ) (plan : List ℕ) (at tag len : ℕ) → isField (fieldAt plan at) tag len ≡ true
+    → run (suc turns) plan at tag len ≡ suc (run turns plan (at + (3 + len)) tag len)
 unfolding run
 run-more turns plan at tag len e = rw (e, run)
 
@@ -99,7 +100,8 @@ counted-none plan at headLen tag len a =
     let w = a .within in
     record { turns = length plan; enough = omega arith; within = a .within; ahead = omega arith; place = omega (arith, times-zero (3 + len)); same = omega arith }
 
-module _ (plan : List ℕ) (first tag len members end : ℕ) (c : Counted plan first tag len members end) (x : Bool) (ex : x ≡ isField (fieldAt plan end) tag len) where
+module _ (plan : List ℕ) (first tag len members end : ℕ) (c : Counted plan first tag len members end) (x : Bool)
+    (ex : x ≡ isField (fieldAt plan end) tag len) where
   pub counted-within : x ≡ true → end + (3 + len) ≤ length plan
   counted-within h = field-within plan end tag len (sym ex ∙ h)
 
@@ -123,7 +125,8 @@ module _ (plan : List ℕ) (first tag len members end : ℕ) (c : Counted plan f
             same = omega (arith, run-more t plan end tag len (sym ex ∙ h), rw e at (c .same));
           }
 
-  pub counted-all : x ≡ false → (at headLen : ℕ) → first ≡ at + (3 + headLen) → _≡_ {A = Part} (record { right = true; head = at; members = members; end = end }) (partFrom plan at headLen tag len)
+  pub counted-all : x ≡ false → (at headLen : ℕ) → first ≡ at + (3 + headLen)
+      → _≡_ {A = Part} (record { right = true; head = at; members = members; end = end }) (partFrom plan at headLen tag len)
   unfolding partFrom
   counted-all h at headLen e = rw (← e, ← whole, ← c .place)
     where
@@ -134,7 +137,8 @@ pub counted-less : (plan : List ℕ) (end len : ℕ) → end + (3 + len) ≤ len
 counted-less plan end len h = omega arith
 
 module _ (present : Bool) (plan : List ℕ) (at headTag headLen tag len : ℕ) where
-  pub part-absent : not present ≡ true → _≡_ {A = Part} (record { right = true; head = at; members = 0; end = at }) (partOf present plan at headTag headLen tag len)
+  pub part-absent : not present ≡ true
+      → _≡_ {A = Part} (record { right = true; head = at; members = 0; end = at }) (partOf present plan at headTag headLen tag len)
   unfolding partOf
   part-absent h = rw (not-true present h)
 
@@ -147,7 +151,8 @@ module _ (present : Bool) (plan : List ℕ) (at headTag headLen tag len : ℕ) w
     unfolding partOf
     part-right r h e = rw (not-false present hp, ← ex, not-false x h) e
 
-pub part-asked : (plan : List ℕ) (at headTag headLen len : ℕ) (x : Bool) → x ≡ isField (fieldAt plan at) headTag headLen → not x ≡ false → len ≤ 65535 → PartAsked plan at headLen len
+pub part-asked : (plan : List ℕ) (at headTag headLen len : ℕ) (x : Bool) → x ≡ isField (fieldAt plan at) headTag headLen → not x ≡ false → len ≤ 65535
+    → PartAsked plan at headLen len
 part-asked plan at headTag headLen len x ex h l = record { within = field-within plan at headTag headLen (sym ex ∙ not-false x h); short = l }
 
 -- the fields that follow lie within the plan
@@ -156,7 +161,9 @@ unfolding run
 run-within zero plan at tag len h = omega (arith, times-zero (3 + len))
 run-within (suc turns) plan at tag len h = go (isField (fieldAt plan at) tag len) refl (λ w. run-within turns plan (at + (3 + len)) tag len w)
   where
-    go : (b : Bool) → isField (fieldAt plan at) tag len ≡ b → (at + (3 + len) ≤ length plan → at + (3 + len) + run turns plan (at + (3 + len)) tag len * (3 + len) ≤ length plan) → at + elim b [ true ↦ suc (run turns plan (at + (3 + len)) tag len) | false ↦ 0 ] * (3 + len) ≤ length plan
+    go : (b : Bool) → isField (fieldAt plan at) tag len ≡ b
+        → (at + (3 + len) ≤ length plan → at + (3 + len) + run turns plan (at + (3 + len)) tag len * (3 + len) ≤ length plan)
+        → at + elim b [ true ↦ suc (run turns plan (at + (3 + len)) tag len) | false ↦ 0 ] * (3 + len) ≤ length plan
     go true e f = let q = f (field-within plan at tag len e) in omega (arith, times-suc (run turns plan (at + (3 + len)) tag len) (3 + len))
     go false e f = omega (arith, times-zero (3 + len))
 
@@ -222,34 +229,45 @@ module _ (s : Sheet) (plan : List ℕ) (mosaic sorting flight : Part) (a : Verdi
       module _ (hg : not (flight .right) ≡ false) where
         pub more-behind : (flight .end ≡ length plan → ⊥) → _≡_ {A = Verdict} (record { number = 12; place = flight .end }) (layoutVerdict s plan)
         unfolding layoutVerdict verdict
-        more-behind h = rw (m true (not-false _ hm), o true (not-false _ ho), g true (not-false _ hg), ne-eqb (flightPart s plan .end) (length plan) (λ q. h (ap (λ x. x .end) (a .flight-is) ∙ q))) (ap (λ x. verdict 12 (x .end)) (a .flight-is))
+        more-behind h =
+            rw
+            (m true (not-false _ hm), o true (not-false _ ho), g true (not-false _ hg), ne-eqb (flightPart s plan .end) (length plan) (λ q. h (ap (λ x. x .end) (a .flight-is) ∙ q)))
+            (ap (λ x. verdict 12 (x .end)) (a .flight-is))
 
         pub layout-right : flight .end ≡ length plan → _≡_ {A = Verdict} (record { number = 0; place = 0 }) (layoutVerdict s plan)
         unfolding layoutVerdict verdict
-        layout-right h = rw (m true (not-false _ hm), o true (not-false _ ho), g true (not-false _ hg), eq-eqb (flightPart s plan .end) (length plan) (sym (ap (λ x. x .end) (a .flight-is)) ∙ h))
+        layout-right h =
+            rw
+            (m true (not-false _ hm), o true (not-false _ ho), g true (not-false _ hg), eq-eqb (flightPart s plan .end) (length plan) (sym (ap (λ x. x .end) (a .flight-is)) ∙ h))
 
-pub mosaic-part-is : (s : Sheet) (plan : List ℕ) (r : Part) → r ≡ partByForms (ltb 0 (s .mosaic .strips)) plan 0 mosaicHeadForm batchForm → r ≡ mosaicPart s plan
+pub mosaic-part-is : (s : Sheet) (plan : List ℕ) (r : Part) → r ≡ partByForms (ltb 0 (s .mosaic .strips)) plan 0 mosaicHeadForm batchForm
+    → r ≡ mosaicPart s plan
 unfolding mosaicPart
 mosaic-part-is s plan r e = e
 
-pub sorting-part-is : (s : Sheet) (plan : List ℕ) (r : Part) (n at : ℕ) → n ≡ stripsInAll (s .sorting) → at ≡ mosaicPart s plan .end → r ≡ partByForms (ltb 0 n) plan at sortingHeadForm jobForm → r ≡ sortingPart s plan
+pub sorting-part-is : (s : Sheet) (plan : List ℕ) (r : Part) (n at : ℕ) → n ≡ stripsInAll (s .sorting) → at ≡ mosaicPart s plan .end
+    → r ≡ partByForms (ltb 0 n) plan at sortingHeadForm jobForm → r ≡ sortingPart s plan
 unfolding sortingPart
 sorting-part-is s plan r n at en ea e = rw (← en, ← ea) e
 
-pub flight-part-is : (s : Sheet) (plan : List ℕ) (r : Part) (at : ℕ) → at ≡ sortingPart s plan .end → r ≡ partByForms (ltb 0 (s .flight .blocks)) plan at flightHeadForm passesForm → r ≡ flightPart s plan
+pub flight-part-is : (s : Sheet) (plan : List ℕ) (r : Part) (at : ℕ) → at ≡ sortingPart s plan .end
+    → r ≡ partByForms (ltb 0 (s .flight .blocks)) plan at flightHeadForm passesForm → r ≡ flightPart s plan
 unfolding flightPart
 flight-part-is s plan r at ea e = rw (← ea) e
 
-by-forms : (present : Bool) (plan : List ℕ) (at : ℕ) (head member : Form) → at ≤ length plan → PartFits plan (sizeOf member) (partByForms present plan at head member)
+by-forms : (present : Bool) (plan : List ℕ) (at : ℕ) (head member : Form) → at ≤ length plan
+    → PartFits plan (sizeOf member) (partByForms present plan at head member)
 by-forms present plan at head member h = part-fits present plan at (head .tag) (contentLength head) (member .tag) (contentLength member) h
 
 pub parts-fit : (s : Sheet) (plan : List ℕ)
-    → (PartFits plan (sizeOf batchForm) (mosaicPart s plan)) × (PartFits plan (sizeOf jobForm) (sortingPart s plan)) × (PartFits plan (sizeOf passesForm) (flightPart s plan))
+    → (PartFits plan (sizeOf batchForm) (mosaicPart s plan)) × (PartFits plan (sizeOf jobForm) (sortingPart s plan))
+    × (PartFits plan (sizeOf passesForm) (flightPart s plan))
 unfolding mosaicPart sortingPart flightPart
 parts-fit s plan =
     let p = by-forms (ltb 0 (s .mosaic .strips)) plan 0 mosaicHeadForm batchForm (omega arith) in
     let q = by-forms (ltb 0 (stripsInAll (s .sorting))) plan _ sortingHeadForm jobForm (p .within) in
     (p, q, by-forms (ltb 0 (s .flight .blocks)) plan _ flightHeadForm passesForm (q .within))
 
-pub counted-fits : (plan : List ℕ) (end tag len : ℕ) (x : Bool) → x ≡ isField (fieldAt plan end) tag len → x ≡ true → length plan < 2 ^ 64 → end + (3 + len) < 2 ^ 64
+pub counted-fits : (plan : List ℕ) (end tag len : ℕ) (x : Bool) → x ≡ isField (fieldAt plan end) tag len → x ≡ true → length plan < 2 ^ 64
+    → end + (3 + len) < 2 ^ 64
 counted-fits plan end tag len x ex h l = let w = field-within plan end tag len (sym ex ∙ h) in omega arith

@@ -29,7 +29,8 @@ use Rattle.judge_rules.specs.Follows.{batchInRun, batchInTime, batchFollows, jo
 use Rattle.judge_rules.specs.Asked.{DesksFit, BatchAsked, JobAsked, JobTaken, BlockAsked}
 use Rattle.judge_flight.specs.Starts.{FigureTold}
 use Rattle.judge_layout.specs.declared.Part.{Part}
-use Rattle.judge_members.specs.Members.{present, headForm, memberForm, memberPlace, begun, memberFollows, afterBatch, afterStrip, afterMember, headFollows, figureOf, headNumber}
+use Rattle.judge_members.specs.Members.{present, headForm, memberForm, memberPlace, begun, memberFollows, afterBatch, afterStrip, afterMember}
+use Rattle.judge_members.specs.Members.{headFollows, figureOf, headNumber}
 use Rattle.judge_members.specs.declared.Progress.{Progress}
 
 -- what holds as members are judged: the figure so far is within the ceiling for each strip judged
@@ -118,7 +119,8 @@ module _ (section : ℕ) where
     unfolding headForm
     figure-of-sorting e h = h ∙ rw e
 
-    pub figure-of-flight : (section ≡ 1 → ⊥) → (section ≡ 2 → ⊥) → figure ≡ figureFrom flightHeadForm plan head → figure ≡ figureFrom (headForm section) plan head
+    pub figure-of-flight : (section ≡ 1 → ⊥) → (section ≡ 2 → ⊥) → figure ≡ figureFrom flightHeadForm plan head
+        → figure ≡ figureFrom (headForm section) plan head
     unfolding headForm
     figure-of-flight h₁ h₂ h = h ∙ rw (ne-eqb _ _ h₁, ne-eqb _ _ h₂)
 
@@ -141,7 +143,8 @@ module _ (section : ℕ) where
 -- members
 
 module _ (s : Sheet) (plan : List ℕ) (section k place : ℕ) (p : Progress) (r : Bool) where
-  pub member-batch : (b : Batch) → section ≡ 1 → BatchRead plan place b → r ≡ batchFollows (s .mosaic) (p .before) b → r ≡ memberFollows s plan section k place p
+  pub member-batch : (b : Batch) → section ≡ 1 → BatchRead plan place b → r ≡ batchFollows (s .mosaic) (p .before) b
+      → r ≡ memberFollows s plan section k place p
   unfolding memberFollows
   member-batch b e t h = h ∙ rw (e, t .is)
 
@@ -149,7 +152,8 @@ module _ (s : Sheet) (plan : List ℕ) (section k place : ℕ) (p : Progress) (r
   unfolding memberFollows
   member-job j e t h = h ∙ rw (e, t .is)
 
-  pub member-block : (q : Passes) → (section ≡ 1 → ⊥) → (section ≡ 2 → ⊥) → PassesRead plan place q → r ≡ blockFollows (s .flight) k q → r ≡ memberFollows s plan section k place p
+  pub member-block : (q : Passes) → (section ≡ 1 → ⊥) → (section ≡ 2 → ⊥) → PassesRead plan place q → r ≡ blockFollows (s .flight) k q
+      → r ≡ memberFollows s plan section k place p
   unfolding memberFollows
   member-block q h₁ h₂ t h = h ∙ rw (ne-eqb _ _ h₁, ne-eqb _ _ h₂, t .is)
 
@@ -179,14 +183,17 @@ job-within scanner free scan scanned start finish e =
     let v = both (leb scanned start) (leb free start && leb finish ceiling) (u .1) in
     leb-true finish ceiling (both (leb free start) (leb finish ceiling) (v .1) .1)
 
-batch-facts : (s : Sheet) (p : Progress) (b : Batch) → batchFollows (s .mosaic) (p .before) b ≡ true → (p .before .last < b .last) × (b .last ≤ s .mosaic .strips) × (b .finish ≤ ceiling)
+batch-facts : (s : Sheet) (p : Progress) (b : Batch) → batchFollows (s .mosaic) (p .before) b ≡ true
+    → (p .before .last < b .last) × (b .last ≤ s .mosaic .strips) × (b .finish ≤ ceiling)
 unfolding batchFollows batchInRun
 batch-facts s p b e =
     let x = both _ _ e in
     let y = both _ _ (x .0) in
     (ltb-true _ _ (y .0), leb-true _ _ (y .1), batch-within _ _ _ _ _ (x .1))
 
-job-facts : (s : Sheet) (p : Progress) (j : Job) → jobFollows (s .sorting) (p .desks) j ≡ true → (1 ≤ j .desk) × (j .desk ≤ s .sorting .desks) × (j .number ≡ getD (p .desks .done) (j .desk - 1) 0 + 1) × (j .number ≤ stripsOf (s .sorting) (j .desk)) × (deskFinish (s .sorting) j ≤ ceiling)
+job-facts : (s : Sheet) (p : Progress) (j : Job) → jobFollows (s .sorting) (p .desks) j ≡ true
+    → (1 ≤ j .desk) × (j .desk ≤ s .sorting .desks) × (j .number ≡ getD (p .desks .done) (j .desk - 1) 0 + 1) × (j .number ≤ stripsOf (s .sorting) (j .desk))
+    × (deskFinish (s .sorting) j ≤ ceiling)
 unfolding jobFollows jobInTurn
 job-facts s p j e =
     let x = both _ _ e in
@@ -249,7 +256,8 @@ module _ (p : Progress) (b : Batch) (a : AfterBatchAsked p b) where
   pub figure-fits : p .figure + (b .last - p .before .last) * b .finish < 2 ^ 64
   figure-fits = let l = a .most-last in let m = a .kept .most-last in omega (arith, most, a .kept .most-figure, sums-few (p .desks) (a .kept .desks))
 
-  pub after-batch-is : _≡_ {A = Progress} (record { before = b; desks = p .desks; figure = p .figure + (b .last - p .before .last) * b .finish }) (afterBatch p b)
+  pub after-batch-is : _≡_ {A = Progress} (record { before = b; desks = p .desks; figure = p .figure + (b .last - p .before .last) * b .finish })
+      (afterBatch p b)
   unfolding afterBatch
   after-batch-is = refl
 
@@ -267,12 +275,14 @@ module _ (s : Sheet) (p : Progress) (j : Job) (a : AfterStripAsked s p j) where
       let l = a .kept .most-last in
       omega (arith, a .taken .asked .fits .start, t .fits, a .kept .most-figure, sums-few (p .desks) (a .kept .desks))
 
-  pub after-strip-is : (time : ℕ) (d : Desks) → TimeTold (deskTime (s .sorting) j) time → d ≡ afterJob (s .sorting) (p .desks) j → _≡_ {A = Progress} (record { before = p .before; desks = d; figure = p .figure + (j .start + time) }) (afterStrip s p j)
+  pub after-strip-is : (time : ℕ) (d : Desks) → TimeTold (deskTime (s .sorting) j) time → d ≡ afterJob (s .sorting) (p .desks) j
+      → _≡_ {A = Progress} (record { before = p .before; desks = d; figure = p .figure + (j .start + time) }) (afterStrip s p j)
   unfolding afterStrip deskFinish
   after-strip-is time d t e = rw (e, t .is)
 
 -- one strip more is done
-one-more : (l : List ℕ) (d n : ℕ) → length l ≡ 3 → d < 3 → n ≡ getD l d 0 + 1 → getD (set l d n) 0 0 + getD (set l d n) 1 0 + getD (set l d n) 2 0 ≡ getD l 0 0 + getD l 1 0 + getD l 2 0 + 1
+one-more : (l : List ℕ) (d n : ℕ) → length l ≡ 3 → d < 3 → n ≡ getD l d 0 + 1
+    → getD (set l d n) 0 0 + getD (set l d n) 1 0 + getD (set l d n) 2 0 ≡ getD l 0 0 + getD l 1 0 + getD l 2 0 + 1
 one-more l zero n long h e =
     omega (arith, set-here l 0 0 n (omega arith) refl, set-there l 0 1 n (λ q. omega arith), set-there l 0 2 n (λ q. omega arith))
 one-more l (suc zero) n long h e =
@@ -281,7 +291,8 @@ one-more l (suc (suc zero)) n long h e =
     omega (arith, set-there l 2 0 n (λ q. omega arith), set-there l 2 1 n (λ q. omega arith), set-here l 2 2 n (omega arith) refl)
 one-more l (suc (suc (suc d))) n long h e = absurd (omega arith)
 
-strip-kept : (s : Sheet) (p : Progress) (j : Job) → Kept p → 1 ≤ j .desk → j .desk ≤ mostDesks → j .number ≡ getD (p .desks .done) (j .desk - 1) 0 + 1 → j .number ≤ mostStripsOfDesk → deskFinish (s .sorting) j ≤ ceiling → Kept (afterStrip s p j)
+strip-kept : (s : Sheet) (p : Progress) (j : Job) → Kept p → 1 ≤ j .desk → j .desk ≤ mostDesks → j .number ≡ getD (p .desks .done) (j .desk - 1) 0 + 1
+    → j .number ≤ mostStripsOfDesk → deskFinish (s .sorting) j ≤ ceiling → Kept (afterStrip s p j)
 unfolding afterStrip afterJob
 strip-kept s p j k least most turn few within =
     let f = k .most-figure in
@@ -302,17 +313,24 @@ unfolding stripsOf
 strips-within s desk sound = sound .sorting .most-strips (desk - 1)
 
 -- a member that follows keeps what holds
-pub member-kept : (s : Sheet) (plan : List ℕ) (section k place : ℕ) (p : Progress) → SheetSound s → Kept p → memberFollows s plan section k place p ≡ true → Kept (afterMember s plan section place p)
+pub member-kept : (s : Sheet) (plan : List ℕ) (section k place : ℕ) (p : Progress) → SheetSound s → Kept p → memberFollows s plan section k place p ≡ true
+    → Kept (afterMember s plan section place p)
 unfolding memberFollows afterMember
 member-kept s plan section k place p sound kept e = by-section (eqb section 1) (eqb section 2) e
   where
-    by-section : (x y : Bool) → cond x (batchFollows (s .mosaic) (p .before) (batchFrom plan place)) (cond y (jobFollows (s .sorting) (p .desks) (jobFrom plan place)) (blockFollows (s .flight) k (passesFrom plan place))) ≡ true → Kept (cond x (afterBatch p (batchFrom plan place)) (cond y (afterStrip s p (jobFrom plan place)) p))
+    by-section : (x y : Bool)
+        → cond x (batchFollows (s .mosaic) (p .before) (batchFrom plan place))
+        (cond y (jobFollows (s .sorting) (p .desks) (jobFrom plan place)) (blockFollows (s .flight) k (passesFrom plan place)))
+        ≡ true
+        → Kept (cond x (afterBatch p (batchFrom plan place)) (cond y (afterStrip s p (jobFrom plan place)) p))
     by-section true y h =
         let f = batch-facts s p (batchFrom plan place) h in
-        batch-kept p (batchFrom plan place) (record { kept = kept; rises = omega (arith, f .0); most-last = omega (arith, f .1, sound .mosaic .most-strips); within = f .2 })
+        batch-kept p (batchFrom plan place)
+        (record { kept = kept; rises = omega (arith, f .0); most-last = omega (arith, f .1, sound .mosaic .most-strips); within = f .2 })
     by-section false true h =
         let f = job-facts s p (jobFrom plan place) h in
-        strip-kept s p (jobFrom plan place) kept (f .0) (omega (arith, f .1, sound .sorting .most-desks)) (f .2) (omega (arith, f .3, strips-within s (jobFrom plan place .desk) sound)) (f .4)
+        strip-kept s p (jobFrom plan place) kept (f .0) (omega (arith, f .1, sound .sorting .most-desks)) (f .2)
+        (omega (arith, f .3, strips-within s (jobFrom plan place .desk) sound)) (f .4)
     by-section false false h = kept
 
 pub begun-kept : Kept begun
@@ -337,7 +355,8 @@ module _ (s : Sheet) (plan : List ℕ) (section : ℕ) (part : Part) (p : Progre
   head-sorting r e h = h ∙ rw e
 
   pub head-flight : (r : Bool) (order : ℕ) → (section ≡ 1 → ⊥) → (section ≡ 2 → ⊥) → order ≡ orderFrom plan (part .head)
-      → r ≡ flightHead (s .flight) (part .members) order (blocksFrom plan (part .head + sizeOf flightHeadForm) (part .members)) → r ≡ headFollows s plan section part p
+      → r ≡ flightHead (s .flight) (part .members) order (blocksFrom plan (part .head + sizeOf flightHeadForm) (part .members))
+      → r ≡ headFollows s plan section part p
   unfolding headFollows
   head-flight r order h₁ h₂ e h = h ∙ rw (ne-eqb _ _ h₁, ne-eqb _ _ h₂, e)
 
@@ -349,11 +368,13 @@ module _ (s : Sheet) (plan : List ℕ) (section : ℕ) (part : Part) (p : Progre
   unfolding figureOf
   figure-sorting e = rw e
 
-  pub figure-flight : (r : ℕ) → FigureAsked s plan section part p → (section ≡ 1 → ⊥) → (section ≡ 2 → ⊥) → FigureTold (flightFigure (s .flight) (blocksFrom plan (part .head + sizeOf flightHeadForm) (s .flight .blocks))) r → r ≡ figureOf s plan section part p
+  pub figure-flight : (r : ℕ) → FigureAsked s plan section part p → (section ≡ 1 → ⊥) → (section ≡ 2 → ⊥)
+      → FigureTold (flightFigure (s .flight) (blocksFrom plan (part .head + sizeOf flightHeadForm) (s .flight .blocks))) r → r ≡ figureOf s plan section part p
   unfolding figureOf headFollows flightHead
   figure-flight r a h₁ h₂ t =
       let q = both _ _ (rw (ne-eqb _ _ h₁, ne-eqb _ _ h₂) at (a .follows)) in
-      t .is ∙ rw (ne-eqb _ _ h₁, ne-eqb _ _ h₂) (ap (λ n. flightFigure (s .flight) (blocksFrom plan (part .head + sizeOf flightHeadForm) n)) (sym (eqb-true _ _ (q .0))))
+      t .is
+      ∙ rw (ne-eqb _ _ h₁, ne-eqb _ _ h₂) (ap (λ n. flightFigure (s .flight) (blocksFrom plan (part .head + sizeOf flightHeadForm) n)) (sym (eqb-true _ _ (q .0))))
 
   module _ (x : Bool) (ex : x ≡ headFollows s plan section part p) where
     pub head-wrong : not x ≡ true → ruleBroken ≡ headNumber s plan section part p
@@ -364,10 +385,12 @@ module _ (s : Sheet) (plan : List ℕ) (section : ℕ) (part : Part) (p : Progre
       pub figure-asked : HeadAsked s part → FigureAsked s plan section part p
       figure-asked a = record { asked = a; follows = sym ex ∙ not-false x hx }
 
-      pub figure-wrong : (figure stated : ℕ) → figure ≡ figureOf s plan section part p → stated ≡ figureFrom (headForm section) plan (part .head) → (stated ≡ figure → ⊥) → figureUntrue ≡ headNumber s plan section part p
+      pub figure-wrong : (figure stated : ℕ) → figure ≡ figureOf s plan section part p → stated ≡ figureFrom (headForm section) plan (part .head)
+          → (stated ≡ figure → ⊥) → figureUntrue ≡ headNumber s plan section part p
       unfolding headNumber check
       figure-wrong figure stated ef es h = rw (← ex, not-false x hx, ← es, ← ef, ne-eqb _ _ h)
 
-      pub head-right : (figure stated : ℕ) → figure ≡ figureOf s plan section part p → stated ≡ figureFrom (headForm section) plan (part .head) → stated ≡ figure → 0 ≡ headNumber s plan section part p
+      pub head-right : (figure stated : ℕ) → figure ≡ figureOf s plan section part p → stated ≡ figureFrom (headForm section) plan (part .head)
+          → stated ≡ figure → 0 ≡ headNumber s plan section part p
       unfolding headNumber check
       head-right figure stated ef es h = rw (← ex, not-false x hx, ← es, ← ef, eq-eqb _ _ h)

@@ -29,11 +29,12 @@ use sheet::desks::strips_in_all;
 use sheet::numbers::FIGURE_UNTRUE;
 use sheet::numbers::RULE_BROKEN;
 ghost use mathlib.Core.Path.{_≡_};
-ghost use Prim.Native.Nat.{_+_, _*_, _<_, _^_};
+ghost use Prim.Native.Nat.{_+_, _*_, _<_};
 ghost use Rattle.sheet.specs.Sound.{SheetSound};
 ghost use Rattle.plan_format.specs.Format.{sizeOf};
 ghost use Rattle.plan_read.specs.PlanRead.{figureFrom};
-ghost use Rattle.judge_members.specs.Members.{present, headForm, memberForm, memberPlace, begun, memberFollows, afterBatch, afterStrip, afterMember, headFollows, figureOf, headNumber};
+ghost use Rattle.judge_members.specs.Members.{present, headForm, memberForm, memberPlace, begun, memberFollows, afterBatch, afterStrip, afterMember};
+ghost use Rattle.judge_members.specs.Members.{headFollows, figureOf, headNumber};
 ghost use Rattle.judge_members.specs.Laws.{PlaceAsked, MemberAsked, AfterAsked, AfterBatchAsked, AfterStripAsked, HeadAsked, FigureAsked};
 
 // How far the members of a section have been judged: the batch before, the desks, the figure so far.

@@ -58,7 +58,8 @@ allDone counts done (suc desk) = allDone counts done desk && eqb (getD done desk
 
 unfoldable pub passesInOrder : FlightSection → ℕ → List Passes → ℕ → Bool
 passesInOrder f order ps zero = true
-passesInOrder f order ps (suc k) = passesInOrder f order ps k && leb (clearAt f ps (passAt (f .blocks) order k)) (passStart f ps (passAt (f .blocks) order (k + 1)))
+passesInOrder f order ps (suc k) =
+    passesInOrder f order ps k && leb (clearAt f ps (passAt (f .blocks) order k)) (passStart f ps (passAt (f .blocks) order (k + 1)))
 
 unfoldable pub flightHead : FlightSection → ℕ → ℕ → List Passes → Bool
 flightHead f members order ps =

@@ -64,7 +64,8 @@ strips-same : (s : SortingSection) (desk : ℕ) → stripsOfDesk (s .counts) des
 unfolding stripsOfDesk stripsOf
 strips-same s desk = refl
 
-turn-is : (desks strips done desk number : ℕ) → jobInTurn desks strips done desk number ≡ true → (1 ≤ desk) × (desk ≤ desks) × (number ≡ done + 1) × (number ≤ strips)
+turn-is : (desks strips done desk number : ℕ) → jobInTurn desks strips done desk number ≡ true
+    → (1 ≤ desk) × (desk ≤ desks) × (number ≡ done + 1) × (number ≤ strips)
 unfolding jobInTurn
 turn-is desks strips done desk number e =
     let p = both _ _ e in
@@ -75,9 +76,12 @@ turn-is desks strips done desk number e =
 pub done-few : (s : SortingSection) (d : Desks) (j : Job) (done : ℕ) → JobAsked s d j → done ≡ getD (d .done) (j .desk - 1) 0 → done ≤ 6
 done-few s d j done a e = rw e (a .desks .most-done (j .desk - 1))
 
-module _ (s : SortingSection) (d : Desks) (j : Job) (strips done : ℕ) (es : strips ≡ stripsOfDesk (s .counts) (j .desk)) (ed : done ≡ getD (d .done) (j .desk - 1) 0) (x : Bool) (ex : x ≡ jobInTurn (s .desks) strips done (j .desk) (j .number)) where
+module _ (s : SortingSection) (d : Desks) (j : Job) (strips done : ℕ) (es : strips ≡ stripsOfDesk (s .counts) (j .desk))
+    (ed : done ≡ getD (d .done) (j .desk - 1) 0) (x : Bool) (ex : x ≡ jobInTurn (s .desks) strips done (j .desk) (j .number)) where
   turned : jobInTurn (s .desks) (stripsOf s (j .desk)) (getD (d .done) (j .desk - 1) 0) (j .desk) (j .number) ≡ x
-  turned = sym (ex ∙ ap (λ n. jobInTurn (s .desks) n done (j .desk) (j .number)) (es ∙ strips-same s (j .desk)) ∙ ap (λ n. jobInTurn (s .desks) (stripsOf s (j .desk)) n (j .desk) (j .number)) ed)
+  turned =
+      sym
+      (ex ∙ ap (λ n. jobInTurn (s .desks) n done (j .desk) (j .number)) (es ∙ strips-same s (j .desk)) ∙ ap (λ n. jobInTurn (s .desks) (stripsOf s (j .desk)) n (j .desk) (j .number)) ed)
 
   pub job-wrong : not x ≡ true → false ≡ jobFollows s d j
   unfolding jobFollows
@@ -96,12 +100,14 @@ module _ (s : SortingSection) (d : Desks) (j : Job) (strips done : ℕ) (es : st
           most-number = omega (arith, t .3, es, a .sound .most-strips (j .desk - 1));
         }
 
-    pub job-right : (r : Bool) (free scan time : ℕ) → free ≡ getD (d .free) (j .desk - 1) 0 → TimeTold (scanTime s j) scan → TimeTold (deskTime s j) time → r ≡ jobInTime (d .scanner) free (j .scan) (j .scan + scan) (j .start) (j .start + time) → r ≡ jobFollows s d j
+    pub job-right : (r : Bool) (free scan time : ℕ) → free ≡ getD (d .free) (j .desk - 1) 0 → TimeTold (scanTime s j) scan → TimeTold (deskTime s j) time
+        → r ≡ jobInTime (d .scanner) free (j .scan) (j .scan + scan) (j .start) (j .start + time) → r ≡ jobFollows s d j
     unfolding jobFollows scanEnd deskFinish
     job-right r free scan time ef t u e = rw (turned, not-false x h, ← ef, ← t .is, ← u .is) e
 
 module _ (s : SortingSection) (d : Desks) (j : Job) (k : JobTaken s d j) where
-  pub after-is : (i scan time : ℕ) → i ≡ j .desk - 1 → TimeTold (scanTime s j) scan → TimeTold (deskTime s j) time → _≡_ {A = Desks} (record { done = set (d .done) i (j .number); free = set (d .free) i (j .start + time); scanner = j .scan + scan }) (afterJob s d j)
+  pub after-is : (i scan time : ℕ) → i ≡ j .desk - 1 → TimeTold (scanTime s j) scan → TimeTold (deskTime s j) time
+      → _≡_ {A = Desks} (record { done = set (d .done) i (j .number); free = set (d .free) i (j .start + time); scanner = j .scan + scan }) (afterJob s d j)
   unfolding afterJob scanEnd deskFinish
   after-is i scan time e t u = rw (e, t .is, u .is)
 
@@ -121,7 +127,9 @@ done-none counts done desks = record { within = omega arith; so-far = refl }
 done-stays : (counts done : List ℕ) (d n : ℕ) → allDone counts done d ≡ false → allDone counts done (d + n) ≡ false
 done-stays counts done d zero e = ap (allDone counts done) (omega arith) ∙ e
 done-stays counts done d (suc n) e =
-    ap (allDone counts done) next ∙ done-suc counts done (d + n) ∙ ap (λ b. b && eqb (getD done (d + n) 0) (getD counts (d + n) 0)) (done-stays counts done d n e)
+    ap (allDone counts done) next
+    ∙ done-suc counts done (d + n)
+    ∙ ap (λ b. b && eqb (getD done (d + n) 0) (getD counts (d + n) 0)) (done-stays counts done d n e)
   where
     next : d + suc n ≡ suc (d + n)
     next = omega arith
@@ -152,7 +160,8 @@ module _ (f : FlightSection) (i : ℕ) (p : Passes) where
   unfolding blockFollows
   block-past h = rw (le-ltb _ _ h)
 
-  pub block-due : (r : Bool) → i < f .blocks → r ≡ blockInTime (p .first + getD (f .first) i 0 + getD (f .delay) i 0) (p .second) (p .second + getD (f .second) i 0) → r ≡ blockFollows f i p
+  pub block-due : (r : Bool) → i < f .blocks
+      → r ≡ blockInTime (p .first + getD (f .first) i 0 + getD (f .delay) i 0) (p .second) (p .second + getD (f .second) i 0) → r ≡ blockFollows f i p
   unfolding blockFollows secondDue
   block-due r h e = rw (lt-ltb _ _ h) e
 

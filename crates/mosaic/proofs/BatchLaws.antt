@@ -35,7 +35,8 @@ kept last start finish b u v w k h =
     rw (getD-set-other last b k u 0 (omega arith), getD-set-other start b k v 0 (omega arith), getD-set-other finish b k w 0 (omega arith))
 
 added : (last start finish : List ℕ) (b u v w : ℕ) → b < length last → b < length start → b < length finish
-    → listed (b + 1) (entry (set last b u) (set start b v) (set finish b w)) ≡ listed b (entry last start finish) ++ (record { last = u; start = v; finish = w } ∷ [])
+    → listed (b + 1) (entry (set last b u) (set start b v) (set finish b w))
+    ≡ listed b (entry last start finish) ++ (record { last = u; start = v; finish = w } ∷ [])
 unfolding listed
 added last start finish b u v w h₁ h₂ h₃ =
     rw (add-one b) (rw (

@@ -14,13 +14,14 @@ use Rattle.mosaic.specs.Chosen.{chosenBatches}
 use Rattle.mosaic.specs.Plan.{entry, batchesOf, Planned}
 use Rattle.batching.specs.Tables.{lateLength, instanceIn, Input, FillLatePre, LateFilled}
 use Rattle.mosaic.specs.Tables.{ChooseBatchesPre, BatchesTaken, ReadyTimes, BenchSums}
+use Rattle.running.specs.FunctionLaws.{SetupTold}
 use Rattle.mosaic.specs.Laws.Rules.{bench-upto, bench-most, ready-most, weight-count}
 use Rattle.batching.specs.Alike.{Alike, least-same, chosen-same}
 use Rattle.mosaic.specs.Laws.Whole.{least-is, chosen-is}
 use Rattle.mosaic.specs.Theorems.{mosaic-count}
 use Rattle.mosaic.specs.declared.MosaicPlan.{MosaicPlan}
 
-module _ {m : MosaicSection} (S : MosaicSound m) {rs sums : List ℕ} (R : ReadyTimes m rs) (B : BenchSums m sums) where
+module _ {m : MosaicSection} (S : MosaicSound m) {rs sums : List ℕ} (R : ReadyTimes m rs) (B : BenchSums m sums) {s : ℕ} (U : SetupTold m s) where
   most-ready : (j : ℕ) → getD rs j 0 ≤ 2 ^ 39
   most-ready j = elim (decLt j 40) [
     | yes h ↦ omega (arith, R .at j h, ready-most S (j + 1) (omega arith))
@@ -33,22 +34,22 @@ module _ {m : MosaicSection} (S : MosaicSound m) {rs sums : List ℕ} (R : Ready
   rise : (i q : ℕ) → i ≤ q → q ≤ 40 → getD sums q 0 ≡ getD sums i 0 + benchSum m i (q - i)
   rise i q h k = omega (arith, B .at q k, B .at i (omega arith), bench-upto m i q h)
 
-  input-is : Input rs sums (m .mount) (m .strips)
+  input-is : Input rs sums s (m .strips)
   input-is = record {
     most-strips = S .most-strips;
     ready-long = omega (arith, S .most-strips, R .len);
     sums-long = omega (arith, S .most-strips, B .len);
     most-ready = most-ready;
-    most-mount = omega (arith, S .most-mount);
+    most-mount = omega (arith, U .fits);
     most-sum = λ q h. most-sum q (omega (arith, S .most-strips));
     rise = λ i q h k. omega (arith, rise i q h (omega (arith, S .most-strips)));
   }
 
-  alike : Alike (instanceOf m) (instanceIn rs sums (m .mount) (m .strips))
+  alike : Alike (instanceOf m) (instanceIn rs sums s (m .strips))
   unfolding instanceOf
   alike = record {
     strips = refl;
-    mount = refl;
+    mount = sym (U .is);
     ready = λ q h k.
         let e : q - 1 + 1 ≡ q = omega arith in
         sym (R .at (q - 1) (omega (arith, S .most-strips)) ∙ ap (ready m) e);
@@ -57,14 +58,14 @@ module _ {m : MosaicSection} (S : MosaicSound m) {rs sums : List ℕ} (R : Ready
   }
 
   -- `late` holds zeros before it is filled
-  pub late-pre : FillLatePre rs sums (replicate lateLength 0) (m .mount) (m .strips)
+  pub late-pre : FillLatePre rs sums (replicate lateLength 0) s (m .strips)
   late-pre = record { input = input-is; late-long = omega (arith, length-replicate {A = ℕ} lateLength 0) }
 
-  pub batches-pre : {late : List ℕ} → LateFilled rs sums (replicate lateLength 0) late (m .mount) (m .strips)
-      → ChooseBatchesPre rs sums late (m .mount) (m .strips)
+  pub batches-pre : {late : List ℕ} → LateFilled rs sums (replicate lateLength 0) late s (m .strips)
+      → ChooseBatchesPre rs sums late s (m .strips)
   batches-pre L = record { input = input-is; all = L .all; late-long = omega (arith, L .len, length-replicate {A = ℕ} lateLength 0) }
 
-  pub planned : {p : MosaicPlan} → BatchesTaken rs sums (m .mount) (m .strips) p → Planned m p
+  pub planned : {p : MosaicPlan} → BatchesTaken rs sums s (m .strips) p → Planned m p
   unfolding batchesOf
   planned {p} T =
       let e = T .batches ∙ sym (chosen-is m ∙ chosen-same alike 0 0) in

@@ -20,7 +20,8 @@ module _ {m : MosaicSection} {p r : MosaicPlan} (P : Planned m p) (R : Planned m
   same-batch : (k : ℕ) → k < p .batches → entry (p .last) (p .start) (p .finish) k ≡ entry (r .last) (r .start) (r .finish) k
   unfolding batchesOf
   same-batch k h =
-      sym (listed-at (p .batches) (entry (p .last) (p .start) (p .finish)) k noBatch h) ∙ ap (λ (bs : List Batch). getD bs k noBatch) (P .batches ∙ sym (R .batches))
+      sym (listed-at (p .batches) (entry (p .last) (p .start) (p .finish)) k noBatch h)
+      ∙ ap (λ (bs : List Batch). getD bs k noBatch) (P .batches ∙ sym (R .batches))
       ∙ listed-at (r .batches) (entry (r .last) (r .start) (r .finish)) k noBatch (omega (arith, same-count))
 
   -- one of the lists of the two plans
@@ -29,13 +30,17 @@ module _ {m : MosaicSection} {p r : MosaicPlan} (P : Planned m p) (R : Planned m
   same-list xs ys len on zx zy = padded-same (p .batches) xs ys len on zx (λ k h. zy k (omega (arith, same-count)))
 
   same-last : p .last ≡ r .last
-  same-last = same-list (p .last) (r .last) (S .last ∙ sym (T .last)) (λ k h. ap (λ (b : Batch). b .last) (same-batch k h)) (P .no-more .last) (R .no-more .last)
+  same-last =
+      same-list (p .last) (r .last) (S .last ∙ sym (T .last)) (λ k h. ap (λ (b : Batch). b .last) (same-batch k h)) (P .no-more .last) (R .no-more .last)
 
   same-start : p .start ≡ r .start
-  same-start = same-list (p .start) (r .start) (S .start ∙ sym (T .start)) (λ k h. ap (λ (b : Batch). b .start) (same-batch k h)) (P .no-more .start) (R .no-more .start)
+  same-start =
+      same-list (p .start) (r .start) (S .start ∙ sym (T .start)) (λ k h. ap (λ (b : Batch). b .start) (same-batch k h)) (P .no-more .start) (R .no-more .start)
 
   same-finish : p .finish ≡ r .finish
-  same-finish = same-list (p .finish) (r .finish) (S .finish ∙ sym (T .finish)) (λ k h. ap (λ (b : Batch). b .finish) (same-batch k h)) (P .no-more .finish) (R .no-more .finish)
+  same-finish =
+      same-list (p .finish) (r .finish) (S .finish ∙ sym (T .finish)) (λ k h. ap (λ (b : Batch). b .finish) (same-batch k h)) (P .no-more .finish)
+      (R .no-more .finish)
 
   pub planned-determined : p ≡ r
   planned-determined = λ i. record {

@@ -9,7 +9,8 @@ use lib.Pow.{pow-pos}
 use Rattle.order.specs.Order.{bit, seconds, firsts, Proper}
 use Rattle.order.specs.Beginning.{Beginning, Extends, Through, by-first, by-second}
 use Rattle.order.specs.Blocks.{proper-first, proper-second}
-use Rattle.order.specs.Seconds.{bit-cases, no-pass, one-pass-more, firsts-seconds, bit-mod, seconds-mod, mod-more, pow-more, mod-shorter, mod-second, seconds-before-second, firsts-before-second, seconds-first, firsts-first, seconds-second, firsts-second}
+use Rattle.order.specs.Seconds.{bit-cases, no-pass, one-pass-more, firsts-seconds, bit-mod, seconds-mod, mod-more, pow-more, mod-shorter, mod-second}
+use Rattle.order.specs.Seconds.{seconds-before-second, firsts-before-second, seconds-first, firsts-first, seconds-second, firsts-second}
 
 -- The root of the search.
 pub beginning-empty : (n : ℕ) → Beginning n 0 0
@@ -27,7 +28,8 @@ module _ {n k x : ℕ} (b : Beginning n k x) where
     within = omega (arith, firsts-seconds x k, b .beginnings k (omega arith));
     no-higher = omega (arith, pow-more k);
     first-passes = omega (arith, firsts-first x k (b .no-higher));
-    beginnings = one-pass-more x k (b .beginnings) (omega (arith, seconds-first x k (b .no-higher), firsts-first x k (b .no-higher), b .beginnings k (omega arith)));
+    beginnings =
+        one-pass-more x k (b .beginnings) (omega (arith, seconds-first x k (b .no-higher), firsts-first x k (b .no-higher), b .beginnings k (omega arith)));
   }
 
   -- A second pass next.

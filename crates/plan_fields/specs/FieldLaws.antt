@@ -4,12 +4,13 @@ use Prim.Native.Nat.{ℕ, suc, _+_, _≤_, _<_}
 use mathlib.Core.Path.{_≡_, refl, sym, ap, _∙_}
 use mathlib.Core.List.{List, [], _∷_, _++_, append-assoc, append-nil}
 use native.Mathlib.Omega.{arith}
-use lib.ListN.{length, set, take, length-append, length-set}
+use lib.ListN.{length, set, take, length-set}
 use lib.Seq.{take-all, take-suc}
 use Rattle.field.specs.Bytes.{bytesOf}
 use Rattle.field.specs.Field.{fieldBytes}
 use Rattle.field.specs.Put.{put, put-whole, holding, put-one, put-more}
-use Rattle.plan_format.specs.Format.{Form, contentLength, sizeOf, widthOf, offsetOf, widthsSum, numbersBytes, formBytes, mosaicHeadForm, batchForm, sortingHeadForm, jobForm, flightHeadForm, passesForm, refusalForm}
+use Rattle.plan_format.specs.Format.{Form, contentLength, sizeOf, widthOf, offsetOf, numbersBytes, formBytes, mosaicHeadForm, batchForm, sortingHeadForm}
+use Rattle.plan_format.specs.Format.{jobForm, flightHeadForm, passesForm, refusalForm}
 use Rattle.plan_format.specs.FormLaws.{length-numbers, length-form}
 use Rattle.rules.specs.Plan.{batchBytes, jobBytes, passesBytes, refusalBytes}
 use Rattle.plan_fields.specs.Stored.{tagBytes, partBytes, stripBytes, batch, job, passes}
@@ -67,7 +68,8 @@ module _ (f : Form) (n : ℕ) (vs : List ℕ) (known : length (take n (f .widths
       ap (λ (ws : List ℕ). f .tag ∷ bytesOf 2 (contentLength f) ++ numbersBytes ws vs) all
       ∙ ap (λ (len : ℕ). f .tag ∷ bytesOf 2 len ++ numbersBytes (f .widths) vs) (sym (length-numbers (f .widths) vs (sym (ap length all) ∙ known)))
 
-  stored-next : (d d₁ d₂ : List ℕ) (at v : ℕ) → n < length (f .widths) → d₁ ≡ put d at (partBytes f n vs) → d₂ ≡ put d₁ (at + offsetOf f n) (bytesOf (widthOf f n) v)
+  stored-next : (d d₁ d₂ : List ℕ) (at v : ℕ) → n < length (f .widths) → d₁ ≡ put d at (partBytes f n vs)
+      → d₂ ≡ put d₁ (at + offsetOf f n) (bytesOf (widthOf f n) v)
       → d₂ ≡ put d at (partBytes f (suc n) (vs ++ (v ∷ [])))
   stored-next d d₁ d₂ at v more e₁ e₂ =
       joined d d₁ d₂ at (at + offsetOf f n) (partBytes f n vs) (bytesOf (widthOf f n) v) e₁ e₂ (ap (λ (k : ℕ). at + k) (sym part-length))

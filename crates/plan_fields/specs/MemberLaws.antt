@@ -30,7 +30,8 @@ unfolding passesBytes
 length-passes p = length-form passesForm (passesValues p) refl
 
 -- members of one size
-pub length-members : {A : Type 0} (bytes : A → List ℕ) (size : ℕ) → ((x : A) → length (bytes x) ≡ size) → (member : ℕ → A) (n : ℕ) → length (membersTo bytes member n) ≡ size * n
+pub length-members : {A : Type 0} (bytes : A → List ℕ) (size : ℕ) → ((x : A) → length (bytes x) ≡ size) → (member : ℕ → A) (n : ℕ)
+    → length (membersTo bytes member n) ≡ size * n
 unfolding membersTo
 length-members bytes size each member zero = sym (mul-zero size)
 length-members bytes size each member (suc n) =
@@ -54,13 +55,15 @@ module _ {A : Type 0} (bytes : A → List ℕ) (member : ℕ → A) where
   unfolding membersTo
   members-next n = rw (add-one n)
 
-  storing-more : (size : ℕ) → ((x : A) → length (bytes x) ≡ size) → (d₀ d d₁ : List ℕ) (at n i : ℕ) → Storing bytes member d₀ d at n i → i < n → d₁ ≡ put d (at + size * i) (bytes (member i)) → Storing bytes member d₀ d₁ at n (i + 1)
+  storing-more : (size : ℕ) → ((x : A) → length (bytes x) ≡ size) → (d₀ d d₁ : List ℕ) (at n i : ℕ) → Storing bytes member d₀ d at n i → i < n
+      → d₁ ≡ put d (at + size * i) (bytes (member i)) → Storing bytes member d₀ d₁ at n (i + 1)
   storing-more size each d₀ d d₁ at n i s l e =
       record {
         within = omega arith;
         long = ap length e ∙ length-put d (at + size * i) (bytes (member i)) ∙ s .long;
         stored =
-            joined d₀ d d₁ at (at + size * i) (membersTo bytes member i) (bytes (member i)) (s .stored) e (omega (arith, length-members bytes size each member i))
+            joined d₀ d d₁ at (at + size * i) (membersTo bytes member i) (bytes (member i)) (s .stored) e
+            (omega (arith, length-members bytes size each member i))
             ∙ ap (put d₀ at) (members-next i);
       }
 
@@ -75,11 +78,13 @@ module _ (last start finish : List ℕ) (d₀ : List ℕ) (at n : ℕ) where
   batches-none = storing-none batchBytes (batchIn last start finish) d₀ at n
 
   pub batches-more : (d d₁ : List ℕ) (i : ℕ) → Storing batchBytes (batchIn last start finish) d₀ d at n i → i < n
-      → d₁ ≡ put d (at + sizeOf batchForm * i) (batchBytes (batch (getD last i 0) (getD start i 0) (getD finish i 0))) → Storing batchBytes (batchIn last start finish) d₀ d₁ at n (i + 1)
+      → d₁ ≡ put d (at + sizeOf batchForm * i) (batchBytes (batch (getD last i 0) (getD start i 0) (getD finish i 0)))
+      → Storing batchBytes (batchIn last start finish) d₀ d₁ at n (i + 1)
   unfolding batchIn
   batches-more d d₁ i s l e = storing-more batchBytes (batchIn last start finish) (sizeOf batchForm) length-batch d₀ d d₁ at n i s l e
 
-  pub batches-all : (d : List ℕ) (i : ℕ) → Storing batchBytes (batchIn last start finish) d₀ d at n i → n ≤ i → d ≡ put d₀ at (membersTo batchBytes (batchIn last start finish) n)
+  pub batches-all : (d : List ℕ) (i : ℕ) → Storing batchBytes (batchIn last start finish) d₀ d at n i → n ≤ i
+      → d ≡ put d₀ at (membersTo batchBytes (batchIn last start finish) n)
   batches-all d i s l = storing-all batchBytes (batchIn last start finish) d₀ d at n i s l
 
 module _ (desk number scan start : List ℕ) (d₀ : List ℕ) (at n : ℕ) where
@@ -87,11 +92,13 @@ module _ (desk number scan start : List ℕ) (d₀ : List ℕ) (at n : ℕ) wher
   jobs-none = storing-none jobBytes (jobIn desk number scan start) d₀ at n
 
   pub jobs-more : (d d₁ : List ℕ) (i : ℕ) → Storing jobBytes (jobIn desk number scan start) d₀ d at n i → i < n
-      → d₁ ≡ put d (at + sizeOf jobForm * i) (jobBytes (job (getD desk i 0) (getD number i 0) (getD scan i 0) (getD start i 0))) → Storing jobBytes (jobIn desk number scan start) d₀ d₁ at n (i + 1)
+      → d₁ ≡ put d (at + sizeOf jobForm * i) (jobBytes (job (getD desk i 0) (getD number i 0) (getD scan i 0) (getD start i 0)))
+      → Storing jobBytes (jobIn desk number scan start) d₀ d₁ at n (i + 1)
   unfolding jobIn
   jobs-more d d₁ i s l e = storing-more jobBytes (jobIn desk number scan start) (sizeOf jobForm) length-job d₀ d d₁ at n i s l e
 
-  pub jobs-all : (d : List ℕ) (i : ℕ) → Storing jobBytes (jobIn desk number scan start) d₀ d at n i → n ≤ i → d ≡ put d₀ at (membersTo jobBytes (jobIn desk number scan start) n)
+  pub jobs-all : (d : List ℕ) (i : ℕ) → Storing jobBytes (jobIn desk number scan start) d₀ d at n i → n ≤ i
+      → d ≡ put d₀ at (membersTo jobBytes (jobIn desk number scan start) n)
   jobs-all d i s l = storing-all jobBytes (jobIn desk number scan start) d₀ d at n i s l
 
 module _ (first second : List ℕ) (d₀ : List ℕ) (at n : ℕ) where
@@ -99,9 +106,11 @@ module _ (first second : List ℕ) (d₀ : List ℕ) (at n : ℕ) where
   blocks-none = storing-none passesBytes (passesIn first second) d₀ at n
 
   pub blocks-more : (d d₁ : List ℕ) (i : ℕ) → Storing passesBytes (passesIn first second) d₀ d at n i → i < n
-      → d₁ ≡ put d (at + sizeOf passesForm * i) (passesBytes (passes (getD first i 0) (getD second i 0))) → Storing passesBytes (passesIn first second) d₀ d₁ at n (i + 1)
+      → d₁ ≡ put d (at + sizeOf passesForm * i) (passesBytes (passes (getD first i 0) (getD second i 0)))
+      → Storing passesBytes (passesIn first second) d₀ d₁ at n (i + 1)
   unfolding passesIn
   blocks-more d d₁ i s l e = storing-more passesBytes (passesIn first second) (sizeOf passesForm) length-passes d₀ d d₁ at n i s l e
 
-  pub blocks-all : (d : List ℕ) (i : ℕ) → Storing passesBytes (passesIn first second) d₀ d at n i → n ≤ i → d ≡ put d₀ at (membersTo passesBytes (passesIn first second) n)
+  pub blocks-all : (d : List ℕ) (i : ℕ) → Storing passesBytes (passesIn first second) d₀ d at n i → n ≤ i
+      → d ≡ put d₀ at (membersTo passesBytes (passesIn first second) n)
   blocks-all d i s l = storing-all passesBytes (passesIn first second) d₀ d at n i s l

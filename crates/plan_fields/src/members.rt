@@ -47,7 +47,8 @@ pub fn put_batches<'a>(
     n: usize,
 )
     requires { ⌜ BatchLists (now d) at (now last) (now start) (now finish) n ⌝ }
-    ensures { λ _. ⌜ now (d .exit) ≡ put (now (d .entry)) at (membersTo batchBytes (batchIn (now (last .entry)) (now (start .entry)) (now (finish .entry))) n) ⌝ }
+    ensures { λ _. ⌜ now (d .exit)
+        ≡ put (now (d .entry)) at (membersTo batchBytes (batchIn (now (last .entry)) (now (start .entry)) (now (finish .entry))) n) ⌝ }
 {
     let mut i: usize = 0;
     while i < n {
@@ -86,7 +87,8 @@ pub fn put_jobs<'a>(
     n: usize,
 )
     requires { ⌜ JobLists (now d) at (now desk) (now number) (now scan) (now start) n ⌝ }
-    ensures { λ _. ⌜ now (d .exit) ≡ put (now (d .entry)) at (membersTo jobBytes (jobIn (now (desk .entry)) (now (number .entry)) (now (scan .entry)) (now (start .entry))) n) ⌝ }
+    ensures { λ _. ⌜ now (d .exit)
+        ≡ put (now (d .entry)) at (membersTo jobBytes (jobIn (now (desk .entry)) (now (number .entry)) (now (scan .entry)) (now (start .entry))) n) ⌝ }
 {
     let mut i: usize = 0;
     while i < n {

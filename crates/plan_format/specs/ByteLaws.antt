@@ -23,7 +23,8 @@ unfolding numberAt
 number-append pre s at zero = refl
 number-append pre s at (suc width) =
     let next : length pre + at + 1 ≡ length pre + (at + 1) = omega arith in
-    let rest : numberAt (pre ++ s) (length pre + at + 1) width ≡ numberAt s (at + 1) width = ap (λ (k : ℕ). numberAt (pre ++ s) k width) next ∙ number-append pre s (at + 1) width in
+    let rest : numberAt (pre ++ s) (length pre + at + 1) width ≡ numberAt s (at + 1) width
+    = ap (λ (k : ℕ). numberAt (pre ++ s) k width) next ∙ number-append pre s (at + 1) width in
     omega (arith, getD-append-add pre s at 0, rest)
 
 -- a number that fits its bytes is read back from them
@@ -31,10 +32,12 @@ number-first : (width value : ℕ) (post : List ℕ) → value < 2 ^ (8 * width)
 unfolding numberAt bytesOf
 number-first zero value post h = omega arith
 number-first (suc width) value post h =
-    let rest : numberAt (value % 256 ∷ bytesOf width (value / 256) ++ post) 1 width ≡ numberAt (bytesOf width (value / 256) ++ post) 0 width = number-append (value % 256 ∷ []) (bytesOf width (value / 256) ++ post) 0 width in
+    let rest : numberAt (value % 256 ∷ bytesOf width (value / 256) ++ post) 1 width ≡ numberAt (bytesOf width (value / 256) ++ post) 0 width
+    = number-append (value % 256 ∷ []) (bytesOf width (value / 256) ++ post) 0 width in
     omega (arith, rest, number-first width (value / 256) post (omega (arith, pow-byte width)))
 
-pub number-back : (pre : List ℕ) (width value : ℕ) (post : List ℕ) → value < 2 ^ (8 * width) → numberAt (pre ++ (bytesOf width value ++ post)) (length pre) width ≡ value
+pub number-back : (pre : List ℕ) (width value : ℕ) (post : List ℕ) → value < 2 ^ (8 * width)
+    → numberAt (pre ++ (bytesOf width value ++ post)) (length pre) width ≡ value
 number-back pre width value post h =
     ap (λ (k : ℕ). numberAt (pre ++ (bytesOf width value ++ post)) k width) (sym (add-zero (length pre)))
     ∙ number-append pre (bytesOf width value ++ post) 0 width
@@ -55,7 +58,8 @@ bytes-number s b at (suc width) h =
     high = omega (arith, b .byte at)
 
 -- the same with what stands behind it
-pub number-then : (s : List ℕ) → AreBytes s → (at width more next : ℕ) → at + width ≡ next → next ≤ length s → take (width + more) (drop at s) ≡ bytesOf width (numberAt s at width) ++ take more (drop next s)
+pub number-then : (s : List ℕ) → AreBytes s → (at width more next : ℕ) → at + width ≡ next → next ≤ length s
+    → take (width + more) (drop at s) ≡ bytesOf width (numberAt s at width) ++ take more (drop next s)
 number-then s b at width more next e h =
     take-add width more (drop at s) ∙ rw (← bytes-number s b at width (omega arith), drop-drop width at s, e)
 
@@ -69,20 +73,25 @@ unfolding fieldBytes bytesOf
 length-field tag content = omega arith
 
 -- a field that is written is found
-pub field-written : (pre : List ℕ) (tag : ℕ) (content post : List ℕ) → length content < 2 ^ 16 → fieldAt (pre ++ (fieldBytes tag content ++ post)) (length pre) ≡ Whole tag (length content)
+pub field-written : (pre : List ℕ) (tag : ℕ) (content post : List ℕ) → length content < 2 ^ 16
+    → fieldAt (pre ++ (fieldBytes tag content ++ post)) (length pre) ≡ Whole tag (length content)
 unfolding fieldBytes bytesOf
 field-written pre tag content post h =
-    sym (field-whole (pre ++ (fieldBytes tag content ++ post)) (length pre) (length content) read (omega (arith, size)) (omega (arith, size)) (omega (arith, size)))
+    sym
+    (field-whole (pre ++ (fieldBytes tag content ++ post)) (length pre) (length content) read (omega (arith, size)) (omega (arith, size)) (omega (arith, size)))
     ∙ ap (λ (t : ℕ). Whole t (length content)) tag-is
   where
     size : length (pre ++ (fieldBytes tag content ++ post)) ≡ length pre + (3 + (length content + length post))
     size = omega (arith, length-append pre (fieldBytes tag content ++ post), field-length tag content post)
 
     tag-is : getD (pre ++ (fieldBytes tag content ++ post)) (length pre) 0 ≡ tag
-    tag-is = ap (λ (k : ℕ). getD (pre ++ (fieldBytes tag content ++ post)) k 0) (sym (add-zero (length pre))) ∙ getD-append-add pre (fieldBytes tag content ++ post) 0 0
+    tag-is =
+        ap (λ (k : ℕ). getD (pre ++ (fieldBytes tag content ++ post)) k 0) (sym (add-zero (length pre)))
+        ∙ getD-append-add pre (fieldBytes tag content ++ post) 0 0
 
     read : NumberRead (pre ++ (fieldBytes tag content ++ post)) (length pre + 1) 2 (length content)
-    read = record { is = sym (number-append pre (fieldBytes tag content ++ post) 1 2 ∙ number-back (tag ∷ []) 2 (length content) (content ++ post) h); fits = h }
+    read =
+        record { is = sym (number-append pre (fieldBytes tag content ++ post) 1 2 ∙ number-back (tag ∷ []) 2 (length content) (content ++ post) h); fits = h }
 
 -- a field that is found is what stands there
 module _ (s : List ℕ) (b : AreBytes s) (at tag len : ℕ) (e : fieldAt s at ≡ Whole tag len) where

@@ -1,6 +1,6 @@
 -- What is written by a form is found and read back, and what is read by a form is what stands there: one law each for every form.
 -- By induction over the widths; the bytes of one number by ByteLaws.
-use Prim.Native.Nat.{ℕ, zero, suc, _+_, _*_, _^_, _≤_, _<_}
+use Prim.Native.Nat.{ℕ, suc, _+_, _^_, _≤_, _<_}
 use mathlib.Core.Path.{_≡_, refl, sym, ap, ap₂, _∙_}
 use mathlib.Core.List.{List, [], _∷_, _++_, append-assoc}
 use native.Mathlib.Omega.{arith}
@@ -54,7 +54,8 @@ module _ (f : Form) (vs pre post : List ℕ) where
       front = f .tag ∷ bytesOf 2 (length (numbersBytes (f .widths) vs))
 
   -- .. and its field is found
-  pub form-found : length (f .widths) ≡ length vs → contentLength f < 2 ^ 16 → fieldAt (pre ++ (formBytes f vs ++ post)) (length pre) ≡ Whole (f .tag) (contentLength f)
+  pub form-found : length (f .widths) ≡ length vs → contentLength f < 2 ^ 16
+      → fieldAt (pre ++ (formBytes f vs ++ post)) (length pre) ≡ Whole (f .tag) (contentLength f)
   unfolding formBytes
   form-found e small =
       field-written pre (f .tag) (numbersBytes (f .widths) vs) post (omega (arith, length-numbers (f .widths) vs e))

@@ -8,12 +8,13 @@ use native.Mathlib.Omega.{arith}
 use lib.ListN.{length, getD}
 use Rattle.field.specs.Bytes.{NumberRead}
 use Rattle.field.specs.Numbers.{past-read}
-use Rattle.plan_format.specs.Format.{Form, widthOf, offsetOf, valuesFrom, EachFits, mosaicHeadForm, batchForm, sortingHeadForm, jobForm, flightHeadForm, passesForm}
+use Rattle.plan_format.specs.Format.{widthOf, offsetOf, EachFits, mosaicHeadForm, batchForm, sortingHeadForm, jobForm, flightHeadForm, passesForm}
 use Rattle.rules.specs.Plan.{batchValues, jobValues, passesValues}
 use Rattle.rules.specs.declared.Batch.{Batch}
 use Rattle.rules.specs.declared.Job.{Job}
 use Rattle.rules.specs.declared.Passes.{Passes}
-use Rattle.plan_read.specs.PlanRead.{figureFrom, orderFrom, batchFrom, jobFrom, passesFrom, membersFrom, BatchFits, JobFits, PassesFits, BatchRead, JobRead, PassesRead}
+use Rattle.plan_read.specs.PlanRead.{figureFrom, orderFrom, batchFrom, jobFrom, passesFrom, membersFrom, BatchFits, JobFits, PassesFits, BatchRead}
+use Rattle.plan_read.specs.PlanRead.{JobRead, PassesRead}
 
 -- past the end every number is 0
 pub past-behind : (plan : List ℕ) (at skip width : ℕ) → length plan ≤ at → NumberRead plan (at + skip) width 0

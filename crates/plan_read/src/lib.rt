@@ -1,4 +1,5 @@
-// The heads and members of a plan, read from its bytes. The field stands at offset `at`; a byte past the end of the plan counts as 0, so every offset may be asked for.
+// The heads and members of a plan, read from its bytes. The field stands at offset `at`; a byte past the end of the plan counts as 0, so every offset may be
+// asked for.
 use field::number;
 use plan_format::BATCH_FINISH;
 use plan_format::BATCH_START;

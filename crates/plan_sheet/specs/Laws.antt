@@ -23,7 +23,8 @@ use Rattle.planner.specs.declared.Answer.{Answer}
 use Rattle.plan_sheet.specs.Reply.{replyBytes, Replied}
 
 -- an accepted sheet's length is its plan's
-length-of : (s : Sheet) (b p : Bool) → eqb (s .number) 0 ≡ b → isPossible (s .flight) ≡ p → sheetAnswer s .number ≡ 0 → sheetAnswer s .length ≡ length (sheetPlan s)
+length-of : (s : Sheet) (b p : Bool) → eqb (s .number) 0 ≡ b → isPossible (s .flight) ≡ p → sheetAnswer s .number ≡ 0
+    → sheetAnswer s .length ≡ length (sheetPlan s)
 unfolding sheetAnswer sheetPlan
 length-of s true true e h z = rw (e, h)
 length-of s true false e h z = absurd (eleven (rw (e, h) at z))
@@ -36,7 +37,8 @@ reply-accepted : (sheet : List ℕ) → sheetAnswer (readSheet sheet) .number �
 unfolding replyBytes
 reply-accepted sheet z = rw (eq-eqb (sheetAnswer (readSheet sheet) .number) 0 z)
 
-reply-turned-back : (sheet : List ℕ) → (sheetAnswer (readSheet sheet) .number ≡ 0 → ⊥) → replyBytes sheet ≡ refusalBytes (sheetAnswer (readSheet sheet) .number) (sheetAnswer (readSheet sheet) .place)
+reply-turned-back : (sheet : List ℕ) → (sheetAnswer (readSheet sheet) .number ≡ 0 → ⊥)
+    → replyBytes sheet ≡ refusalBytes (sheetAnswer (readSheet sheet) .number) (sheetAnswer (readSheet sheet) .place)
 unfolding replyBytes
 reply-turned-back sheet z = rw (ne-eqb (sheetAnswer (readSheet sheet) .number) 0 z)
 
@@ -64,7 +66,12 @@ module _ (sheet out table after tableEnd : List ℕ) (a : Answer) (large : Large
   number-is = ap (λ (x : Answer). x .number) (sym answer-is)
 
   pub reply-plan : a .number ≡ 0 → Replied sheet out after (a .length)
-  reply-plan z = record { buffer = plan-is ∙ ap (λ (l : List ℕ). holding l out) (sym bytes); length-is = long; counts = counted (replyBytes sheet) out after (a .length) (plan-is ∙ ap (λ (l : List ℕ). holding l out) (sym bytes)) long }
+  reply-plan z =
+      record {
+        buffer = plan-is ∙ ap (λ (l : List ℕ). holding l out) (sym bytes);
+        length-is = long;
+        counts = counted (replyBytes sheet) out after (a .length) (plan-is ∙ ap (λ (l : List ℕ). holding l out) (sym bytes)) long;
+      }
     where
       bytes : replyBytes sheet ≡ sheetPlan (readSheet sheet)
       bytes = reply-accepted sheet (number-is ∙ z)

@@ -16,7 +16,8 @@ use Rattle.plan_fields.specs.Stored.{batchIn, jobIn, passesIn, membersTo}
 pub members-append : {A : Type 0} (bytes : A → List ℕ) (xs ys : List A) → membersBytes bytes (xs ++ ys) ≡ membersBytes bytes xs ++ membersBytes bytes ys
 unfolding membersBytes
 members-append bytes [] ys = refl
-members-append bytes (x ∷ xs) ys = ap (λ (l : List ℕ). bytes x ++ l) (members-append bytes xs ys) ∙ sym (append-assoc (bytes x) (membersBytes bytes xs) (membersBytes bytes ys))
+members-append bytes (x ∷ xs) ys =
+    ap (λ (l : List ℕ). bytes x ++ l) (members-append bytes xs ys) ∙ sym (append-assoc (bytes x) (membersBytes bytes xs) (membersBytes bytes ys))
 
 members-one : {A : Type 0} (bytes : A → List ℕ) (x : A) → membersBytes bytes (x ∷ []) ≡ bytes x
 unfolding membersBytes

@@ -33,7 +33,8 @@ module _ (d : List ℕ) (s : Sheet) (m : MosaicPlan) (t : SortingPlan) (asked : 
     sorting-room =
         record { few = asked .jobs; room = omega (arith, first-long, w₁ .end, mosaic-long (s .mosaic .strips) m, asked .room, asked .batches, asked .jobs) }
 
-    module _ (d₂ : List ℕ) (strips at₂ : ℕ) (e : strips ≡ stripsInAll (s .sorting)) (w₂ : Written d₁ d₂ at₁ (ifPresent strips (sortingBytes (t .figure) (jobsOfPlan t))) at₂) where
+    module _ (d₂ : List ℕ) (strips at₂ : ℕ) (e : strips ≡ stripsInAll (s .sorting))
+        (w₂ : Written d₁ d₂ at₁ (ifPresent strips (sortingBytes (t .figure) (jobsOfPlan t))) at₂) where
       pub flight-room : FlightAsked d₂ at₂ (s .flight .blocks)
       flight-room =
           record {
@@ -54,7 +55,9 @@ module _ (d : List ℕ) (s : Sheet) (m : MosaicPlan) (t : SortingPlan) (asked : 
                 );
           }
 
-      pub plan-written : (d₃ : List ℕ) (f : FlightPlan) (at₃ : ℕ) → Written d₂ d₃ at₂ (ifPresent (s .flight .blocks) (flightBytes (f .figure) (f .order) (passesOfPlan (s .flight .blocks) f))) at₃ → Written d d₃ 0 (planOf s m t f) at₃
+      pub plan-written : (d₃ : List ℕ) (f : FlightPlan) (at₃ : ℕ)
+          → Written d₂ d₃ at₂ (ifPresent (s .flight .blocks) (flightBytes (f .figure) (f .order) (passesOfPlan (s .flight .blocks) f))) at₃
+          → Written d d₃ 0 (planOf s m t f) at₃
       unfolding planOf
       plan-written d₃ f at₃ w₃ =
           rw (← e)

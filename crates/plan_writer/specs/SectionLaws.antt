@@ -46,13 +46,16 @@ pub flight-absent : (d : List ℕ) (at n : ℕ) (p : FlightPlan) → n < 1 → W
 flight-absent d at n p h = absent d at n (flightBytes (p .figure) (p .order) (passesOfPlan n p)) h
 
 -- The members of a plan's lists are its members.
-pub batches-stored : (p : MosaicPlan) (d d₁ : List ℕ) (at : ℕ) → d₁ ≡ put d at (membersTo batchBytes (batchIn (p .last) (p .start) (p .finish)) (p .batches)) → d₁ ≡ put d at (membersBytes batchBytes (batchesOf p))
+pub batches-stored : (p : MosaicPlan) (d d₁ : List ℕ) (at : ℕ) → d₁ ≡ put d at (membersTo batchBytes (batchIn (p .last) (p .start) (p .finish)) (p .batches))
+    → d₁ ≡ put d at (membersBytes batchBytes (batchesOf p))
 batches-stored p d d₁ at e = e ∙ ap (put d at) (sym (batches-bytes p))
 
-pub jobs-stored : (p : SortingPlan) (d d₁ : List ℕ) (at : ℕ) → d₁ ≡ put d at (membersTo jobBytes (jobIn (p .desk) (p .number) (p .scan) (p .start)) (p .jobs)) → d₁ ≡ put d at (membersBytes jobBytes (jobsOfPlan p))
+pub jobs-stored : (p : SortingPlan) (d d₁ : List ℕ) (at : ℕ) → d₁ ≡ put d at (membersTo jobBytes (jobIn (p .desk) (p .number) (p .scan) (p .start)) (p .jobs))
+    → d₁ ≡ put d at (membersBytes jobBytes (jobsOfPlan p))
 jobs-stored p d d₁ at e = e ∙ ap (put d at) (sym (jobs-bytes p))
 
-pub blocks-stored : (p : FlightPlan) (d d₁ : List ℕ) (at n : ℕ) → d₁ ≡ put d at (membersTo passesBytes (passesIn (p .first) (p .second)) n) → d₁ ≡ put d at (membersBytes passesBytes (passesOfPlan n p))
+pub blocks-stored : (p : FlightPlan) (d d₁ : List ℕ) (at n : ℕ) → d₁ ≡ put d at (membersTo passesBytes (passesIn (p .first) (p .second)) n)
+    → d₁ ≡ put d at (membersBytes passesBytes (passesOfPlan n p))
 blocks-stored p d d₁ at n e = e ∙ ap (put d at) (sym (passes-bytes n p))
 
 -- A section: its head and its members.
@@ -72,23 +75,29 @@ blocks-long : (n : ℕ) (p : FlightPlan) → length (membersBytes passesBytes (p
 blocks-long n p = ap length (passes-bytes n p) ∙ length-members passesBytes (sizeOf passesForm) length-passes (passesIn (p .first) (p .second)) n
 
 module _ (d d₁ d₂ : List ℕ) (at n : ℕ) where
-  pub mosaic-written : (p : MosaicPlan) → 1 ≤ n → d₁ ≡ put d at (formBytes mosaicHeadForm (p .figure ∷ [])) → d₂ ≡ put d₁ (at + sizeOf mosaicHeadForm) (membersBytes batchBytes (batchesOf p))
+  pub mosaic-written : (p : MosaicPlan) → 1 ≤ n → d₁ ≡ put d at (formBytes mosaicHeadForm (p .figure ∷ []))
+      → d₂ ≡ put d₁ (at + sizeOf mosaicHeadForm) (membersBytes batchBytes (batchesOf p))
       → Written d d₂ at (ifPresent n (mosaicBytes (p .figure) (batchesOf p))) (at + sizeOf mosaicHeadForm + sizeOf batchForm * p .batches)
   unfolding mosaicBytes
   mosaic-written p h e₁ e₂ =
-      section d d₁ d₂ at n (sizeOf mosaicHeadForm) (sizeOf batchForm * p .batches) (formBytes mosaicHeadForm (p .figure ∷ [])) (membersBytes batchBytes (batchesOf p)) h (length-form mosaicHeadForm (p .figure ∷ []) refl) (batches-long p) e₁ e₂
+      section d d₁ d₂ at n (sizeOf mosaicHeadForm) (sizeOf batchForm * p .batches) (formBytes mosaicHeadForm (p .figure ∷ []))
+      (membersBytes batchBytes (batchesOf p)) h (length-form mosaicHeadForm (p .figure ∷ []) refl) (batches-long p) e₁ e₂
 
-  pub sorting-written : (p : SortingPlan) → 1 ≤ n → d₁ ≡ put d at (formBytes sortingHeadForm (p .figure ∷ [])) → d₂ ≡ put d₁ (at + sizeOf sortingHeadForm) (membersBytes jobBytes (jobsOfPlan p))
+  pub sorting-written : (p : SortingPlan) → 1 ≤ n → d₁ ≡ put d at (formBytes sortingHeadForm (p .figure ∷ []))
+      → d₂ ≡ put d₁ (at + sizeOf sortingHeadForm) (membersBytes jobBytes (jobsOfPlan p))
       → Written d d₂ at (ifPresent n (sortingBytes (p .figure) (jobsOfPlan p))) (at + sizeOf sortingHeadForm + sizeOf jobForm * p .jobs)
   unfolding sortingBytes
   sorting-written p h e₁ e₂ =
-      section d d₁ d₂ at n (sizeOf sortingHeadForm) (sizeOf jobForm * p .jobs) (formBytes sortingHeadForm (p .figure ∷ [])) (membersBytes jobBytes (jobsOfPlan p)) h (length-form sortingHeadForm (p .figure ∷ []) refl) (jobs-long p) e₁ e₂
+      section d d₁ d₂ at n (sizeOf sortingHeadForm) (sizeOf jobForm * p .jobs) (formBytes sortingHeadForm (p .figure ∷ []))
+      (membersBytes jobBytes (jobsOfPlan p)) h (length-form sortingHeadForm (p .figure ∷ []) refl) (jobs-long p) e₁ e₂
 
-  pub flight-written : (p : FlightPlan) → 1 ≤ n → d₁ ≡ put d at (formBytes flightHeadForm (p .figure ∷ p .order ∷ [])) → d₂ ≡ put d₁ (at + sizeOf flightHeadForm) (membersBytes passesBytes (passesOfPlan n p))
+  pub flight-written : (p : FlightPlan) → 1 ≤ n → d₁ ≡ put d at (formBytes flightHeadForm (p .figure ∷ p .order ∷ []))
+      → d₂ ≡ put d₁ (at + sizeOf flightHeadForm) (membersBytes passesBytes (passesOfPlan n p))
       → Written d d₂ at (ifPresent n (flightBytes (p .figure) (p .order) (passesOfPlan n p))) (at + sizeOf flightHeadForm + sizeOf passesForm * n)
   unfolding flightBytes
   flight-written p h e₁ e₂ =
-      section d d₁ d₂ at n (sizeOf flightHeadForm) (sizeOf passesForm * n) (formBytes flightHeadForm (p .figure ∷ p .order ∷ [])) (membersBytes passesBytes (passesOfPlan n p)) h (length-form flightHeadForm (p .figure ∷ p .order ∷ []) refl) (blocks-long n p) e₁ e₂
+      section d d₁ d₂ at n (sizeOf flightHeadForm) (sizeOf passesForm * n) (formBytes flightHeadForm (p .figure ∷ p .order ∷ []))
+      (membersBytes passesBytes (passesOfPlan n p)) h (length-form flightHeadForm (p .figure ∷ p .order ∷ []) refl) (blocks-long n p) e₁ e₂
 
 -- How long a section is at most.
 present-long : (n most : ℕ) (bytes : List ℕ) → length bytes ≤ most → length (ifPresent n bytes) ≤ most
@@ -96,20 +105,24 @@ unfolding ifPresent
 present-long zero most bytes h = omega arith
 present-long (suc n) most bytes h = rw (lt-ltb 0 (suc n) (omega arith)) h
 
-pub mosaic-long : (n : ℕ) (p : MosaicPlan) → length (ifPresent n (mosaicBytes (p .figure) (batchesOf p))) ≤ sizeOf mosaicHeadForm + sizeOf batchForm * p .batches
+pub mosaic-long : (n : ℕ) (p : MosaicPlan)
+    → length (ifPresent n (mosaicBytes (p .figure) (batchesOf p))) ≤ sizeOf mosaicHeadForm + sizeOf batchForm * p .batches
 unfolding mosaicBytes
 mosaic-long n p =
     present-long n (sizeOf mosaicHeadForm + sizeOf batchForm * p .batches) (formBytes mosaicHeadForm (p .figure ∷ []) ++ membersBytes batchBytes (batchesOf p))
     (omega (arith, length-append (formBytes mosaicHeadForm (p .figure ∷ [])) (membersBytes batchBytes (batchesOf p)), length-form mosaicHeadForm (p .figure ∷ []) refl, batches-long p))
 
-pub sorting-long : (n : ℕ) (p : SortingPlan) → length (ifPresent n (sortingBytes (p .figure) (jobsOfPlan p))) ≤ sizeOf sortingHeadForm + sizeOf jobForm * p .jobs
+pub sorting-long : (n : ℕ) (p : SortingPlan)
+    → length (ifPresent n (sortingBytes (p .figure) (jobsOfPlan p))) ≤ sizeOf sortingHeadForm + sizeOf jobForm * p .jobs
 unfolding sortingBytes
 sorting-long n p =
     present-long n (sizeOf sortingHeadForm + sizeOf jobForm * p .jobs) (formBytes sortingHeadForm (p .figure ∷ []) ++ membersBytes jobBytes (jobsOfPlan p))
     (omega (arith, length-append (formBytes sortingHeadForm (p .figure ∷ [])) (membersBytes jobBytes (jobsOfPlan p)), length-form sortingHeadForm (p .figure ∷ []) refl, jobs-long p))
 
-pub flight-long : (n : ℕ) (p : FlightPlan) → length (ifPresent n (flightBytes (p .figure) (p .order) (passesOfPlan n p))) ≤ sizeOf flightHeadForm + sizeOf passesForm * n
+pub flight-long : (n : ℕ) (p : FlightPlan)
+    → length (ifPresent n (flightBytes (p .figure) (p .order) (passesOfPlan n p))) ≤ sizeOf flightHeadForm + sizeOf passesForm * n
 unfolding flightBytes
 flight-long n p =
-    present-long n (sizeOf flightHeadForm + sizeOf passesForm * n) (formBytes flightHeadForm (p .figure ∷ p .order ∷ []) ++ membersBytes passesBytes (passesOfPlan n p))
+    present-long n (sizeOf flightHeadForm + sizeOf passesForm * n)
+    (formBytes flightHeadForm (p .figure ∷ p .order ∷ []) ++ membersBytes passesBytes (passesOfPlan n p))
     (omega (arith, length-append (formBytes flightHeadForm (p .figure ∷ p .order ∷ [])) (membersBytes passesBytes (passesOfPlan n p)), length-form flightHeadForm (p .figure ∷ p .order ∷ []) refl, blocks-long n p))

@@ -31,7 +31,8 @@ chosenPlan s =
 abbrev pub answer : ℕ → ℕ → ℕ → Answer
 answer number place length = record { number = number; place = place; length = length }
 
--- "An accepted call has number 0 and place 0, and the planner's also the plan's length; a refused one has length .. 0." "11 comes last", its place is the order field.
+-- "An accepted call has number 0 and place 0, and the planner's also the plan's length; a refused one has length .. 0." "11 comes last", its place is the order
+-- field.
 unfoldable pub sheetAnswer : Sheet → Answer
 sheetAnswer s =
     cond (eqb (s .number) 0)

@@ -36,7 +36,8 @@ use Rattle.plan_writer.specs.Written.{Written, planOf}
 use Rattle.plan_writer.specs.Written as writer
 use Rattle.plan_writer.specs.SectionLaws.{mosaic-long, sorting-long, flight-long}
 use Rattle.sheet.specs.Decode.{zeros}
-use Rattle.planner.specs.Call.{chosenPlan, answer, sheetAnswer, sheetPlan, answerOf, plannedBytes, clearedTo, tableAfter, Called, PlanWithinPre, Within, PlanSectionsPre, Planned}
+use Rattle.planner.specs.Call.{chosenPlan, answer, sheetAnswer, sheetPlan, answerOf, plannedBytes, clearedTo, tableAfter, Called, PlanWithinPre, Within}
+use Rattle.planner.specs.Call.{PlanSectionsPre, Planned}
 use Rattle.planner.specs.declared.Answer.{Answer}
 
 -- a cleared table, in the word of the contract
@@ -54,10 +55,12 @@ module _ (s : Sheet) (plan : List ℕ) where
   unfolding sheetAnswer sheetPlan
   impossible e h = record { answer = rw (eq-eqb (s .number) 0 e, h); buffer = rw (eq-eqb (s .number) 0 e, h) (holding-none plan) }
 
-  pub order-impossible : (f : FlightPlan) → (s .number ≡ 0) → flight.Planned (s .flight) f → not (f .possible) ≡ true → Planned s plan plan (answer orderImpossible (s .flight .place) 0)
+  pub order-impossible : (f : FlightPlan) → (s .number ≡ 0) → flight.Planned (s .flight) f → not (f .possible) ≡ true
+      → Planned s plan plan (answer orderImpossible (s .flight .place) 0)
   order-impossible f e p h = impossible e (sym (p .possible) ∙ not-true (f .possible) h)
 
-  accepted : (after : List ℕ) (k : ℕ) → s .number ≡ 0 → isPossible (s .flight) ≡ true → length (planBytes s (chosenPlan s)) ≤ length plan → Written plan after 0 (planBytes s (chosenPlan s)) k
+  accepted : (after : List ℕ) (k : ℕ) → s .number ≡ 0 → isPossible (s .flight) ≡ true → length (planBytes s (chosenPlan s)) ≤ length plan
+      → Written plan after 0 (planBytes s (chosenPlan s)) k
       → Planned s plan after (answer 0 0 k)
   unfolding sheetAnswer sheetPlan
   accepted after k e h l w =
@@ -71,23 +74,28 @@ module _ (s : Sheet) (plan : List ℕ) where
 
 -- What is written is the chosen plan.
 module _ (s : Sheet) (sound : SheetSound s) (possible : isPossible (s .flight) ≡ true) (m : MosaicPlan) (mosaic-planned : mosaic.Planned (s .mosaic) m)
-    (t : SortingPlan) (table after : List ℕ) (sorting-planned : sorting.Planned (s .sorting) table after t) (f : FlightPlan) (flight-planned : flight.Planned (s .flight) f) where
+    (t : SortingPlan) (table after : List ℕ) (sorting-planned : sorting.Planned (s .sorting) table after t) (f : FlightPlan)
+    (flight-planned : flight.Planned (s .flight) f) where
   mosaic-same : mosaicBytes (m .figure) (batchesOf m) ≡ mosaicBytes (mosaicFigure (s .mosaic) (chosenBatches (s .mosaic))) (chosenBatches (s .mosaic))
   mosaic-same = rw (mosaic-figure (s .mosaic) (sound .mosaic), ← mosaic-planned .figure, mosaic-planned .batches)
 
   sorting-same : sortingBytes (t .figure) (jobsOfPlan t) ≡ sortingBytes (sortingFigure (s .sorting) (chosenJobs (s .sorting))) (chosenJobs (s .sorting))
   sorting-same = rw (sorting-figure (s .sorting) (sound .sorting), ← sorting-planned .figure, sorting-planned .jobs)
 
-  flight-same : flightBytes (f .figure) (f .order) (passesOfPlan (s .flight .blocks) f) ≡ flightBytes (flightFigure (s .flight) (chosenPasses (s .flight))) (chosenOrder (s .flight)) (chosenPasses (s .flight))
+  flight-same : flightBytes (f .figure) (f .order) (passesOfPlan (s .flight .blocks) f)
+      ≡ flightBytes (flightFigure (s .flight) (chosenPasses (s .flight))) (chosenOrder (s .flight)) (chosenPasses (s .flight))
   flight-same =
-      ap (λ (x : ℕ). flightBytes x (f .order) (passesOfPlan (s .flight .blocks) f)) (flight-planned .figure ∙ sym (flight-figure (s .flight) (sound .flight) possible))
+      ap (λ (x : ℕ). flightBytes x (f .order) (passesOfPlan (s .flight .blocks) f))
+      (flight-planned .figure ∙ sym (flight-figure (s .flight) (sound .flight) possible))
       ∙ ap (λ (x : ℕ). flightBytes (flightFigure (s .flight) (chosenPasses (s .flight))) x (passesOfPlan (s .flight .blocks) f)) (flight-planned .order)
       ∙ ap (λ (x : List Passes). flightBytes (flightFigure (s .flight) (chosenPasses (s .flight))) (chosenOrder (s .flight)) x) (flight-planned .passes)
 
   plan-same : planOf s m t f ≡ planBytes s (chosenPlan s)
   unfolding planOf planBytes chosenPlan
   plan-same =
-      ap (λ (l : List ℕ). ifPresent (s .mosaic .strips) l ++ ifPresent (stripsInAll (s .sorting)) (sortingBytes (t .figure) (jobsOfPlan t)) ++ ifPresent (s .flight .blocks) (flightBytes (f .figure) (f .order) (passesOfPlan (s .flight .blocks) f))) mosaic-same
+      ap
+      (λ (l : List ℕ). ifPresent (s .mosaic .strips) l ++ ifPresent (stripsInAll (s .sorting)) (sortingBytes (t .figure) (jobsOfPlan t)) ++ ifPresent (s .flight .blocks) (flightBytes (f .figure) (f .order) (passesOfPlan (s .flight .blocks) f)))
+      mosaic-same
       ∙ ap (λ (l : List ℕ). ifPresent (s .mosaic .strips) (mosaicBytes (mosaicFigure (s .mosaic) (chosenBatches (s .mosaic))) (chosenBatches (s .mosaic))) ++ ifPresent (stripsInAll (s .sorting)) l ++ ifPresent (s .flight .blocks) (flightBytes (f .figure) (f .order) (passesOfPlan (s .flight .blocks) f))) sorting-same
       ∙ ap (λ (l : List ℕ). ifPresent (s .mosaic .strips) (mosaicBytes (mosaicFigure (s .mosaic) (chosenBatches (s .mosaic))) (chosenBatches (s .mosaic))) ++ ifPresent (stripsInAll (s .sorting)) (sortingBytes (sortingFigure (s .sorting) (chosenJobs (s .sorting))) (chosenJobs (s .sorting))) ++ ifPresent (s .flight .blocks) l) flight-same
 
@@ -96,8 +104,11 @@ module _ (s : Sheet) (sound : SheetSound s) (possible : isPossible (s .flight) �
   plan-long =
       omega (
         arith,
-        length-append (ifPresent (s .mosaic .strips) (mosaicBytes (m .figure) (batchesOf m)) ++ ifPresent (stripsInAll (s .sorting)) (sortingBytes (t .figure) (jobsOfPlan t))) (ifPresent (s .flight .blocks) (flightBytes (f .figure) (f .order) (passesOfPlan (s .flight .blocks) f))),
-        length-append (ifPresent (s .mosaic .strips) (mosaicBytes (m .figure) (batchesOf m))) (ifPresent (stripsInAll (s .sorting)) (sortingBytes (t .figure) (jobsOfPlan t))),
+        length-append
+            (ifPresent (s .mosaic .strips) (mosaicBytes (m .figure) (batchesOf m)) ++ ifPresent (stripsInAll (s .sorting)) (sortingBytes (t .figure) (jobsOfPlan t)))
+            (ifPresent (s .flight .blocks) (flightBytes (f .figure) (f .order) (passesOfPlan (s .flight .blocks) f))),
+        length-append (ifPresent (s .mosaic .strips) (mosaicBytes (m .figure) (batchesOf m)))
+            (ifPresent (stripsInAll (s .sorting)) (sortingBytes (t .figure) (jobsOfPlan t))),
         mosaic-long (s .mosaic .strips) m,
         sorting-long (stripsInAll (s .sorting)) t,
         flight-long (s .flight .blocks) f,
@@ -117,7 +128,8 @@ module _ (s : Sheet) (plan table : List ℕ) (pre : PlanSectionsPre s plan table
   pub plan-sorting-pre : sorting.PlanSortingPre (s .sorting) table
   plan-sorting-pre = record { sound = pre .sound e .sorting; size = pre .size }
 
-  module _ (m : MosaicPlan) (mosaic-planned : mosaic.Planned (s .mosaic) m) (t : SortingPlan) (tableEnd : List ℕ) (sorting-planned : sorting.Planned (s .sorting) table tableEnd t) where
+  module _ (m : MosaicPlan) (mosaic-planned : mosaic.Planned (s .mosaic) m) (t : SortingPlan) (tableEnd : List ℕ)
+      (sorting-planned : sorting.Planned (s .sorting) table tableEnd t) where
     pub write-plan-pre : writer.PlanAsked plan s m t
     write-plan-pre =
         record {
@@ -128,7 +140,8 @@ module _ (s : Sheet) (plan table : List ℕ) (pre : PlanSectionsPre s plan table
           sorting = pre .sound e .sorting;
         }
 
-    pub sheet-planned : (f : FlightPlan) → flight.Planned (s .flight) f → not (f .possible) ≡ false → (after : List ℕ) (k : ℕ) → Written plan after 0 (planOf s m t f) k → Planned s plan after (answer 0 0 k)
+    pub sheet-planned : (f : FlightPlan) → flight.Planned (s .flight) f → not (f .possible) ≡ false → (after : List ℕ) (k : ℕ)
+        → Written plan after 0 (planOf s m t f) k → Planned s plan after (answer 0 0 k)
     sheet-planned f flight-planned h after k w =
         accepted s plan after k e possible
         (rw (← same) (omega (arith, pre .room, plan-long s (pre .sound e) possible m mosaic-planned t table tableEnd sorting-planned f flight-planned)))
@@ -145,10 +158,16 @@ pub plan-sections-pre : (sheet plan table : List ℕ) (s : Sheet) → PlanWithin
 plan-sections-pre sheet plan table s pre e =
     record { sound = λ z. rw e (read-sound sheet (ap (λ (x : Sheet). x .number) (sym e) ∙ z)); room = pre .room; size = pre .size }
 
-pub call-within : (sheet plan after table used cleared : List ℕ) (s : Sheet) (r : Answer) → PlanWithinPre plan table → s ≡ readSheet sheet → Planned s plan after r → length used ≡ length table → cleared ≡ replicate (length used) 0
+pub call-within : (sheet plan after table used cleared : List ℕ) (s : Sheet) (r : Answer) → PlanWithinPre plan table → s ≡ readSheet sheet
+    → Planned s plan after r → length used ≡ length table → cleared ≡ replicate (length used) 0
     → Within sheet plan after cleared r
 call-within sheet plan after table used cleared s r pre e p l z =
-    record { answer = p .answer ∙ ap sheetAnswer e; buffer = p .buffer ∙ ap (λ (x : Sheet). holding (sheetPlan x) plan) e; table = zeros-are (length used) cleared z ∙ ap zeros (l ∙ pre .size) }
+    record {
+      answer = p .answer ∙ ap sheetAnswer e;
+      buffer = p .buffer ∙ ap (λ (x : Sheet). holding (sheetPlan x) plan) e;
+      table = zeros-are (length used) cleared z ∙ ap zeros
+          (l ∙ pre .size);
+    }
 
 -- A whole call.
 module _ (sheet plan table : List ℕ) where
@@ -158,7 +177,8 @@ module _ (sheet plan table : List ℕ) where
 
   pub no-room : tableLength ≤ length table → length plan < planLength → Called sheet plan table plan table (answer bufferTooSmall 0 0)
   unfolding answerOf plannedBytes tableAfter
-  no-room h k = record { answer = rw (le-ltb _ _ h, lt-ltb _ _ k); buffer = rw (le-ltb _ _ h, lt-ltb _ _ k) (holding-none plan); table = rw (le-ltb _ _ h, lt-ltb _ _ k) }
+  no-room h k =
+      record { answer = rw (le-ltb _ _ h, lt-ltb _ _ k); buffer = rw (le-ltb _ _ h, lt-ltb _ _ k) (holding-none plan); table = rw (le-ltb _ _ h, lt-ltb _ _ k) }
 
   module _ (h : tableLength ≤ length table) (k : planLength ≤ length plan) where
     pub part-long : tableLength ≡ length (take tableLength table)

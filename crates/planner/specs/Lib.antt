@@ -5,3 +5,4 @@ pub mod Outcomes
 pub mod Theorems
 pub mod TurnedBack
 pub mod Laws
+pub mod Computes

@@ -46,19 +46,24 @@ pub data Outcome (sheet plan table planAfter tableEnd : List ℕ) (r : Answer) :
       → Outcome sheet plan table planAfter tableEnd r
 
 module _ (sheet plan table planAfter tableEnd : List ℕ) (r : Answer) (call : Called sheet plan table planAfter tableEnd r) where
-  way : (b₁ b₂ b₃ b₄ : Bool) → ltb (length table) tableLength ≡ b₁ → ltb (length plan) planLength ≡ b₂ → eqb (readSheet sheet .number) 0 ≡ b₃ → isPossible (readSheet sheet .flight) ≡ b₄
+  way : (b₁ b₂ b₃ b₄ : Bool) → ltb (length table) tableLength ≡ b₁ → ltb (length plan) planLength ≡ b₂ → eqb (readSheet sheet .number) 0 ≡ b₃
+      → isPossible (readSheet sheet .flight) ≡ b₄
       → Outcome sheet plan table planAfter tableEnd r
   unfolding answerOf plannedBytes tableAfter sheetAnswer sheetPlan ourBytes
   way true b₂ b₃ b₄ e₁ e₂ e₃ e₄ =
       Outcome.table-small (ltb-true _ _ e₁) (rw e₁ at (call .answer)) ((rw e₁ at (call .buffer)) ∙ sym (holding-none plan)) (rw e₁ at (call .table))
   way false true b₃ b₄ e₁ e₂ e₃ e₄ =
-      Outcome.buffer-small (ltb-false _ _ e₁) (ltb-true _ _ e₂) (rw (e₁, e₂) at (call .answer)) ((rw (e₁, e₂) at (call .buffer)) ∙ sym (holding-none plan)) (rw (e₁, e₂) at (call .table))
+      Outcome.buffer-small (ltb-false _ _ e₁) (ltb-true _ _ e₂) (rw (e₁, e₂) at (call .answer)) ((rw (e₁, e₂) at (call .buffer)) ∙ sym (holding-none plan))
+      (rw (e₁, e₂) at (call .table))
   way false false false b₄ e₁ e₂ e₃ e₄ =
-      Outcome.refused (record { plan-large = ltb-false _ _ e₂; table-large = ltb-false _ _ e₁ }) (eqb-false _ _ e₃) (rw (e₁, e₂, e₃) at (call .answer)) ((rw (e₁, e₂, e₃) at (call .buffer)) ∙ sym (holding-none plan)) (rw (e₁, e₂) at (call .table))
+      Outcome.refused (record { plan-large = ltb-false _ _ e₂; table-large = ltb-false _ _ e₁ }) (eqb-false _ _ e₃) (rw (e₁, e₂, e₃) at (call .answer))
+      ((rw (e₁, e₂, e₃) at (call .buffer)) ∙ sym (holding-none plan)) (rw (e₁, e₂) at (call .table))
   way false false true false e₁ e₂ e₃ e₄ =
-      Outcome.impossible (record { plan-large = ltb-false _ _ e₂; table-large = ltb-false _ _ e₁ }) (eqb-true _ _ e₃) e₄ (rw (e₁, e₂, e₃, e₄) at (call .answer)) ((rw (e₁, e₂, e₃, e₄) at (call .buffer)) ∙ sym (holding-none plan)) (rw (e₁, e₂) at (call .table))
+      Outcome.impossible (record { plan-large = ltb-false _ _ e₂; table-large = ltb-false _ _ e₁ }) (eqb-true _ _ e₃) e₄ (rw (e₁, e₂, e₃, e₄) at (call .answer))
+      ((rw (e₁, e₂, e₃, e₄) at (call .buffer)) ∙ sym (holding-none plan)) (rw (e₁, e₂) at (call .table))
   way false false true true e₁ e₂ e₃ e₄ =
-      Outcome.accepted (record { plan-large = ltb-false _ _ e₂; table-large = ltb-false _ _ e₁ }) (eqb-true _ _ e₃) e₄ (rw (e₁, e₂, e₃, e₄) at (call .answer)) (rw (e₁, e₂, e₃, e₄) at (call .buffer)) (rw (e₁, e₂) at (call .table))
+      Outcome.accepted (record { plan-large = ltb-false _ _ e₂; table-large = ltb-false _ _ e₁ }) (eqb-true _ _ e₃) e₄ (rw (e₁, e₂, e₃, e₄) at (call .answer))
+      (rw (e₁, e₂, e₃, e₄) at (call .buffer)) (rw (e₁, e₂) at (call .table))
 
   pub call-outcome : Outcome sheet plan table planAfter tableEnd r
   call-outcome = way _ _ _ _ refl refl refl refl
@@ -77,7 +82,8 @@ pub record Accepted (sheet plan table planAfter : List ℕ) (r : Answer) : Type 
   pub long : length (written r planAfter) ≡ r .length
   pub behind : drop (r .length) planAfter ≡ drop (r .length) plan
 
-held : (bytes plan planAfter : List ℕ) (n : ℕ) → n ≡ length bytes → planAfter ≡ holding bytes plan → (take n planAfter ≡ bytes) × (drop n planAfter ≡ drop n plan)
+held : (bytes plan planAfter : List ℕ) (n : ℕ) → n ≡ length bytes → planAfter ≡ holding bytes plan
+    → (take n planAfter ≡ bytes) × (drop n planAfter ≡ drop n plan)
 unfolding holding
 held bytes plan planAfter n e h = rw (e, h) (take-append-seam bytes (drop (length bytes) plan), drop-append-seam bytes (drop (length bytes) plan))
 

@@ -48,7 +48,8 @@ module _ (sheet : List ℕ) (sound : readSheet sheet .number ≡ 0) where
   whole = read-sound sheet sound
 
   -- The flight is called impossible exactly where an order is given and no timetable keeps it ..
-  pub impossible-exactly : (isPossible (readSheet sheet .flight) ≡ false → Impossible (readSheet sheet)) × (Impossible (readSheet sheet) → isPossible (readSheet sheet .flight) ≡ false)
+  pub impossible-exactly : (isPossible (readSheet sheet .flight) ≡ false → Impossible (readSheet sheet))
+      × (Impossible (readSheet sheet) → isPossible (readSheet sheet .flight) ≡ false)
   impossible-exactly = (
     λ e. record { given = given e _ refl; none = λ ps law keeps. flight-impossible (readSheet sheet .flight) (whole .flight) .0 e (readSheet sheet .flight .order) ps law keeps (as-given (given e _ refl)) },
     λ none. flight-impossible (readSheet sheet .flight) (whole .flight) .1 (λ w ps law keeps allowed. none .none ps law (subst (λ (v : ℕ). Keeps (readSheet sheet .flight) v ps) (allowed .as-given (none .given)) keeps)),
@@ -112,7 +113,8 @@ module _ (sheet q : List ℕ) (a : AllowedFor sheet q) where
       mosaic-earliest (readSheet sheet .mosaic) (whole sheet (a .sound) .mosaic) (a .allowed .plan .batches) (a .allowed .lawful .mosaic) same i l
 
   -- .. or our scanner order ..
-  pub plan-early-sorting : ((i : ℕ) → i < length (a .allowed .plan .jobs) → jobAt (a .allowed .plan .jobs) i .desk ≡ jobAt (chosenPlan (readSheet sheet) .jobs) i .desk)
+  pub plan-early-sorting :
+      ((i : ℕ) → i < length (a .allowed .plan .jobs) → jobAt (a .allowed .plan .jobs) i .desk ≡ jobAt (chosenPlan (readSheet sheet) .jobs) i .desk)
       → (i : ℕ) → i < length (a .allowed .plan .jobs)
       → (jobAt (chosenPlan (readSheet sheet) .jobs) i .scan ≤ jobAt (a .allowed .plan .jobs) i .scan)
       × (jobAt (chosenPlan (readSheet sheet) .jobs) i .start ≤ jobAt (a .allowed .plan .jobs) i .start)

@@ -37,11 +37,13 @@ module _ (sheet plan table planAfter tableEnd : List ℕ) (r : Answer) (call : C
   pub turned-back : (number place : ℕ) → TurnedBack sheet plan table number place → r ≡ answer number place 0
   unfolding answerOf sheetAnswer refused
   turned-back number place (TurnedBack.table-small l en ep) = rw (en, ep) (rw (lt-ltb (length table) tableLength l) at (call .answer))
-  turned-back number place (TurnedBack.buffer-small l m en ep) = rw (en, ep) (rw (le-ltb (length table) tableLength l, lt-ltb (length plan) planLength m) at (call .answer))
+  turned-back number place (TurnedBack.buffer-small l m en ep) =
+      rw (en, ep) (rw (le-ltb (length table) tableLength l, lt-ltb (length plan) planLength m) at (call .answer))
   turned-back number place (TurnedBack.in-sheet l f) =
       let e : readSheet sheet ≡ refused number place = refused-is sheet number place f in
       by-sheet l ∙ rw (e, ne-eqb number 0 (some-number sheet number place f))
-  turned-back number place (TurnedBack.impossible l sound none en ep) = by-sheet l ∙ rw (eq-eqb (readSheet sheet .number) 0 sound, impossible-exactly sheet sound .1 none, en, ep)
+  turned-back number place (TurnedBack.impossible l sound none en ep) =
+      by-sheet l ∙ rw (eq-eqb (readSheet sheet .number) 0 sound, impossible-exactly sheet sound .1 none, en, ep)
 
   -- .. and it is turned back only where its cause lies.
   pub turned-back-only : (r .number ≡ 0 → ⊥) → TurnedBack sheet plan table (r .number) (r .place)

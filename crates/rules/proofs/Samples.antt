@@ -1,5 +1,6 @@
 -- A test of the rules by samples: timetables with idle time that are lawful, with their figures, and timetables that a rule refuses, one for each rule.
--- Each is tested by computing, and a test that holds says the sample in the words of the rules (tested). The sheets that 01 works through are crate worked_sheets.
+-- Each is tested by computing, and a test that holds says the sample in the words of the rules (tested). The sheets that 01 works through are crate
+-- worked_sheets.
 use Prim.{Unit, tt}
 use Prim.Native.Nat.{ℕ, _-_}
 use mathlib.Core.Path.{_≡_, refl, sym}
@@ -9,16 +10,16 @@ use lib.ListN.{length, replicate}
 use lib.Dec.{eqb}
 use borrow.Author.Tests.{eqb-true}
 use Rattle.base.specs.Branch.{both}
-use Rattle.order.specs.Order.{seconds, firsts, neverMoreSeconds, isProper, Decides}
-use Rattle.order.specs.Passes.{passAt, timeOf}
+use Rattle.order.specs.Order.{Decides}
 use Rattle.sheet.specs.declared.MosaicSection.{MosaicSection}
 use Rattle.sheet.specs.declared.SortingSection.{SortingSection}
 use Rattle.sheet.specs.declared.FlightSection.{FlightSection}
-use Rattle.base.specs.Sums.{sumOver, greatestOver}
-use Rattle.rules.specs.Mosaic.{stationSum, ready, benchSum, noBatch, batchAt, batchBefore, finishDue, MosaicLawful, completion, mosaicFigure}
-use Rattle.rules.specs.Sorting.{stripsOf, slot, scanTime, deskTime, scanEnd, deskFinish, noJob, jobAt, jobsOf, SortingLawful, sortingFigure}
-use Rattle.rules.specs.Flight.{noPasses, passesAt, passStart, passTime, passEnd, secondDue, clearAt, FlightLawful, Keeps, OrderAllowed, flightFigure}
-use Rattle.rules.proofs.Tests.{allBelow, batchTest, batchesTest, isMosaic, mosaic-decided, jobTest, turnTest, jobsTest, isSorting, sorting-decided, blockTest, clearTest, apartTest, isFlight, flight-decided, startTest, keepsOrder, keeps-decided, mayHaveOrder, order-decided}
+use Rattle.rules.specs.Mosaic.{ready, MosaicLawful, mosaicFigure}
+use Rattle.rules.specs.Sorting.{SortingLawful, sortingFigure}
+use Rattle.rules.specs.Flight.{FlightLawful, Keeps, OrderAllowed, flightFigure}
+use Rattle.rules.proofs.Computes.{rulesCompute}
+use Rattle.rules.proofs.Tests.{isMosaic, mosaic-decided, isSorting, sorting-decided, isFlight, flight-decided, keepsOrder, keeps-decided, mayHaveOrder}
+use Rattle.rules.proofs.Tests.{order-decided}
 use Rattle.rules.specs.declared.Batch.{Batch}
 use Rattle.rules.specs.declared.Job.{Job}
 use Rattle.rules.specs.declared.Passes.{Passes}
@@ -170,7 +171,7 @@ allTested (c ∷ cs) = test (c .timetable) (c .outcome) && allTested cs
 
 -- all of them, computed
 samples-tested : allTested samples ≡ true
-unfolding samples allTested test isLawful figureOf sumOver greatestOver stationSum ready benchSum noBatch batchAt batchBefore finishDue completion mosaicFigure stripsOf slot scanTime deskTime scanEnd deskFinish noJob jobAt jobsOf sortingFigure noPasses passesAt passStart passTime timeOf passEnd secondDue clearAt passAt flightFigure allBelow batchTest batchesTest isMosaic jobTest turnTest jobsTest isSorting blockTest clearTest apartTest isFlight startTest keepsOrder mayHaveOrder seconds firsts neverMoreSeconds isProper
+unfolding samples allTested test isLawful figureOf rulesCompute
 samples-tested = refl
 
 -- Each sample of a list, said of all.

@@ -1,4 +1,5 @@
--- The rules as tests that can be computed, by index as the rules are: each test says whether the timetable is lawful (mosaic-decided, sorting-decided, flight-decided).
+-- The rules as tests that can be computed, by index as the rules are: each test says whether the timetable is lawful (mosaic-decided, sorting-decided,
+-- flight-decided).
 use Prim.Native.Nat.{ℕ, zero, suc, _+_, _-_, _*_, _≤_, _<_}
 use mathlib.Core.Path.{_≡_, refl, sym, ap, subst, _∙_}
 use mathlib.Core.Bool.{Bool, true, false, not, _&&_, _||_, true≢false}
@@ -170,7 +171,11 @@ module _ (s : SortingSection) (js : List Job) where
   unfolding jobsTest
   jobs-tested a b e =
       let w = both _ _ e in
-      record { one-scan = leb-true _ _ (w .0); one-job = λ q. leb-true _ _ (apply (eqb (a .desk) (b .desk)) (leb (deskFinish s a) (b .start)) (w .1) (eq-eqb _ _ q)) }
+      record {
+        one-scan = leb-true _ _ (w .0);
+        one-job = λ q. leb-true _ _
+            (apply (eqb (a .desk) (b .desk)) (leb (deskFinish s a) (b .start)) (w .1) (eq-eqb _ _ q));
+      }
 
   strips-at : (desk : ℕ) → 1 ≤ desk → jobsOf js (desk - 1 + 1) (length js) ≡ stripsOf s (desk - 1 + 1) → jobsOf js desk (length js) ≡ stripsOf s desk
   strips-at desk p e = subst (λ (d : ℕ). jobsOf js d (length js) ≡ stripsOf s d) (omega arith) e
@@ -186,7 +191,8 @@ module _ (s : SortingSection) (js : List Job) where
       record {
         each = λ i l. job-true s (jobAt js i) (all-true (length js) (λ i. jobTest s (jobAt js i)) (w .0) i l);
         in-turn = λ i l. eqb-true _ _ (all-true (length js) (turnTest js) (u .0) i l);
-        all-strips = λ desk p q. strips-at desk p (eqb-true _ _ (all-true (s .desks) (λ d. eqb (jobsOf js (d + 1) (length js)) (stripsOf s (d + 1))) (v .0) (desk - 1) (omega arith)));
+        all-strips =
+            λ desk p q. strips-at desk p (eqb-true _ _ (all-true (s .desks) (λ d. eqb (jobsOf js (d + 1) (length js)) (stripsOf s (d + 1))) (v .0) (desk - 1) (omega arith)));
         one-scan = λ i k h l. pair i k h l .one-scan;
         one-job = λ i k h l q. pair i k h l .one-job q;
       }
@@ -261,7 +267,8 @@ module _ (f : FlightSection) (ps : List Passes) where
       record {
         every-block = eqb-true _ _ (a .0);
         delay-kept = λ i l. record { exact = eqb-true _ _ (all-true (f .blocks) (blockTest f ps) (b .0) i l) };
-        apart = λ p q lp lq ne. apart-true p q (all-true (2 * f .blocks) (apartTest f ps p) (all-true (2 * f .blocks) (λ p. allBelow (2 * f .blocks) (apartTest f ps p)) (c .0) p lp) q lq) ne;
+        apart =
+            λ p q lp lq ne. apart-true p q (all-true (2 * f .blocks) (apartTest f ps p) (all-true (2 * f .blocks) (λ p. allBelow (2 * f .blocks) (apartTest f ps p)) (c .0) p lp) q lq) ne;
         within = λ p l. leb-true _ _ (all-true (2 * f .blocks) (λ p. leb (passEnd f ps p) ceiling) (c .1) p l);
       }
 
@@ -281,7 +288,8 @@ module _ (f : FlightSection) (ps : List Passes) where
   module _ (order : ℕ) where
     keeps-true : keepsOrder f order ps ≡ true → Keeps f order ps
     unfolding keepsOrder startTest
-    keeps-true e = record { by-start = λ j k h l. ltb-true _ _ (all-true k (startTest f order ps k) (all-true _ (λ k. allBelow k (startTest f order ps k)) e k l) j h) }
+    keeps-true e =
+        record { by-start = λ j k h l. ltb-true _ _ (all-true k (startTest f order ps k) (all-true _ (λ k. allBelow k (startTest f order ps k)) e k l) j h) }
 
     true-keeps : Keeps f order ps → keepsOrder f order ps ≡ true
     unfolding keepsOrder startTest

@@ -5,7 +5,7 @@ use mathlib.Core.Bool.{cond}
 use mathlib.Core.List.{List, [], _∷_}
 use lib.ListN.{length, getD}
 use lib.Dec.{leb}
-use Rattle.sheet.specs.Limits.{ceiling}
+use Rattle.sheet.specs.Limits.{mostTime, ceiling}
 use Rattle.sheet.specs.declared.MosaicSection.{MosaicSection}
 use Rattle.base.specs.Sums.{sumOver, greatestOver}
 use Rattle.rules.specs.declared.Batch.{Batch}
@@ -34,9 +34,16 @@ unfoldable pub batchBefore : List Batch → ℕ → Batch
 batchBefore bs zero = noBatch
 batchBefore bs (suc i) = batchAt bs i
 
+-- what a batch takes at the bench beside its strips' bench times: the mount time s (in the literature: setup time)
+unfoldable pub setupTime : MosaicSection → ℕ
+setupTime m = m .mount
+
+abbrev pub mostSetup : ℕ
+mostSetup = mostTime
+
 -- "Finish = start + s + the batch's bench times": its strips are those after the last strip of the batch before, up to its own last strip
 unfoldable pub finishDue : MosaicSection → Batch → Batch → ℕ
-finishDue m before b = b .start + m .mount + benchSum m (before .last) (b .last - before .last)
+finishDue m before b = b .start + setupTime m + benchSum m (before .last) (b .last - before .last)
 
 -- what the rules ask of a batch and the batch before it
 pub record BatchLawful (m : MosaicSection) (before b : Batch) : Type 0 where

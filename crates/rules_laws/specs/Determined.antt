@@ -66,7 +66,8 @@ module _ (s : Sheet) (sound : SheetSound s) where
   -- how each section of a lawful plan is read from its bytes
   module _ (p : Plan) (L : PlanLawful s p) where
     pub plan-length : length (planBytes s p) ≡ length (mosaicOf s p) + length (sortingOf s p) + length (flightOf s p)
-    plan-length = omega (arith, ap length (plan-is s p), length-append (mosaicOf s p ++ sortingOf s p) (flightOf s p), length-append (mosaicOf s p) (sortingOf s p))
+    plan-length =
+        omega (arith, ap length (plan-is s p), length-append (mosaicOf s p ++ sortingOf s p) (flightOf s p), length-append (mosaicOf s p) (sortingOf s p))
 
     -- a lawful plan has room in a buffer of 1,095 bytes
     pub plan-most : length (planBytes s p) ≤ planLength
@@ -104,7 +105,9 @@ module _ (s : Sheet) (sound : SheetSound s) where
         (length-flight (flightFigure (s .flight) (p .passes)) (p .order) (p .passes) ∙ ap (λ (k : ℕ). sizeOf flightHeadForm + sizeOf passesForm * k) (L .flight .every-block))
 
     pub mosaic-size : 0 < s .mosaic .strips → length (mosaicOf s p) ≡ sizeOf mosaicHeadForm + sizeOf batchForm * length (p .batches)
-    mosaic-size h = ap length (present-some (s .mosaic .strips) (mosaicBytes (mosaicFigure (s .mosaic) (p .batches)) (p .batches)) h) ∙ length-mosaic (mosaicFigure (s .mosaic) (p .batches)) (p .batches)
+    mosaic-size h =
+        ap length (present-some (s .mosaic .strips) (mosaicBytes (mosaicFigure (s .mosaic) (p .batches)) (p .batches)) h)
+        ∙ length-mosaic (mosaicFigure (s .mosaic) (p .batches)) (p .batches)
 
     pub batches-read : 0 < s .mosaic .strips → batchesFrom (planBytes s p) (sizeOf mosaicHeadForm) (length (p .batches)) ≡ p .batches
     batches-read h =
@@ -119,13 +122,15 @@ module _ (s : Sheet) (sound : SheetSound s) where
         (plan-is s p ∙ ap (λ (l : List ℕ). mosaicOf s p ++ l ++ flightOf s p) (present-some (stripsInAll (s .sorting)) (sortingBytes (sortingFigure (s .sorting) (p .jobs)) (p .jobs)) h))
         ∙ sorting-back (sortingFigure (s .sorting) (p .jobs)) (p .jobs) (mosaicOf s p) (flightOf s p) (job-fits (s .sorting) (p .jobs) (sound .sorting) (L .sorting))
 
-    flight-last : 0 < s .flight .blocks → planBytes s p ≡ mosaicOf s p ++ sortingOf s p ++ flightBytes (flightFigure (s .flight) (p .passes)) (p .order) (p .passes) ++ []
+    flight-last : 0 < s .flight .blocks
+        → planBytes s p ≡ mosaicOf s p ++ sortingOf s p ++ flightBytes (flightFigure (s .flight) (p .passes)) (p .order) (p .passes) ++ []
     flight-last h =
         plan-is s p
         ∙ ap (λ (l : List ℕ). mosaicOf s p ++ sortingOf s p ++ l) (present-some (s .flight .blocks) (flightBytes (flightFigure (s .flight) (p .passes)) (p .order) (p .passes)) h)
         ∙ sym (append-nil (mosaicOf s p ++ sortingOf s p ++ flightBytes (flightFigure (s .flight) (p .passes)) (p .order) (p .passes)))
 
-    pub passes-read : 0 < s .flight .blocks → blocksFrom (planBytes s p) (length (mosaicOf s p ++ sortingOf s p) + sizeOf flightHeadForm) (length (p .passes)) ≡ p .passes
+    pub passes-read : 0 < s .flight .blocks
+        → blocksFrom (planBytes s p) (length (mosaicOf s p ++ sortingOf s p) + sizeOf flightHeadForm) (length (p .passes)) ≡ p .passes
     passes-read h =
         ap (λ (l : List ℕ). blocksFrom l (length (mosaicOf s p ++ sortingOf s p) + sizeOf flightHeadForm) (length (p .passes))) (flight-last h)
         ∙ flight-back (flightFigure (s .flight) (p .passes)) (p .order) (p .passes) (mosaicOf s p ++ sortingOf s p) [] (passes-fits (s .flight) (p .passes) (sound .flight) (L .flight))

@@ -2,9 +2,14 @@
 use mathlib.Core.Path.{_≡_}
 use Prim.Native.Nat.{ℕ, _+_, _-_, _≤_}
 use native.Mathlib.Omega.{arith}
+use Rattle.sheet.specs.Sound.{MosaicSound}
 use Rattle.sheet.specs.declared.MosaicSection.{MosaicSection}
-use Rattle.rules.specs.Mosaic.{benchSum, finishDue}
+use Rattle.rules.specs.Mosaic.{benchSum, setupTime, mostSetup, finishDue}
 use Rattle.rules.specs.declared.Batch.{Batch}
+
+pub setup-most : (m : MosaicSection) → MosaicSound m → setupTime m ≤ mostSetup
+unfolding setupTime
+setup-most m sound = sound .most-mount
 
 pub finish-worked : (m : MosaicSection) (before b : Batch) → b .start + benchSum m (before .last) (b .last - before .last) ≤ finishDue m before b
 unfolding finishDue

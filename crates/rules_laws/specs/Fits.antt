@@ -65,7 +65,8 @@ module _ (m : MosaicSection) (bs : List Batch) (sound : MosaicSound m) (L : Mosa
   running-some : (before : Batch) (cs : List Batch) → MosaicRuns m before cs → before .last < m .strips → 1 ≤ runningFigure before cs
   unfolding runningFigure
   running-some before [] (none e) h = absurd (omega arith)
-  running-some before (b ∷ cs) (more f r) h = omega (arith, product-some (b .last - before .last) (b .finish) (omega (arith, f .lawful .rises)) (finish-some before b f))
+  running-some before (b ∷ cs) (more f r) h =
+      omega (arith, product-some (b .last - before .last) (b .finish) (omega (arith, f .lawful .rises)) (finish-some before b f))
 
   pub mosaic-figure-least : 0 < m .strips → 1 ≤ mosaicFigure m bs
   unfolding noBatch
@@ -164,7 +165,13 @@ module _ (s : SortingSection) (js : List Job) (sound : SortingSound s) (L : Sort
   job-scan i l = omega (arith, L .each i l .after-scan, job-start i l)
 
   pub job-fits : (i : ℕ) → i < length js → JobFits (jobAt js i)
-  job-fits i l = record { desk = omega (arith, job-desk i l); number = omega (arith, job-number i l); scan = omega (arith, job-scan i l); start = omega (arith, job-start i l) }
+  job-fits i l =
+      record {
+        desk = omega (arith, job-desk i l);
+        number = omega (arith, job-number i l);
+        scan = omega (arith, job-scan i l);
+        start = omega (arith, job-start i l);
+      }
 
   pub sorting-head-fits : EachFits (sortingHeadForm .widths) (sortingFigure s js ∷ [])
   sorting-head-fits =

@@ -121,7 +121,8 @@ module _ (f : FlightSection) (ps : List Passes) where
         → Clear f ps (passAt (f .blocks) w j) (passAt (f .blocks) w k) ⊎ Clear f ps (passAt (f .blocks) w k) (passAt (f .blocks) w j)
     apart-at j k lj lk ne = go (decLt j k) (ℕ-discrete j k)
       where
-        go : Dec (j < k) → Dec (j ≡ k) → Clear f ps (passAt (f .blocks) w j) (passAt (f .blocks) w k) ⊎ Clear f ps (passAt (f .blocks) w k) (passAt (f .blocks) w j)
+        go : Dec (j < k) → Dec (j ≡ k)
+            → Clear f ps (passAt (f .blocks) w j) (passAt (f .blocks) w k) ⊎ Clear f ps (passAt (f .blocks) w k) (passAt (f .blocks) w j)
         go (yes h) e = inl (before-later j k h lk)
         go (no h) (yes e) = absurd (ne (ap (passAt (f .blocks) w) e))
         go (no h) (no e) = inr (before-later k j (omega arith) lj)
@@ -135,7 +136,8 @@ module _ (f : FlightSection) (ps : List Passes) where
 
     pub order-kept : FlightSound f → Keeps f w ps
     order-kept sound = record {
-      by-start = λ j k h l. omega (arith, before-later j k h l, clear-end (passAt (f .blocks) w j), end-is (passAt (f .blocks) w j), time-some f sound (passAt (f .blocks) w j) (pass-known proper j (omega arith)));
+      by-start =
+          λ j k h l. omega (arith, before-later j k h l, clear-end (passAt (f .blocks) w j), end-is (passAt (f .blocks) w j), time-some f sound (passAt (f .blocks) w j) (pass-known proper j (omega arith)));
     }
 
   -- From the run to the rules.

@@ -42,9 +42,11 @@ module _ {A : Type 0} (kind : Kind A) where
       ∙ ap (kind .back) (form-back (kind .form) (kind .values x) pre post (kind .each x h))
       ∙ kind .back-values x
 
-  member-found : (pre : List ℕ) (x : A) (post : List ℕ) → fieldAt (pre ++ (kind .bytes x ++ post)) (length pre) ≡ Whole (kind .form .tag) (contentLength (kind .form))
+  member-found : (pre : List ℕ) (x : A) (post : List ℕ)
+      → fieldAt (pre ++ (kind .bytes x ++ post)) (length pre) ≡ Whole (kind .form .tag) (contentLength (kind .form))
   member-found pre x post =
-      ap (λ (l : List ℕ). fieldAt (pre ++ (l ++ post)) (length pre)) (kind .is-written x) ∙ form-found (kind .form) (kind .values x) pre post (kind .count x) (kind .small)
+      ap (λ (l : List ℕ). fieldAt (pre ++ (l ++ post)) (length pre)) (kind .is-written x)
+      ∙ form-found (kind .form) (kind .values x) pre post (kind .count x) (kind .small)
 
   member-stands : (s : List ℕ) → AreBytes s → (at : ℕ) → fieldAt s at ≡ Whole (kind .form .tag) (contentLength (kind .form))
       → take (sizeOf (kind .form)) (drop at s) ≡ kind .bytes (kind .read s at)
@@ -90,7 +92,8 @@ module _ {A : Type 0} (kind : Kind A) where
       let here : length pre + sizeOf (kind .form) * 0 ≡ length pre = omega arith in
       ap₂ fieldAt (first-apart pre x (membersBytes (kind .bytes) xs) post) here ∙ member-found pre x (membersBytes (kind .bytes) xs ++ post)
   found-from (x ∷ xs) pre post (suc i) l =
-      let there : length pre + sizeOf (kind .form) * suc i ≡ length (pre ++ kind .bytes x) + sizeOf (kind .form) * i = omega (arith, next-place pre x, mul-suc (sizeOf (kind .form)) i) in
+      let there : length pre + sizeOf (kind .form) * suc i ≡ length (pre ++ kind .bytes x) + sizeOf (kind .form) * i
+      = omega (arith, next-place pre x, mul-suc (sizeOf (kind .form)) i) in
       ap₂ fieldAt (regroup pre x (membersBytes (kind .bytes) xs) post) there ∙ found-from xs (pre ++ kind .bytes x) post i (omega arith)
 
   -- the same of a row that is joined from the left
@@ -102,11 +105,13 @@ module _ {A : Type 0} (kind : Kind A) where
         → membersFrom (kind .read) (sizeOf (kind .form)) (pre ++ membersBytes (kind .bytes) xs ++ post) (length pre) (length xs) ≡ xs
     members-back none h = ap (λ (l : List ℕ). membersFrom (kind .read) (sizeOf (kind .form)) l (length pre) (length xs)) joined ∙ back-from none xs pre post h
 
-    pub members-found : (i : ℕ) → i < length xs → fieldAt (pre ++ membersBytes (kind .bytes) xs ++ post) (length pre + sizeOf (kind .form) * i) ≡ Whole (kind .form .tag) (contentLength (kind .form))
+    pub members-found : (i : ℕ) → i < length xs
+        → fieldAt (pre ++ membersBytes (kind .bytes) xs ++ post) (length pre + sizeOf (kind .form) * i) ≡ Whole (kind .form .tag) (contentLength (kind .form))
     members-found i l = ap (λ (r : List ℕ). fieldAt r (length pre + sizeOf (kind .form) * i)) joined ∙ found-from xs pre post i l
 
   -- members that stand one after another are what is read from there
-  pub members-stand : (s : List ℕ) → AreBytes s → (n at : ℕ) → ((i : ℕ) → i < n → fieldAt s (at + sizeOf (kind .form) * i) ≡ Whole (kind .form .tag) (contentLength (kind .form)))
+  pub members-stand : (s : List ℕ) → AreBytes s → (n at : ℕ)
+      → ((i : ℕ) → i < n → fieldAt s (at + sizeOf (kind .form) * i) ≡ Whole (kind .form .tag) (contentLength (kind .form)))
       → take (sizeOf (kind .form) * n) (drop at s) ≡ membersBytes (kind .bytes) (membersFrom (kind .read) (sizeOf (kind .form)) s at n)
   unfolding membersBytes membersFrom
   members-stand s b zero at h =
@@ -122,5 +127,6 @@ module _ {A : Type 0} (kind : Kind A) where
       (ap (take (sizeOf (kind .form) * n)) (drop-drop (sizeOf (kind .form)) at s)
       ∙ members-stand s b n (at + sizeOf (kind .form)) (λ i l. later i l (h (suc i) (omega arith))))
     where
-      later : (i : ℕ) → i < n → fieldAt s (at + sizeOf (kind .form) * suc i) ≡ Whole (kind .form .tag) (contentLength (kind .form)) → fieldAt s (at + sizeOf (kind .form) + sizeOf (kind .form) * i) ≡ Whole (kind .form .tag) (contentLength (kind .form))
+      later : (i : ℕ) → i < n → fieldAt s (at + sizeOf (kind .form) * suc i) ≡ Whole (kind .form .tag) (contentLength (kind .form))
+          → fieldAt s (at + sizeOf (kind .form) + sizeOf (kind .form) * i) ≡ Whole (kind .form .tag) (contentLength (kind .form))
       later i l e = subst (λ (k : ℕ). fieldAt s k ≡ Whole (kind .form .tag) (contentLength (kind .form))) (omega (arith, mul-suc (sizeOf (kind .form)) i)) e

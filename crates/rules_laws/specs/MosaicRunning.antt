@@ -103,7 +103,8 @@ rest-running : (m : MosaicSection) (before : Batch) (bs : List Batch) → Mosaic
 unfolding runningFigure
 rest-running m before [] (none e) = rest-end m (before .last) [] (omega arith)
 rest-running m before (b ∷ bs) (more f r) =
-    rest-cons m (before .last) b bs (omega (arith, f .lawful .rises)) (f .known) ∙ ap (λ (n : ℕ). (b .last - before .last) * b .finish + n) (rest-running m b bs r)
+    rest-cons m (before .last) b bs (omega (arith, f .lawful .rises)) (f .known)
+    ∙ ap (λ (n : ℕ). (b .last - before .last) * b .finish + n) (rest-running m b bs r)
 
 pub figure-running : (m : MosaicSection) (bs : List Batch) → MosaicRuns m noBatch bs → mosaicFigure m bs ≡ runningFigure noBatch bs
 unfolding noBatch

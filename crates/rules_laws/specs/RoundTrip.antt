@@ -1,6 +1,6 @@
 -- What a plan's bytes say: members and heads that fit their widths are read back from what was written, and what is read is what stands there.
 -- The three kinds of members are given once each, by their values in order; all else follows from their forms (crate plan_format, and Members).
-use mathlib.Core.Path.{_≡_, refl, sym, ap, _∙_}
+use mathlib.Core.Path.{_≡_, refl, ap, _∙_}
 use mathlib.Core.List.{List, [], _∷_, _++_, append-assoc}
 use Prim.Native.Nat.{ℕ}
 use native.Mathlib.Omega.{arith}
@@ -8,13 +8,15 @@ use lib.ListN.{length, getD, take, drop}
 use Rattle.field.specs.Field.{fieldAt}
 use Rattle.field.specs.declared.Field.the-variants.{Whole}
 use Rattle.plan_format.specs.ByteLaws.{AreBytes}
-use Rattle.plan_format.specs.Format.{Form, contentLength, sizeOf, formBytes, valuesFrom, EachFits, mosaicHeadForm, batchForm, sortingHeadForm, jobForm, flightHeadForm, passesForm}
+use Rattle.plan_format.specs.Format.{Form, contentLength, sizeOf, formBytes, valuesFrom, EachFits, mosaicHeadForm, batchForm, sortingHeadForm, jobForm}
+use Rattle.plan_format.specs.Format.{flightHeadForm, passesForm}
 use Rattle.plan_format.specs.FormLaws.{form-back, form-stands}
 use Rattle.rules.specs.Plan.{batchValues, batchBytes, jobValues, jobBytes, passesValues, passesBytes}
 use Rattle.rules.specs.declared.Batch.{Batch}
 use Rattle.rules.specs.declared.Job.{Job}
 use Rattle.rules.specs.declared.Passes.{Passes}
-use Rattle.plan_read.specs.PlanRead.{figureFrom, orderFrom, batchOfValues, batchFrom, jobOfValues, jobFrom, passesOfValues, passesFrom, BatchFits, JobFits, PassesFits}
+use Rattle.plan_read.specs.PlanRead.{figureFrom, orderFrom, batchOfValues, batchFrom, jobOfValues, jobFrom, passesOfValues, passesFrom, BatchFits, JobFits}
+use Rattle.plan_read.specs.PlanRead.{PassesFits}
 use Rattle.plan_read.specs.Laws.{batch-each, job-each, passes-each}
 use Rattle.rules_laws.specs.Members.{Kind}
 

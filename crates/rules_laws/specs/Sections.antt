@@ -9,7 +9,8 @@ use lib.Seq.{take-add, drop-drop}
 use Rattle.field.specs.Field.{fieldAt}
 use Rattle.field.specs.declared.Field.the-variants.{Whole}
 use Rattle.plan_format.specs.ByteLaws.{AreBytes}
-use Rattle.plan_format.specs.Format.{Form, contentLength, sizeOf, formBytes, EachFits, mosaicHeadForm, batchForm, sortingHeadForm, jobForm, flightHeadForm, passesForm}
+use Rattle.plan_format.specs.Format.{Form, contentLength, sizeOf, formBytes, EachFits, mosaicHeadForm, batchForm, sortingHeadForm, jobForm, flightHeadForm}
+use Rattle.plan_format.specs.Format.{passesForm}
 use Rattle.plan_format.specs.FormLaws.{length-form, form-found}
 use Rattle.rules.specs.Mosaic.{noBatch, batchAt}
 use Rattle.rules.specs.Sorting.{noJob, jobAt}
@@ -20,7 +21,8 @@ use Rattle.rules.specs.declared.Job.{Job}
 use Rattle.rules.specs.declared.Passes.{Passes}
 use Rattle.plan_read.specs.PlanRead.{figureFrom, orderFrom, batchesFrom, jobsFrom, blocksFrom, membersFrom, BatchFits, JobFits, PassesFits}
 use Rattle.rules_laws.specs.Members.{Kind, length-members, members-back, members-found, members-stand}
-use Rattle.rules_laws.specs.RoundTrip.{batchKind, jobKind, passesKind, figure-back, order-back, mosaic-head-stands, sorting-head-stands, flight-head-stands}
+use Rattle.rules_laws.specs.RoundTrip.{batchKind, jobKind, passesKind, figure-back, order-back, mosaic-head-stands, sorting-head-stands}
+use Rattle.rules_laws.specs.RoundTrip.{flight-head-stands}
 
 -- a head of a form stands at an offset, and n members of a form behind it
 pub record SectionFound (head member : Form) (plan : List ℕ) (at n : ℕ) : Type 0 where
@@ -36,7 +38,8 @@ module _ {A : Type 0} (kind : Kind A) (head : Form) (values : List ℕ) (count :
     head-apart = ap (λ (l : List ℕ). l ++ post) (sym (append-assoc pre (formBytes head values) (membersBytes (kind .bytes) xs)))
 
     -- the head, and all that stands behind it
-    pub head-first : pre ++ (formBytes head values ++ membersBytes (kind .bytes) xs) ++ post ≡ pre ++ formBytes head values ++ (membersBytes (kind .bytes) xs ++ post)
+    pub head-first : pre ++ (formBytes head values ++ membersBytes (kind .bytes) xs) ++ post
+        ≡ pre ++ formBytes head values ++ (membersBytes (kind .bytes) xs ++ post)
     head-first = head-apart ∙ append-assoc (pre ++ formBytes head values) (membersBytes (kind .bytes) xs) post
 
     behind-head : length (pre ++ formBytes head values) ≡ length pre + sizeOf head
@@ -45,12 +48,17 @@ module _ {A : Type 0} (kind : Kind A) (head : Form) (values : List ℕ) (count :
     pub section-found : contentLength head < 2 ^ 16
         → SectionFound head (kind .form) (pre ++ (formBytes head values ++ membersBytes (kind .bytes) xs) ++ post) (length pre) (length xs)
     section-found small = record {
-      head-there = ap (λ (l : List ℕ). fieldAt l (length pre)) (head-first ∙ append-assoc pre (formBytes head values) (membersBytes (kind .bytes) xs ++ post)) ∙ form-found head values pre (membersBytes (kind .bytes) xs ++ post) count small;
-      each = λ i l. ap₂ (λ (r : List ℕ) (k : ℕ). fieldAt r (k + sizeOf (kind .form) * i)) head-apart (sym behind-head) ∙ members-found kind xs (pre ++ formBytes head values) post i l;
+      head-there =
+          ap (λ (l : List ℕ). fieldAt l (length pre)) (head-first ∙ append-assoc pre (formBytes head values) (membersBytes (kind .bytes) xs ++ post))
+          ∙ form-found head values pre (membersBytes (kind .bytes) xs ++ post) count small;
+      each =
+          λ i l. ap₂ (λ (r : List ℕ) (k : ℕ). fieldAt r (k + sizeOf (kind .form) * i)) head-apart (sym behind-head) ∙ members-found kind xs (pre ++ formBytes head values) post i l;
     }
 
     pub section-back : (none : A) → ((i : ℕ) → i < length xs → kind .Fits (getD xs i none))
-        → membersFrom (kind .read) (sizeOf (kind .form)) (pre ++ (formBytes head values ++ membersBytes (kind .bytes) xs) ++ post) (length pre + sizeOf head) (length xs) ≡ xs
+        → membersFrom (kind .read) (sizeOf (kind .form)) (pre ++ (formBytes head values ++ membersBytes (kind .bytes) xs) ++ post) (length pre + sizeOf head)
+        (length xs)
+        ≡ xs
     section-back none h =
         ap₂ (λ (r : List ℕ) (k : ℕ). membersFrom (kind .read) (sizeOf (kind .form)) r k (length xs)) head-apart (sym behind-head)
         ∙ members-back kind xs (pre ++ formBytes head values) post none h
@@ -76,7 +84,8 @@ module _ (figure : ℕ) (bs : List Batch) where
     unfolding mosaicBytes batchKind
     mosaic-found = section-found batchKind mosaicHeadForm (figure ∷ []) refl bs pre post (omega arith)
 
-    pub mosaic-figure-back : EachFits (mosaicHeadForm .widths) (figure ∷ []) → figureFrom mosaicHeadForm (pre ++ mosaicBytes figure bs ++ post) (length pre) ≡ figure
+    pub mosaic-figure-back : EachFits (mosaicHeadForm .widths) (figure ∷ [])
+        → figureFrom mosaicHeadForm (pre ++ mosaicBytes figure bs ++ post) (length pre) ≡ figure
     unfolding mosaicBytes batchKind
     mosaic-figure-back h =
         ap (λ (l : List ℕ). figureFrom mosaicHeadForm l (length pre)) (head-first batchKind mosaicHeadForm (figure ∷ []) refl bs pre post)
@@ -104,7 +113,8 @@ module _ (figure : ℕ) (js : List Job) where
     unfolding sortingBytes jobKind
     sorting-found = section-found jobKind sortingHeadForm (figure ∷ []) refl js pre post (omega arith)
 
-    pub sorting-figure-back : EachFits (sortingHeadForm .widths) (figure ∷ []) → figureFrom sortingHeadForm (pre ++ sortingBytes figure js ++ post) (length pre) ≡ figure
+    pub sorting-figure-back : EachFits (sortingHeadForm .widths) (figure ∷ [])
+        → figureFrom sortingHeadForm (pre ++ sortingBytes figure js ++ post) (length pre) ≡ figure
     unfolding sortingBytes jobKind
     sorting-figure-back h =
         ap (λ (l : List ℕ). figureFrom sortingHeadForm l (length pre)) (head-first jobKind sortingHeadForm (figure ∷ []) refl js pre post)
@@ -132,7 +142,8 @@ module _ (figure order : ℕ) (ps : List Passes) where
     unfolding flightBytes passesKind
     flight-found = section-found passesKind flightHeadForm (figure ∷ order ∷ []) refl ps pre post (omega arith)
 
-    flight-head-first : pre ++ flightBytes figure order ps ++ post ≡ pre ++ formBytes flightHeadForm (figure ∷ order ∷ []) ++ (membersBytes (passesKind .bytes) ps ++ post)
+    flight-head-first : pre ++ flightBytes figure order ps ++ post
+        ≡ pre ++ formBytes flightHeadForm (figure ∷ order ∷ []) ++ (membersBytes (passesKind .bytes) ps ++ post)
     unfolding flightBytes passesKind
     flight-head-first = head-first passesKind flightHeadForm (figure ∷ order ∷ []) refl ps pre post
 

@@ -154,7 +154,8 @@ module _ (s : SortingSection) (js : List Job) where
         go (yes p) (no n) = absurd (n (omega (arith, desk-at, e, ap (λ (x : ℕ). jobAt js x .desk) p)))
         go (no p) q = earlier (omega arith) q
 
-    free-least-next : (desk t : ℕ) → desk < 3 → ((i : ℕ) → i < suc k → jobAt js i .desk ≡ desk + 1 → deskFinish s (jobAt js i) ≤ t) → getD (afterJob s d j .free) desk 0 ≤ t
+    free-least-next : (desk t : ℕ) → desk < 3 → ((i : ℕ) → i < suc k → jobAt js i .desk ≡ desk + 1 → deskFinish s (jobAt js i) ≤ t)
+        → getD (afterJob s d j .free) desk 0 ≤ t
     free-least-next desk t l h = go (ℕ-discrete desk (j .desk - 1))
       where
         go : Dec (desk ≡ j .desk - 1) → getD (afterJob s d j .free) desk 0 ≤ t
@@ -183,13 +184,16 @@ module _ (s : SortingSection) (js : List Job) where
 
   -- a job's number is that of one of its desk's strips
   pub number-known : SortingLawful s js → (k : ℕ) → k < length js → jobAt js k .number ≤ stripsOf s (jobAt js k .desk)
-  number-known L k l = omega (arith, L .in-turn k l, jobs-same js (jobAt js k .desk) k refl, rest, L .all-strips (jobAt js k .desk) (L .each k l .least-desk) (L .each k l .most-desk))
+  number-known L k l =
+      omega (arith, L .in-turn k l, jobs-same js (jobAt js k .desk) k refl, rest, L .all-strips (jobAt js k .desk) (L .each k l .least-desk) (L .each k l .most-desk))
     where
       all : suc k + (length js - suc k) ≡ length js
       all = omega arith
 
       rest : jobsOf js (jobAt js k .desk) (suc k) ≤ jobsOf js (jobAt js k .desk) (length js)
-      rest = subst (λ (n : ℕ). jobsOf js (jobAt js k .desk) (suc k) ≤ jobsOf js (jobAt js k .desk) n) all (jobs-mono js (jobAt js k .desk) (suc k) (length js - suc k))
+      rest =
+          subst (λ (n : ℕ). jobsOf js (jobAt js k .desk) (suc k) ≤ jobsOf js (jobAt js k .desk) n) all
+          (jobs-mono js (jobAt js k .desk) (suc k) (length js - suc k))
 
   -- a lawful job follows where the earlier ones have led
   module _ (sound : SortingSound s) (L : SortingLawful s js) where
@@ -218,11 +222,18 @@ module _ (s : SortingSection) (js : List Job) where
         done-is = r .done (jobAt js k .desk - 1) low ∙ ap (λ (x : ℕ). jobsOf js x k) back
 
     lawful-done : (d : Desks) → Reached s js (length js) d → AllDone s d
-    lawful-done d r = record { all = λ desk p q. r .done (desk - 1) (omega (arith, sound .most-desks)) ∙ ap (λ (x : ℕ). jobsOf js x (length js)) (omega arith) ∙ L .all-strips desk p q }
+    lawful-done d r =
+        record {
+          all =
+              λ desk p q. r .done (desk - 1) (omega (arith, sound .most-desks)) ∙ ap (λ (x : ℕ). jobsOf js x (length js)) (omega arith) ∙ L .all-strips desk p q;
+        }
 
-    run-from : (rest : List Job) (k : ℕ) (d : Desks) → length js ≡ k + length rest → ((i : ℕ) → i < length rest → jobAt js (k + i) ≡ getD rest i noJob) → Reached s js k d → SortingRuns s d rest
+    run-from : (rest : List Job) (k : ℕ) (d : Desks) → length js ≡ k + length rest → ((i : ℕ) → i < length rest → jobAt js (k + i) ≡ getD rest i noJob)
+        → Reached s js k d → SortingRuns s d rest
     run-from [] k d e h r = none (lawful-done d (subst (λ (n : ℕ). Reached s js n d) (omega arith) r))
-    run-from (j ∷ rest) k d e h r = more f (run-from rest (suc k) (afterJob s d j) (omega arith) (λ i l. later i l) (reached-next k d r j at f (omega (arith, f .lawful .most-desk, sound .most-desks))))
+    run-from (j ∷ rest) k d e h r =
+        more f
+        (run-from rest (suc k) (afterJob s d j) (omega arith) (λ i l. later i l) (reached-next k d r j at f (omega (arith, f .lawful .most-desk, sound .most-desks))))
       where
         at : jobAt js k ≡ j
         at = ap (jobAt js) (omega arith) ∙ h 0 (omega arith)
@@ -262,7 +273,8 @@ module _ (s : SortingSection) (js : List Job) where
         go i p q (yes x) = subst FollowsAt (sym x) here
         go i p q (no x) = later .each i (omega arith) q
 
-    told-from : (rest : List Job) (k : ℕ) (d : Desks) → length js ≡ k + length rest → ((i : ℕ) → i < length rest → jobAt js (k + i) ≡ getD rest i noJob) → Reached s js k d → SortingRuns s d rest → Told k
+    told-from : (rest : List Job) (k : ℕ) (d : Desks) → length js ≡ k + length rest → ((i : ℕ) → i < length rest → jobAt js (k + i) ≡ getD rest i noJob)
+        → Reached s js k d → SortingRuns s d rest → Told k
     told-from [] k d e h r (none a) = record {
       each = λ i p q. absurd (omega arith);
       end = record { desks = d; reached = subst (λ (n : ℕ). Reached s js n d) (omega arith) r; done = a };
@@ -275,7 +287,8 @@ module _ (s : SortingSection) (js : List Job) where
     pub runs-lawful : SortingRuns s freeDesks js → SortingLawful s js
     runs-lawful R = record {
       each = λ i l. at i l .follows .lawful;
-      in-turn = λ i l. at i l .follows .in-turn ∙ ap (λ (x : ℕ). x + 1) (at i l .reached .done (jobAt js i .desk - 1) (low i l) ∙ ap (λ (x : ℕ). jobsOf js x i) (back i l));
+      in-turn =
+          λ i l. at i l .follows .in-turn ∙ ap (λ (x : ℕ). x + 1) (at i l .reached .done (jobAt js i .desk - 1) (low i l) ∙ ap (λ (x : ℕ). jobsOf js x i) (back i l));
       all-strips = λ desk p q. all desk p q;
       one-scan = λ i j p l. le-trans (at j l .reached .scanner-above i p) (at j l .follows .one-scan);
       one-job = λ i j p l e. le-trans (at j l .reached .free-above i (jobAt js j .desk - 1) p (e ∙ sym (back j l))) (at j l .follows .one-job);

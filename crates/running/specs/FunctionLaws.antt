@@ -13,7 +13,7 @@ use Rattle.sheet.specs.declared.MosaicSection.{MosaicSection}
 use Rattle.sheet.specs.declared.SortingSection.{SortingSection}
 use Rattle.sheet.specs.declared.FlightSection.{FlightSection}
 use Rattle.base.specs.Sums.{sumOver, greatestOver}
-use Rattle.rules.specs.Mosaic.{stationSum, ready, benchSum, finishDue}
+use Rattle.rules.specs.Mosaic.{stationSum, ready, benchSum, setupTime, mostSetup, finishDue}
 use Rattle.rules.specs.Sorting.{slot, scanTime, deskTime}
 use Rattle.rules.specs.Flight.{passTime}
 use Rattle.rules.specs.declared.Batch.{Batch}
@@ -38,6 +38,14 @@ pub record FinishPre (m : MosaicSection) (before b : Batch) : Type 0 where
   pub rises : before .last ≤ b .last
   pub strips : b .last ≤ mostStrips
   pub fits : b .start < 2 ^ 32
+
+pub record SetupTold (m : MosaicSection) (r : ℕ) : Type 0 where
+  pub is : r ≡ setupTime m
+  pub fits : r ≤ mostSetup
+
+pub setup-told : (m : MosaicSection) → MosaicSound m → SetupTold m (m .mount)
+unfolding setupTime
+setup-told m sound = record { is = refl; fits = sound .most-mount }
 
 -- a sum of at most 40 times
 pub record SumTold (value r : ℕ) : Type 0 where
@@ -85,7 +93,8 @@ sum-all f n i sum s h = s .is ∙ ap (λ k. sumOver k f) all
     all = let w = s .within in omega arith
 
 module _ (m : MosaicSection) (k j : ℕ) (a : StationPre m k j) where
-  pub station-more : (i sum : ℕ) → Summed (λ i. getD (m .station) (4 * i + k) 0) mostTime j i sum → i < j → Summed (λ i. getD (m .station) (4 * i + k) 0) mostTime j (i + 1) (sum + getD (m .station) (4 * i + k) 0)
+  pub station-more : (i sum : ℕ) → Summed (λ i. getD (m .station) (4 * i + k) 0) mostTime j i sum → i < j
+      → Summed (λ i. getD (m .station) (4 * i + k) 0) mostTime j (i + 1) (sum + getD (m .station) (4 * i + k) 0)
   station-more i sum s h = sum-more (λ i. getD (m .station) (4 * i + k) 0) j i sum _ s h refl (a .sound .most-station (4 * i + k))
 
   pub station-fits : (i sum : ℕ) → Summed (λ i. getD (m .station) (4 * i + k) 0) mostTime j i sum → i < j → sum + getD (m .station) (4 * i + k) 0 < 2 ^ 64
@@ -100,7 +109,8 @@ module _ (m : MosaicSection) (k j : ℕ) (a : StationPre m k j) where
       record { is = sum-all (λ i. getD (m .station) (4 * i + k) 0) j i sum s h; fits = omega arith }
 
 module _ (m : MosaicSection) (i count : ℕ) (a : BenchPre m i count) where
-  pub bench-more : (k sum : ℕ) → Summed (λ k. getD (m .bench) (i + k) 0) mostTime count k sum → k < count → Summed (λ k. getD (m .bench) (i + k) 0) mostTime count (k + 1) (sum + getD (m .bench) (i + k) 0)
+  pub bench-more : (k sum : ℕ) → Summed (λ k. getD (m .bench) (i + k) 0) mostTime count k sum → k < count
+      → Summed (λ k. getD (m .bench) (i + k) 0) mostTime count (k + 1) (sum + getD (m .bench) (i + k) 0)
   bench-more k sum s h = sum-more (λ k. getD (m .bench) (i + k) 0) count k sum _ s h refl (a .sound .most-bench (i + k))
 
   pub bench-fits : (k sum : ℕ) → Summed (λ k. getD (m .bench) (i + k) 0) mostTime count k sum → k < count → sum + getD (m .bench) (i + k) 0 < 2 ^ 64
@@ -118,15 +128,17 @@ module _ (m : MosaicSection) (before b : Batch) (a : FinishPre m before b) where
   pub finish-bench : BenchPre m (before .last) (b .last - before .last)
   finish-bench = let h = a .rises in let l = a .strips in record { sound = a .sound; strips = omega arith }
 
-  pub finish-mounted : b .start + m .mount < 2 ^ 64
-  finish-mounted = let f = a .fits in omega (arith, a .sound .most-mount)
+  module _ (setup : ℕ) (u : SetupTold m setup) where
+    pub finish-mounted : b .start + setup < 2 ^ 64
+    finish-mounted = omega (arith, a .fits, u .fits)
 
-  pub finish-fits : (sum : ℕ) → SumTold (benchSum m (before .last) (b .last - before .last)) sum → b .start + m .mount + sum < 2 ^ 64
-  finish-fits sum t = let f = a .fits in let l = t .fits in omega (arith, a .sound .most-mount)
+    module _ (sum : ℕ) (t : SumTold (benchSum m (before .last) (b .last - before .last)) sum) where
+      pub finish-fits : b .start + setup + sum < 2 ^ 64
+      finish-fits = omega (arith, a .fits, u .fits, t .fits)
 
-  pub finish-is : (sum : ℕ) → SumTold (benchSum m (before .last) (b .last - before .last)) sum → b .start + m .mount + sum ≡ finishDue m before b
-  unfolding finishDue
-  finish-is sum t = ap (λ (n : ℕ). b .start + m .mount + n) (t .is)
+      pub finish-is : b .start + setup + sum ≡ finishDue m before b
+      unfolding finishDue
+      finish-is = rw (u .is, t .is)
 
 -- the greatest of the first k stations' sums
 pub record Greatest (m : MosaicSection) (j k value : ℕ) : Type 0 where
@@ -143,7 +155,8 @@ module _ (m : MosaicSection) (j : ℕ) where
   unfolding greatestOver
   greatest-none = record { within = omega arith; is = refl; fits = omega arith }
 
-  pub greatest-more : (k value next sum : ℕ) → Greatest m j k value → k < m .stations → SumTold (stationSum m k j) sum → next ≡ max value sum → Greatest m j (k + 1) next
+  pub greatest-more : (k value next sum : ℕ) → Greatest m j k value → k < m .stations → SumTold (stationSum m k j) sum → next ≡ max value sum
+      → Greatest m j (k + 1) next
   greatest-more k value next sum g h t e =
       let b = g .fits in
       let l = t .fits in

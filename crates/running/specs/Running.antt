@@ -1,4 +1,5 @@
--- The rules once more, as they run over the members in order: what the judge follows. Equivalent.antt of crate rules_laws shows that they say the same as the rules.
+-- The rules once more, as they run over the members in order: what the judge follows. Equivalent.antt of crate rules_laws shows that they say the same as the
+-- rules.
 use Prim.Native.Nat.{ℕ, _+_, _-_, _*_, _≤_, _<_}
 use mathlib.Core.Path.{_≡_}
 use mathlib.Core.List.{List, [], _∷_}

@@ -5,7 +5,8 @@ use sheet::MosaicSection;
 ghost use mathlib.Core.Path.{_≡_};
 ghost use Prim.Native.Nat.{_<_, _+_};
 ghost use Rattle.rules.specs.Mosaic.{stationSum, ready, benchSum, finishDue};
-ghost use Rattle.running.specs.FunctionLaws.{StationPre, ReadyPre, BenchPre, FinishPre, SumTold};
+ghost use Rattle.running.specs.FunctionLaws.{StationPre, ReadyPre, BenchPre, FinishPre, SetupTold, SumTold};
+ghost use Rattle.sheet.specs.Sound.{MosaicSound};
 
 // When station k, from 0, is done with the first j strips.
 fn station_sum(m: MosaicSection, k: usize, j: usize) -> u64
@@ -52,6 +53,14 @@ fn bench_sum(m: MosaicSection, i: usize, count: usize) -> u64
     sum
 }
 
+// What a batch takes beside its bench times.
+pub fn setup_time(m: MosaicSection) -> u64
+    requires { ⌜ MosaicSound m ⌝ }
+    ensures { λ r. ⌜ SetupTold m r ⌝ }
+{
+    m.mount
+}
+
 // When a batch is due to finish, by the batch before it.
 pub fn finish_due(m: MosaicSection, before: Batch, b: Batch) -> u64
     requires { ⌜ FinishPre m before b ⌝ }
@@ -59,5 +68,5 @@ pub fn finish_due(m: MosaicSection, before: Batch, b: Batch) -> u64
 {
     let from = before.last;
     let count = b.last - from;
-    b.start + m.mount + bench_sum(m, from as usize, count as usize)
+    b.start + setup_time(m) + bench_sum(m, from as usize, count as usize)
 }

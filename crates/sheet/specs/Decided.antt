@@ -20,10 +20,11 @@ use Rattle.sheet.specs.Tags.{mosaicHeadTag, mosaicStripTag, sortingHeadT
 use Rattle.sheet.specs.Refusals.{fieldCut, tagNotPermitted, lengthWrong, outOfRange, tooMany, noMembers, orderNotProper, orderMissing}
 use Rattle.sheet.specs.Sections.{noSection, inFlight, stripsOfDesk}
 use Rattle.sheet.specs.FieldTable.{lengthDue, Value, valuesOf, OutOfRange}
-use Rattle.sheet.specs.Rows.{firstFailure}
-use Rattle.sheet.specs.RowLaws.{Gives, Answers, gives-check, answers-none, answers-behind, answers-row, neither}
+use Rattle.sheet.specs.Rows.{row, firstFailure}
+use Rattle.sheet.specs.RowLaws.{Gives, Answers, gives-check, answers-none, answers-behind, answers-row, answers-rows, answers-last, neither}
 use Rattle.sheet.specs.Causes.{FieldCut, EndsSection, NoMembers, ManyBlocks, OrderMissing, Permitted, TooMany, OrderNotProper, cutRow, fieldRows, endRows}
-use Rattle.sheet.specs.Checks.{endsSection, sectionFilled, fewBlocks, orderGiven, orderPermitted, permitted, valueNumber, valueNumbers, rangeNumber, hasRoom, orderProper}
+use Rattle.sheet.specs.Checks.{endsSection, sectionFilled, fewBlocks, orderGiven, orderPermitted, permitted, valueNumber, valueNumbers, rangeNumber}
+use Rattle.sheet.specs.Checks.{hasRoom, orderProper}
 use Rattle.sheet.specs.Read.{contentChecks, fieldChecks, fieldNumber, endChecks, endNumber, placeOf}
 use Rattle.sheet.specs.declared.Reading.{Reading}
 
@@ -158,6 +159,11 @@ range-given (v ∷ values) = go (leb (v .least) (v .number)) refl (leb (v .numbe
         less : {i j : ℕ} → i ≤ j → j < i → ⊥
         less h k = omega arith
 
+-- its rows: those of the numbers that the check of the ranges gives
+range-answers : (place : ℕ → ℕ) (at : ℕ) → place outOfRange ≡ at → (values : List Value)
+    → Answers (row outOfRange at (OutOfRange values) ∷ []) place (rangeNumber values)
+range-answers place at e values = answers-last place outOfRange at _ _ (omega arith) e (range-given values)
+
 -- 7
 module _ (tag members ofDesk : ℕ) where
   false-many-members : hasRoom tag members ofDesk ≡ false → TooMany tag members ofDesk
@@ -235,7 +241,7 @@ module _ (s : List ℕ) (st : Reading) where
       (λ _. answers-row place _ _ _ _ _ _ (omega arith) refl (order-given tag (st .section) (st .members))
       (λ _. answers-row place _ _ _ _ _ _ (omega arith) refl (permitted-given tag (st .section) (st .members))
       (λ _. answers-row place _ _ _ _ _ _ (omega arith) refl (length-given len (lengthDue tag (st .mosaic .stations)))
-      (λ _. answers-row place _ _ _ _ _ _ (omega arith) refl (range-given (valuesOf s c tag len (st .sorting .desks)))
+      (λ _. answers-rows _ _ place _ _ (range-answers place (st .at) refl (valuesOf s c tag len (st .sorting .desks)))
       (λ _. answers-row place _ _ _ _ _ _ (omega arith) refl (room-given tag (st .members) (stripsOfDesk (st .sorting .counts) (numberAt s c 1)))
       (λ _. answers-row place _ _ _ _ _ _ (omega arith) refl (proper-given tag (st .members) (numberAt s c 8))
       (λ _. answers-none place))))))))

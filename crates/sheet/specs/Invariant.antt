@@ -12,11 +12,13 @@ use Rattle.sheet.specs.Sections.{noSection, inMosaic, inSorting, inFligh
 use Rattle.sheet.specs.Checks.{endsSection}
 use Rattle.sheet.specs.FieldTable.{lengthDue, mosaicStripValues, stationTimes, valuesOf, InRange}
 use Rattle.sheet.specs.Causes.{Permitted, TooMany}
-use Rattle.sheet.specs.Decode.{noFlight, withMosaicHead, withMosaicStrip, withSortingHead, withBlock, withOrder, nextMosaic, nextSorting, nextFlight, nextSection, nextHead, nextMembers, nextReading, startReading}
+use Rattle.sheet.specs.Decode.{noFlight, withMosaicHead, withMosaicStrip, withSortingHead, withBlock, withOrder, nextMosaic, nextSorting, nextFlight}
+use Rattle.sheet.specs.Decode.{nextSection, nextHead, nextMembers, nextReading, startReading}
 use Rattle.sheet.specs.Sound.{MosaicSound, SortingSound, FlightWithin, stripsInAll}
 use Rattle.sheet.specs.Stores.{zeros-at}
 use Rattle.sheet.specs.Passed.{Passed}
-use Rattle.sheet.specs.SectionLaws.{no-mosaic-sound, no-sorting-sound, no-flight-sound, mosaic-head-sound, mosaic-strip-sound, sorting-head-sound, sorting-strip-sound, sorting-strip-more, block-sound, order-sound}
+use Rattle.sheet.specs.SectionLaws.{no-mosaic-sound, no-sorting-sound, no-flight-sound, mosaic-head-sound, mosaic-strip-sound, sorting-head-sound}
+use Rattle.sheet.specs.SectionLaws.{sorting-strip-sound, sorting-strip-more, block-sound, order-sound}
 use Rattle.sheet.specs.declared.Reading.{Reading}
 
 pub record Kept (s : List ℕ) (st : Reading) : Type 0 where

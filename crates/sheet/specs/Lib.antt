@@ -21,3 +21,4 @@ pub mod SectionLaws
 pub mod DeskLaws
 pub mod Invariant
 pub mod Progress
+pub mod Computes

@@ -3,7 +3,7 @@
 use Prim.Native.Nat.{ℕ, zero, suc, _<_}
 use mathlib.Core.Path.{_≡_, refl, sym, ap, _∙_}
 use mathlib.Core.Bool.{Bool, true, false, _||_, true≢false}
-use mathlib.Core.List.{List, [], _∷_}
+use mathlib.Core.List.{List, [], _∷_, _++_}
 use native.Mathlib.Omega.{arith}
 use native.Mathlib.Decide.{decLt}
 use lib.Dec.{T, ltb, eqb, lit<}
@@ -58,13 +58,43 @@ module _ (place : ℕ → ℕ) (number at : ℕ) (cause : Type 0) (rows : List R
   answers-behind answer c (first h f) = first h (fails-behind _ _ c f)
   answers-behind answer c (none z f) = none z (passes-behind c f)
 
-  -- a row more: its check, and behind it those of the other rows, which are judged where it passes
-  pub answers-row : (given : ℕ) (checks : List ℕ) → 0 < number → place number ≡ at → Gives given number cause
-      → ((cause → ⊥) → Answers rows place (firstFailure checks)) → Answers (row number at cause ∷ rows) place (firstFailure (given ∷ checks))
-  unfolding firstFailure
-  answers-row given checks pos ep (fails e c) others =
-      rw (e, first-here number checks pos) (first pos (fails-here number refl ep c))
-  answers-row given checks pos ep (passes e c) others = rw e (answers-behind (firstFailure checks) c (others c))
+-- One row, by its check.
+pub answers-last : (place : ℕ → ℕ) (number at : ℕ) (cause : Type 0) (given : ℕ) → 0 < number → place number ≡ at → Gives given number cause
+    → Answers (row number at cause ∷ []) place given
+unfolding Passes rowAt
+answers-last place number at cause given pos ep (fails e c) = rw e (first pos (fails-here place number at cause [] number refl ep c))
+answers-last place number at cause given pos ep (passes e c) = none e (passes-behind place number at cause [] c (λ k q. q))
+
+-- Rows that one check decides, of several numbers if need be, and behind them the others, which are judged where those before pass.
+fails-before : (rows others : List Row) (n p k : ℕ) → n ≡ rowAt rows k .number → p ≡ rowAt rows k .place → rowAt rows k .cause
+    → ((i : ℕ) → i < k → rowAt rows i .cause → ⊥) → Fails (rows ++ others) n p
+unfolding rowAt
+fails-before [] others n p k en ep c b = absurd c
+fails-before (r ∷ rows) others n p zero en ep c b =
+    record { k = 0; number-is = en; place-is = ep; cause = c; before = λ i h. absurd (omega arith) }
+fails-before (r ∷ rows) others n p (suc k) en ep c b =
+    fails-behind (λ _. p) (r .number) (r .place) (r .cause) (rows ++ others) n p (b 0 (omega arith))
+    (fails-before rows others n p k en ep c (λ i h. b (suc i) (omega arith)))
+
+answers-passed : (rows others : List Row) (place : ℕ → ℕ) (answer : ℕ) → Passes rows → Answers others place answer → Answers (rows ++ others) place answer
+unfolding Passes rowAt
+answers-passed [] others place answer p a = a
+answers-passed (r ∷ rows) others place answer p a =
+    answers-behind place (r .number) (r .place) (r .cause) (rows ++ others) answer (p 0) (answers-passed rows others place answer (λ k. p (suc k)) a)
+
+pub answers-rows : (rows others : List Row) (place : ℕ → ℕ) (given : ℕ) (checks : List ℕ) → Answers rows place given
+    → (Passes rows → Answers others place (firstFailure checks)) → Answers (rows ++ others) place (firstFailure (given ∷ checks))
+unfolding firstFailure
+answers-rows rows others place given checks (first h f) later =
+    rw (first-here given checks h) (first h (fails-before rows others given (place given) (f .k) (f .number-is) (f .place-is) (f .cause) (f .before)))
+answers-rows rows others place given checks (none z p) later = rw z (answers-passed rows others place (firstFailure checks) p (later p))
+
+pub answers-row : (place : ℕ → ℕ) (number at : ℕ) (cause : Type 0) (others : List Row) (given : ℕ) (checks : List ℕ) → 0 < number → place number ≡ at
+    → Gives given number cause → ((cause → ⊥) → Answers others place (firstFailure checks))
+    → Answers (row number at cause ∷ others) place (firstFailure (given ∷ checks))
+unfolding Passes rowAt
+answers-row place number at cause others given checks pos ep g later =
+    answers-rows (row number at cause ∷ []) others place given checks (answers-last place number at cause given pos ep g) (λ p. later (p 0))
 
 module _ (rows : List Row) (place : ℕ → ℕ) (answer : ℕ) where
   -- the answer is 0 exactly where every row passes ..

@@ -11,7 +11,8 @@ use Rattle.order.specs.Order.{Proper}
 use Rattle.sheet.specs.Limits.{mostStations, mostDesks, mostTime, mostStrips, mostStripsOfDesk, mostBlocks}
 use Rattle.sheet.specs.Sections.{stripsOfDesk}
 use Rattle.sheet.specs.FieldTable.{value, mosaicHeadValues, mosaicStripValues, sortingHeadValues, sortingStripValues, flightBlockValues, Within, InRange}
-use Rattle.sheet.specs.Decode.{zeros, noMosaic, noSorting, noFlight, withMosaicHead, withStationTimes, withMosaicStrip, withSortingHead, withStripAt, withSortingStrip, withBlock, withOrder}
+use Rattle.sheet.specs.Decode.{zeros, noMosaic, noSorting, noFlight, withMosaicHead, withStationTimes, withMosaicStrip, withSortingHead, withStripAt}
+use Rattle.sheet.specs.Decode.{withSortingStrip, withBlock, withOrder}
 use Rattle.sheet.specs.Sound.{MosaicSound, SortingSound, FlightWithin, stripsInAll}
 use Rattle.sheet.specs.Stores.{length-zeros, zeros-at, set-here, set-there, set-most, set-least}
 use Rattle.sheet.specs.Passed.{first-within, others-within}
@@ -91,7 +92,8 @@ mosaic-strip-sound s c m h room r =
       most-strips = omega arith;
       station-length = length-times s c (4 * m .strips) (m .station) (m .stations) ∙ h .station-length;
       bench-length = simp length-set (h .bench-length);
-      most-station = times-most s c (4 * m .strips) (m .station) (h .most-station) (m .stations) (λ j l. strip-time s c (m .stations) 0 r j (omega arith) (omega arith));
+      most-station =
+          times-most s c (4 * m .strips) (m .station) (h .most-station) (m .stations) (λ j l. strip-time s c (m .stations) 0 r j (omega arith) (omega arith));
       most-bench = set-most (m .bench) mostTime (m .strips) _ (h .most-bench) (b .at-most);
       least-bench = set-least (m .bench) (m .strips) _ (h .least-bench) (b .at-least) (omega arith);
     }
@@ -158,8 +160,10 @@ strip-at-sound s c t d k h hd here room b₁ b₂ =
       no-desk = λ d′ l. set-there (t .counts) d d′ (k + 1) (λ q. absurd (omega arith)) ∙ h .no-desk d′ l;
       most-scan = set-most (t .scan) mostTime (6 * d + k) _ (h .most-scan) (b₁ .at-most);
       most-desk = set-most (t .desk) mostTime (6 * d + k) _ (h .most-desk) (b₂ .at-most);
-      least-scan = λ d′ k′ l. least-strip (t .counts) (t .scan) d k _ here (omega arith) (h .most-strips) room (omega arith) (h .least-scan) (b₁ .at-least) d′ k′ l (ℕ-discrete d′ d);
-      least-desk = λ d′ k′ l. least-strip (t .counts) (t .desk) d k _ here (omega arith) (h .most-strips) room (omega arith) (h .least-desk) (b₂ .at-least) d′ k′ l (ℕ-discrete d′ d);
+      least-scan =
+          λ d′ k′ l. least-strip (t .counts) (t .scan) d k _ here (omega arith) (h .most-strips) room (omega arith) (h .least-scan) (b₁ .at-least) d′ k′ l (ℕ-discrete d′ d);
+      least-desk =
+          λ d′ k′ l. least-strip (t .counts) (t .desk) d k _ here (omega arith) (h .most-strips) room (omega arith) (h .least-desk) (b₂ .at-least) d′ k′ l (ℕ-discrete d′ d);
     }
 
 pub sorting-strip-sound : (s : List ℕ) (c : ℕ) (t : SortingSection) → SortingSound t

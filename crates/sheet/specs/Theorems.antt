@@ -25,7 +25,8 @@ use Rattle.sheet.specs.Read.{fieldNumber, endNumber, refused, accepted, 
 use Rattle.sheet.specs.Sound.{SheetSound, stripsInAll}
 use Rattle.sheet.specs.Decided.{field-answers, end-answers, cut-answers}
 use Rattle.sheet.specs.Invariant.{Kept}
-use Rattle.sheet.specs.Progress.{Progress, progress-start, progress-end, progress-cut, progress-refused, progress-next, turn-end, turn-cut, turn-next, turn-refused}
+use Rattle.sheet.specs.Progress.{Progress, progress-start, progress-end, progress-cut, progress-refused, progress-next, turn-end, turn-cut, turn-next}
+use Rattle.sheet.specs.Progress.{turn-refused}
 use Rattle.sheet.specs.declared.Reading.{Reading}
 use Rattle.sheet.specs.declared.Sheet.{Sheet}
 

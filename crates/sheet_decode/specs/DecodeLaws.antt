@@ -7,7 +7,9 @@ use native.Mathlib.Numerals.{add-one}
 use native.Mathlib.Omega.{arith}
 use lib.ListN.{length, set, length-set}
 use Rattle.field.specs.Bytes.{numberAt, NumberRead}
-use Rattle.sheet.specs.Decode.{zeros, noMosaic, noSorting, noFlight, startReading, withMosaicHead, withStationTimes, withMosaicStrip, withSortingHead, withStripAt, withSortingStrip, withBlock, withOrder, nextMosaic, nextSorting, nextFlight, nextSection, nextHead, nextMembers, nextReading}
+use Rattle.sheet.specs.Decode.{zeros, noMosaic, noSorting, noFlight, startReading, withMosaicHead, withStationTimes, withMosaicStrip, withSortingHead}
+use Rattle.sheet.specs.Decode.{withStripAt, withSortingStrip, withBlock, withOrder, nextMosaic, nextSorting, nextFlight, nextSection, nextHead, nextMembers}
+use Rattle.sheet.specs.Decode.{nextReading}
 use Rattle.sheet.specs.Sections.{stripsOfDesk}
 use Rattle.sheet.specs.Tags.{sortingStripTag}
 use Rattle.sheet.specs.Read.{refused}
@@ -68,22 +70,29 @@ module _ (s : List ℕ) (c base count : ℕ) (times : List ℕ) where
 
 pub mosaic-strip-is : (s : List ℕ) (c : ℕ) (m : MosaicSection) (station : List ℕ) (value : ℕ)
     → station ≡ withStationTimes s c (4 * m .strips) (m .stations) (m .station) → NumberRead s (c + 2 * m .stations) 2 value
-    → _≡_ {A = MosaicSection} (record { stations = m .stations; mount = m .mount; strips = m .strips + 1; station = station; bench = set (m .bench) (m .strips) value }) (withMosaicStrip s c m)
+    → _≡_ {A = MosaicSection}
+    (record { stations = m .stations; mount = m .mount; strips = m .strips + 1; station = station; bench = set (m .bench) (m .strips) value })
+    (withMosaicStrip s c m)
 unfolding withMosaicStrip
 mosaic-strip-is s c m station value e n = rw (e, n .is)
 
 pub strip-at-is : (s : List ℕ) (c : ℕ) (t : SortingSection) (d k scan desk : ℕ) → NumberRead s (c + 1) 2 scan → NumberRead s (c + 3) 2 desk
-    → _≡_ {A = SortingSection} (record { desks = t .desks; counts = set (t .counts) d (k + 1); scan = set (t .scan) (6 * d + k) scan; desk = set (t .desk) (6 * d + k) desk }) (withStripAt s c t d k)
+    → _≡_ {A = SortingSection}
+    (record { desks = t .desks; counts = set (t .counts) d (k + 1); scan = set (t .scan) (6 * d + k) scan; desk = set (t .desk) (6 * d + k) desk })
+    (withStripAt s c t d k)
 unfolding withStripAt
 strip-at-is s c t d k scan desk n₁ n₂ = rw (n₁ .is, n₂ .is)
 
 pub block-is : (s : List ℕ) (c : ℕ) (f : FlightSection) (a l b : ℕ) → NumberRead s c 2 a → NumberRead s (c + 2) 2 l → NumberRead s (c + 4) 2 b
-    → _≡_ {A = FlightSection} (record { blocks = f .blocks + 1; first = set (f .first) (f .blocks) a; delay = set (f .delay) (f .blocks) l; second = set (f .second) (f .blocks) b; ordered = f .ordered; order = f .order; place = f .place }) (withBlock s c f)
+    → _≡_ {A = FlightSection}
+    (record { blocks = f .blocks + 1; first = set (f .first) (f .blocks) a; delay = set (f .delay) (f .blocks) l; second = set (f .second) (f .blocks) b; ordered = f .ordered; order = f .order; place = f .place })
+    (withBlock s c f)
 unfolding withBlock
 block-is s c f a l b n₁ n₂ n₃ = rw (n₁ .is, n₂ .is, n₃ .is)
 
 pub order-is : (s : List ℕ) (c at : ℕ) (f : FlightSection) (order : ℕ) → NumberRead s c 8 order
-    → _≡_ {A = FlightSection} (record { blocks = f .blocks; first = f .first; delay = f .delay; second = f .second; ordered = true; order = order; place = at }) (withOrder s c at f)
+    → _≡_ {A = FlightSection} (record { blocks = f .blocks; first = f .first; delay = f .delay; second = f .second; ordered = true; order = order; place = at })
+    (withOrder s c at f)
 unfolding withOrder
 order-is s c at f order n = rw (n .is)
 
@@ -96,6 +105,7 @@ pub reading-is : (s : List ℕ) (st : Reading) (tag len section head members : �
     → section ≡ nextSection tag (st .section) → head ≡ nextHead tag (st .head) (st .at) → members ≡ nextMembers tag (st .members)
     → m ≡ nextMosaic s (st .at + 3) tag (st .mosaic) → t ≡ nextSorting s (st .at + 3) tag (st .sorting)
     → f ≡ nextFlight s (st .at + 3) tag (st .at) (st .flight)
-    → _≡_ {A = Reading} (record { at = st .at + 3 + len; section = section; head = head; members = members; mosaic = m; sorting = t; flight = f }) (nextReading s st tag len)
+    → _≡_ {A = Reading} (record { at = st .at + 3 + len; section = section; head = head; members = members; mosaic = m; sorting = t; flight = f })
+    (nextReading s st tag len)
 unfolding nextReading
 reading-is s st tag len section head members m t f e₁ e₂ e₃ e₄ e₅ e₆ = rw (e₁, e₂, e₃, e₄, e₅, e₆)

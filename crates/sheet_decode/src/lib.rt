@@ -24,11 +24,13 @@ use sheet_checks::ends_section;
 ghost use mathlib.Core.Path.{_≡_};
 ghost use Prim.Native.Nat.{_+_, _*_, _<_, _^_};
 ghost use lib.ListN.{length};
-ghost use Rattle.sheet.specs.Decode.{noMosaic, noSorting, noFlight, withMosaicHead, withStationTimes, withMosaicStrip, withSortingHead, withStripAt, withBlock, withOrder, nextMosaic, nextSorting, nextFlight, nextSection, nextMembers, nextHead, nextReading, startReading};
+ghost use Rattle.sheet.specs.Decode.{noMosaic, noSorting, noFlight, withMosaicHead, withStationTimes, withMosaicStrip, withSortingHead, withStripAt, withBlock};
+ghost use Rattle.sheet.specs.Decode.{withOrder, nextMosaic, nextSorting, nextFlight, nextSection, nextMembers, nextHead, nextReading, startReading};
 ghost use Rattle.field.specs.Bytes.{numberAt};
 ghost use Rattle.sheet.specs.Sections.{stripsOfDesk};
 ghost use Rattle.sheet.specs.Read.{refused, accepted};
-ghost use Rattle.sheet_decode.specs.Pre.{StationTimesPre, MosaicStripPre, StripAtPre, BlockPre, NextMosaicPre, NextSortingPre, NextFlightPre, NextReadingPre};
+ghost use Rattle.sheet_decode.specs.Pre.{StationTimesPre, MosaicStripPre, StripAtPre, BlockPre, NextMosaicPre, NextSortingPre, NextFlightPre};
+ghost use Rattle.sheet_decode.specs.Pre.{NextReadingPre};
 
 pub fn no_mosaic() -> MosaicSection
     ensures { λ r. ⌜ r ≡ noMosaic ⌝ }

@@ -10,7 +10,8 @@ use Rattle.field.specs.Bytes.{numberAt, NumberRead}
 use Rattle.sheet.specs.Limits.{mostTime}
 use Rattle.sheet.specs.Refusals.{outOfRange}
 use Rattle.sheet.specs.Tags.{mosaicHeadTag, mosaicStripTag, sortingHeadTag, sortingStripTag, flightBlockTag}
-use Rattle.sheet.specs.FieldTable.{Value, value, mosaicHeadValues, mosaicStripValues, stationTimes, sortingHeadValues, sortingStripValues, flightBlockValues, valuesOf}
+use Rattle.sheet.specs.FieldTable.{Value, value, mosaicHeadValues, mosaicStripValues, stationTimes, sortingHeadValues, sortingStripValues, flightBlockValues}
+use Rattle.sheet.specs.FieldTable.{valuesOf}
 use Rattle.sheet.specs.Rows.{firstFailure}
 use Rattle.sheet.specs.RowLaws.{given-fails, given-passes, given-last}
 use Rattle.sheet.specs.Checks.{valueNumber, valueNumbers, rangeNumber}

@@ -137,9 +137,19 @@ module _ (s : List ℕ) (st : Reading) (p : Progress s st) where
   next-holds (Whole tag len) e = go _ refl
     where
       go : (b : Bool) → eqb (fieldNumber s st tag len) 0 ≡ b
-          → StepHolds s (cond b (goesOn (nextReading s st tag len)) (ended st (fieldNumber s st tag len) (placeOf (fieldNumber s st tag len) (st .head) (st .at))))
-      go true h = record { goes = λ _. progress-next s st p (Whole tag len) e tag len refl (fieldNumber s st tag len) (nextReading s st tag len) refl (eqb-true _ _ h) refl; done = λ g. absurd (true≢false g) }
-      go false h = record { goes = λ g. absurd (true≢false (sym g)); done = λ _. rw (ne-eqb _ _ (eqb-false _ _ h)) (progress-refused s st p (Whole tag len) e tag len refl (fieldNumber s st tag len) _ _ refl (eqb-false _ _ h) refl refl) }
+          → StepHolds s
+          (cond b (goesOn (nextReading s st tag len)) (ended st (fieldNumber s st tag len) (placeOf (fieldNumber s st tag len) (st .head) (st .at))))
+      go true h =
+          record {
+            goes = λ _. progress-next s st p (Whole tag len) e tag len refl (fieldNumber s st tag len) (nextReading s st tag len) refl (eqb-true _ _ h) refl;
+            done = λ g. absurd (true≢false g);
+          }
+      go false h =
+          record {
+            goes = λ g. absurd (true≢false (sym g));
+            done =
+                λ _. rw (ne-eqb _ _ (eqb-false _ _ h)) (progress-refused s st p (Whole tag len) e tag len refl (fieldNumber s st tag len) _ _ refl (eqb-false _ _ h) refl refl);
+          }
 
   -- it leaves less to read ..
   pub next-less : (f : Field) → f ≡ fieldAt s (st .at) → left s (stepAt s st f) < suc (length s - st .at)
@@ -149,7 +159,8 @@ module _ (s : List ℕ) (st : Reading) (p : Progress s st) where
   next-less (Whole tag len) e = go (eqb (fieldNumber s st tag len) 0)
     where
       go : (b : Bool)
-          → left s (cond b (goesOn (nextReading s st tag len)) (ended st (fieldNumber s st tag len) (placeOf (fieldNumber s st tag len) (st .head) (st .at)))) < suc (length s - st .at)
+          → left s (cond b (goesOn (nextReading s st tag len)) (ended st (fieldNumber s st tag len) (placeOf (fieldNumber s st tag len) (st .head) (st .at))))
+          < suc (length s - st .at)
       go true = let h = progress-less s st p (Whole tag len) e tag len refl (nextReading s st tag len) refl in omega arith
       go false = omega arith
 

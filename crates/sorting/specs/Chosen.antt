@@ -62,13 +62,16 @@ step-of J k x e d q c = subst (λ (y : ℕ). Step J k x e y) same made
 module _ (J : List ℕ) (j : Instance J) where
   attained : Attained J (startState J .left) (startState J) (firstBest J)
   unfolding firstBest
-  attained = go (search-attains J (startState J .left) (startState J) noIncumbent) (completion J j (startState J .left) (startState J) (consistent-start J j) refl)
+  attained =
+      go (search-attains J (startState J .left) (startState J) noIncumbent) (completion J j (startState J .left) (startState J) (consistent-start J j) refl)
     where
-      go : (searchFrom J (startState J .left) (startState J) noIncumbent ≡ noIncumbent) ⊎ Attained J (startState J .left) (startState J) (searchFrom J (startState J .left) (startState J) noIncumbent)
+      go : (searchFrom J (startState J .left) (startState J) noIncumbent ≡ noIncumbent)
+          ⊎ Attained J (startState J .left) (startState J) (searchFrom J (startState J .left) (startState J) noIncumbent)
           → (e : State) × Completes J (startState J .left) (startState J) e × Consistent J e
           → Attained J (startState J .left) (startState J) (searchFrom J (startState J .left) (startState J) noIncumbent)
       go (inl e) c =
-          absurd (omega (arith, ap (λ (x : Incumbent). x .figure) e, bound-completes J (startState J .left) (startState J) _ (search-bound J (startState J .left) (startState J) noIncumbent) (c .0) (c .1), c .2 .fits .cost))
+          absurd
+          (omega (arith, ap (λ (x : Incumbent). x .figure) e, bound-completes J (startState J .left) (startState J) _ (search-bound J (startState J .left) (startState J) noIncumbent) (c .0) (c .1), c .2 .fits .cost))
       go (inr a) c = a
 
   module _ (a : Attained J (startState J .left) (startState J) (firstBest J)) where
@@ -76,7 +79,8 @@ module _ (J : List ℕ) (j : Instance J) where
         → Step J (startState J .left - suc i) (chosenState J i) (a .end) (listedDesk (firstBest J .path) (startState J .left) i)
     unfolding listedDesk
     step-at i l c =
-        step-of J (startState J .left - suc i) (chosenState J i) (a .end) _ (ap (λ (x : ℕ). x / 4 ^ (startState J .left - suc i) % 4) (sym (a .path))) (subst (λ (k : ℕ). Completes J k (chosenState J i) (a .end)) (more l) c)
+        step-of J (startState J .left - suc i) (chosenState J i) (a .end) _ (ap (λ (x : ℕ). x / 4 ^ (startState J .left - suc i) % 4) (sym (a .path)))
+        (subst (λ (k : ℕ). Completes J k (chosenState J i) (a .end)) (more l) c)
       where
         more : i < startState J .left → startState J .left - i ≡ suc (startState J .left - suc i)
         more l = omega arith

@@ -22,7 +22,8 @@ pub record PlanSortingPre (s : SortingSection) (table : List ℕ) : Type 0 where
   pub sound : SortingSound s
   pub size : length table ≡ tableLength
 
--- the plan is the written one: it holds the chosen jobs and the least figure; the table keeps its length, holds what the search says of it (Used), and is the caller's to clear
+-- the plan is the written one: it holds the chosen jobs and the least figure; the table keeps its length, holds what the search says of it (Used), and is the
+-- caller's to clear
 pub record Planned (s : SortingSection) (table after : List ℕ) (r : SortingPlan) : Type 0 where
   pub plan : r ≡ writtenPlan (instanceOf s)
   pub figure : r .figure ≡ leastFigure s

@@ -18,19 +18,25 @@ module _ (s : SortingSection) (h : SortingSound s) where
 
   after-counts : (k : ℕ) → getD (instanceOf s) (3 + k) 0 ≡ getD (s .scan ++ (s .desk ++ replicate 18 1)) k 0
   unfolding instanceOf
-  after-counts k = ap (λ (x : ℕ). getD (s .counts ++ (s .scan ++ (s .desk ++ replicate 18 1))) (x + k) 0) (sym (h .counts-length)) ∙ getD-append-add (s .counts) (s .scan ++ (s .desk ++ replicate 18 1)) k 0
+  after-counts k =
+      ap (λ (x : ℕ). getD (s .counts ++ (s .scan ++ (s .desk ++ replicate 18 1))) (x + k) 0) (sym (h .counts-length))
+      ∙ getD-append-add (s .counts) (s .scan ++ (s .desk ++ replicate 18 1)) k 0
 
   pub scan-at : (k : ℕ) → k < 18 → getD (instanceOf s) (3 + k) 0 ≡ getD (s .scan) k 0
   scan-at k l = after-counts k ∙ List·getD-append (s .scan) (s .desk ++ replicate 18 1) 0 k (omega (arith, h .scan-length))
 
   after-scans : (k : ℕ) → getD (instanceOf s) (3 + (18 + k)) 0 ≡ getD (s .desk ++ replicate 18 1) k 0
-  after-scans k = after-counts (18 + k) ∙ ap (λ (x : ℕ). getD (s .scan ++ (s .desk ++ replicate 18 1)) (x + k) 0) (sym (h .scan-length)) ∙ getD-append-add (s .scan) (s .desk ++ replicate 18 1) k 0
+  after-scans k =
+      after-counts (18 + k)
+      ∙ ap (λ (x : ℕ). getD (s .scan ++ (s .desk ++ replicate 18 1)) (x + k) 0) (sym (h .scan-length))
+      ∙ getD-append-add (s .scan) (s .desk ++ replicate 18 1) k 0
 
   pub desk-at : (k : ℕ) → k < 18 → getD (instanceOf s) (3 + (18 + k)) 0 ≡ getD (s .desk) k 0
   desk-at k l = after-scans k ∙ List·getD-append (s .desk) (replicate 18 1) 0 k (omega (arith, h .desk-length))
 
   after-desks : (k : ℕ) → getD (instanceOf s) (3 + (18 + (18 + k))) 0 ≡ getD {A = ℕ} (replicate 18 1) k 0
-  after-desks k = after-scans (18 + k) ∙ ap (λ (x : ℕ). getD (s .desk ++ replicate 18 1) (x + k) 0) (sym (h .desk-length)) ∙ getD-append-add (s .desk) (replicate 18 1) k 0
+  after-desks k =
+      after-scans (18 + k) ∙ ap (λ (x : ℕ). getD (s .desk ++ replicate 18 1) (x + k) 0) (sym (h .desk-length)) ∙ getD-append-add (s .desk) (replicate 18 1) k 0
 
   pub weight-at : (k : ℕ) → k < 18 → getD (instanceOf s) (3 + (18 + (18 + k))) 0 ≡ 1
   weight-at k l = after-desks k ∙ getD-replicate 18 k 1 0 l
@@ -142,7 +148,8 @@ timed-more {begun} {scan} {desk} {J} {k} w l = record {
 
     scans : (i : ℕ) → i < k + 1 → Dec (i ≡ k) → getD (set (set J (3 + k) (getD scan k 0)) (21 + k) (getD desk k 0)) (3 + i) 0 ≡ getD scan i 0
     scans i m (yes e) =
-        rw e (getD-set-other (set J (3 + k) (getD scan k 0)) (21 + k) (3 + k) (getD desk k 0) 0 (λ z. omega arith) ∙ getD-set-same J (3 + k) (getD scan k 0) 0 (omega (arith, w .size)))
+        rw e
+        (getD-set-other (set J (3 + k) (getD scan k 0)) (21 + k) (3 + k) (getD desk k 0) 0 (λ z. omega arith) ∙ getD-set-same J (3 + k) (getD scan k 0) 0 (omega (arith, w .size)))
     scans i m (no e) = other (3 + i) (λ z. omega arith) (λ z. omega (arith, w .within)) ∙ w .scans i (omega arith)
 
     desks : (i : ℕ) → i < k + 1 → Dec (i ≡ k) → getD (set (set J (3 + k) (getD scan k 0)) (21 + k) (getD desk k 0)) (21 + i) 0 ≡ getD desk i 0
@@ -151,13 +158,19 @@ timed-more {begun} {scan} {desk} {J} {k} w l = record {
 
 pub timed-end : {s : SortingSection} {J : List ℕ} {k : ℕ} → SortingSound s
     → Timed (counted (getD (s .counts) 0 0) (getD (s .counts) 1 0) (getD (s .counts) 2 0)) (s .scan) (s .desk) J k → 18 ≤ k → J ≡ instanceOf s
-timed-end {s} {J} {k} h w l = ext-getD 0 J (instanceOf s) (w .size ∙ sym (instance-length s h)) (λ x m. go x (omega (arith, w .size)) (decLt x 3) (decLt x 21) (decLt x 39))
+timed-end {s} {J} {k} h w l =
+    ext-getD 0 J (instanceOf s) (w .size ∙ sym (instance-length s h)) (λ x m. go x (omega (arith, w .size)) (decLt x 3) (decLt x 21) (decLt x 39))
   where
     join : (x y z : ℕ) → x ≡ y → z ≡ x → getD J y 0 ≡ getD (instanceOf s) z 0 → getD J x 0 ≡ getD (instanceOf s) x 0
     join x y z p q e = ap (λ (v : ℕ). getD J v 0) p ∙ e ∙ ap (λ (v : ℕ). getD (instanceOf s) v 0) q
 
     go : (x : ℕ) → x < 57 → Dec (x < 3) → Dec (x < 21) → Dec (x < 39) → getD J x 0 ≡ getD (instanceOf s) x 0
     go x m (yes p) q r = w .counts x p ∙ counted-at (s .counts) x p ∙ sym (count-at s h x p)
-    go x m (no p) (yes q) r = join x (3 + (x - 3)) (3 + (x - 3)) (omega arith) (omega arith) (w .scans (x - 3) (omega (arith, w .within)) ∙ sym (scan-at s h (x - 3) (omega arith)))
-    go x m (no p) (no q) (yes r) = join x (21 + (x - 21)) (3 + (18 + (x - 21))) (omega arith) (omega arith) (w .desks (x - 21) (omega (arith, w .within)) ∙ sym (desk-at s h (x - 21) (omega arith)))
-    go x m (no p) (no q) (no r) = join x (39 + (x - 39)) (3 + (18 + (18 + (x - 39)))) (omega arith) (omega arith) (w .weights (x - 39) (omega arith) ∙ sym (weight-at s h (x - 39) (omega arith)))
+    go x m (no p) (yes q) r =
+        join x (3 + (x - 3)) (3 + (x - 3)) (omega arith) (omega arith) (w .scans (x - 3) (omega (arith, w .within)) ∙ sym (scan-at s h (x - 3) (omega arith)))
+    go x m (no p) (no q) (yes r) =
+        join x (21 + (x - 21)) (3 + (18 + (x - 21))) (omega arith) (omega arith)
+        (w .desks (x - 21) (omega (arith, w .within)) ∙ sym (desk-at s h (x - 21) (omega arith)))
+    go x m (no p) (no q) (no r) =
+        join x (39 + (x - 39)) (3 + (18 + (18 + (x - 39)))) (omega arith) (omega arith)
+        (w .weights (x - 39) (omega arith) ∙ sym (weight-at s h (x - 39) (omega arith)))

@@ -100,11 +100,13 @@ module _ (s : SortingSection) (h : SortingSound s) where
 
   scan-end : (i : ℕ) → i < N → scanEnd s (jobAt (chosenJobs s) i) ≡ scanned J (S i) (F i)
   unfolding scanEnd
-  scan-end i l = omega (arith, scan-is i l, scan-time s h (jobAt (chosenJobs s) i) (F i) (getD (S i .taken) (F i) 0) (desk-is i l) (number-is i l) (in-slot i l))
+  scan-end i l =
+      omega (arith, scan-is i l, scan-time s h (jobAt (chosenJobs s) i) (F i) (getD (S i .taken) (F i) 0) (desk-is i l) (number-is i l) (in-slot i l))
 
   finish-is : (i : ℕ) → i < N → deskFinish s (jobAt (chosenJobs s) i) ≡ finish J (S i) (F i)
   unfolding deskFinish
-  finish-is i l = omega (arith, start-is i l, job-start J (S i) (F i), desk-time s h (jobAt (chosenJobs s) i) (F i) (getD (S i .taken) (F i) 0) (desk-is i l) (number-is i l) (in-slot i l))
+  finish-is i l =
+      omega (arith, start-is i l, job-start J (S i) (F i), desk-time s h (jobAt (chosenJobs s) i) (F i) (getD (S i .taken) (F i) 0) (desk-is i l) (number-is i l) (in-slot i l))
 
   -- the scanner's time and each desk's free time never fall
   time-next : (i : ℕ) → S (suc i) .time ≡ scanned J (S i) (F i)
@@ -147,12 +149,15 @@ module _ (s : SortingSection) (h : SortingSound s) where
     where
       next : Early (S i) i → i < N → Early (stepOf J (S i) (F i)) (suc i)
       next e m = record {
-        time = omega (arith, step-time J (S i) (F i), e .time, scan-of s h (F i) (getD (S i .taken) (F i) 0) (in-slot i m), h .most-scan (F i * 6 + getD (S i .taken) (F i) 0));
+        time =
+            omega (arith, step-time J (S i) (F i), e .time, scan-of s h (F i) (getD (S i .taken) (F i) 0) (in-slot i m), h .most-scan (F i * 6 + getD (S i .taken) (F i) 0));
         free = λ d. at d (ℕ-discrete d (F i));
       }
         where
           at : (d : ℕ) → Dec (d ≡ F i) → getD (stepOf J (S i) (F i) .free) d 0 ≤ suc i * 20000
-          at d (yes q) = subst (λ (x : ℕ). getD (stepOf J (S i) (F i) .free) x 0 ≤ suc i * 20000) (sym q) (omega (arith, free-same J (S i) (F i) (omega (arith, lengths i, desk-low i m)), finish-early i m e))
+          at d (yes q) =
+              subst (λ (x : ℕ). getD (stepOf J (S i) (F i) .free) x 0 ≤ suc i * 20000) (sym q)
+              (omega (arith, free-same J (S i) (F i) (omega (arith, lengths i, desk-low i m)), finish-early i m e))
           at d (no q) = omega (arith, free-other J (S i) (F i) d q, e .free d)
 
   few-strips : N ≤ 18
@@ -163,7 +168,8 @@ module _ (s : SortingSection) (h : SortingSound s) where
 
   taken : (i : ℕ) → i ≤ N → (d : ℕ) → d < 3 → getD (S i .taken) d 0 ≡ jobsOf (chosenJobs s) (d + 1) i
   taken =
-      taken-is J (startState J) F (chosenJobs s) N (consistent-start J j .fits .frees) (consistent-start J j .fits .takens) (start-taken J) (λ i l. (desk-is i l, desk-low i l))
+      taken-is J (startState J) F (chosenJobs s) N (consistent-start J j .fits .frees) (consistent-start J j .fits .takens) (start-taken J)
+      (λ i l. (desk-is i l, desk-low i l))
 
   none-left : S N .left ≡ 0
   none-left = omega (arith, reached-left J j (startState J) (consistent-start J j) F N (way .serves) N (le-refl _))
@@ -176,10 +182,13 @@ module _ (s : SortingSection) (h : SortingSound s) where
       go (no p) = absurd (omega (arith, way .serves i l, no-strips s h (F i) (desk-low i l) (omega arith)))
 
   in-turn : (i : ℕ) → i < N → jobAt (chosenJobs s) i .number ≡ jobsOf (chosenJobs s) (jobAt (chosenJobs s) i .desk) i + 1
-  in-turn i l = number-is i l ∙ ap (λ (x : ℕ). x + 1) (taken i (omega arith) (F i) (desk-low i l) ∙ ap (λ (x : ℕ). jobsOf (chosenJobs s) x i) (sym (desk-is i l)))
+  in-turn i l =
+      number-is i l ∙ ap (λ (x : ℕ). x + 1) (taken i (omega arith) (F i) (desk-low i l) ∙ ap (λ (x : ℕ). jobsOf (chosenJobs s) x i) (sym (desk-is i l)))
 
   all-strips : (desk : ℕ) → 1 ≤ desk → desk ≤ s .desks → jobsOf (chosenJobs s) desk N ≡ stripsOf s desk
-  all-strips desk p q = subst (λ (x : ℕ). jobsOf (chosenJobs s) x N ≡ stripsOf s x) back (sym (taken N (le-refl _) (desk - 1) low) ∙ all-taken J (S N) (consistent N (le-refl _)) none-left (desk - 1) low ∙ sym (strips-of s h (desk - 1) low))
+  all-strips desk p q =
+      subst (λ (x : ℕ). jobsOf (chosenJobs s) x N ≡ stripsOf s x) back
+      (sym (taken N (le-refl _) (desk - 1) low) ∙ all-taken J (S N) (consistent N (le-refl _)) none-left (desk - 1) low ∙ sym (strips-of s h (desk - 1) low))
     where
       back : desk - 1 + 1 ≡ desk
       back = omega arith
@@ -219,7 +228,8 @@ module _ (s : SortingSection) (h : SortingSound s) where
   cost-is (suc i) l = step-cost J (S i) (F i) ∙ next (cost-is i (omega arith)) (omega arith)
     where
       next : S i .cost ≡ sumOver i (λ k. deskFinish s (jobAt (chosenJobs s) k)) → i < N
-          → S i .cost + weightOf J (F i) (getD (S i .taken) (F i) 0) * finish J (S i) (F i) ≡ sumOver i (λ k. deskFinish s (jobAt (chosenJobs s) k)) + deskFinish s (jobAt (chosenJobs s) i)
+          → S i .cost + weightOf J (F i) (getD (S i .taken) (F i) 0) * finish J (S i) (F i)
+          ≡ sumOver i (λ k. deskFinish s (jobAt (chosenJobs s) k)) + deskFinish s (jobAt (chosenJobs s) i)
       next e m = rw (weight-of s h (F i) (getD (S i .taken) (F i) 0) (in-slot i m)) (omega (arith, e, finish-is i m))
 
   pub chosen-figure : sortingFigure s (chosenJobs s) ≡ leastFigure s

@@ -1,4 +1,5 @@
--- No lawful timetable has a smaller figure, none with the same scanner list starts anything sooner, and of those with the least figure the chosen one has the first list.
+-- No lawful timetable has a smaller figure, none with the same scanner list starts anything sooner, and of those with the least figure the chosen one has the
+-- first list.
 -- The search's states along a timetable's own list are never later than the timetable.
 use mathlib.Core.Path.{_≡_, sym, ap, subst, _∙_}
 use mathlib.Core.List.{List}
@@ -21,7 +22,8 @@ use Rattle.interleaving.specs.Consistent.{Consistent, consistent-start}
 use Rattle.interleaving.specs.Completion.{bound-completes, search-first, step-path}
 use Rattle.sorting.specs.Plan.{instanceOf, leastFigure, reached, chosenJobs}
 use Rattle.sorting.specs.Instance.{instance-sound, weight-of}
-use Rattle.sorting.specs.Route.{Serves, reached-same, reached-next, reached-consistent, reached-left, reached-lengths, reached-rest, path-begins, step-time, step-cost, free-same, free-other, taken-is}
+use Rattle.sorting.specs.Route.{Serves, reached-same, reached-next, reached-consistent, reached-left, reached-lengths, reached-rest, path-begins}
+use Rattle.sorting.specs.Route.{step-time, step-cost, free-same, free-other, taken-is}
 use Rattle.sorting.specs.Chosen.{chosenDesk, chosenState, chosen}
 use Rattle.sorting.specs.Times.{scan-time, desk-time, strips-of, no-strips, start-taken, start-free, start-time, start-cost}
 use Rattle.sorting.specs.Lawful.{job-start, desk-is, scan-is, start-is}
@@ -82,13 +84,16 @@ module _ (s : SortingSection) (h : SortingSound s) (js : List Job) (law : Sortin
 
   completes : Completes J (startState J .left) (startState J) (T (length js))
   unfolding reached
-  completes = subst (λ (k : ℕ). Completes J k (startState J) (T (length js))) lawful-length (reached-rest J (startState J) G (length js) serves (length js) 0 (omega arith))
+  completes =
+      subst (λ (k : ℕ). Completes J k (startState J) (T (length js))) lawful-length
+      (reached-rest J (startState J) G (length js) serves (length js) 0 (omega arith))
 
   lengths : (i : ℕ) → (length (T i .free) ≡ 3) × (length (T i .taken) ≡ 3)
   lengths = reached-lengths J (startState J) G (consistent-start J j .fits .frees) (consistent-start J j .fits .takens)
 
   number-is : (i : ℕ) → i < length js → jobAt js i .number ≡ getD (T i .taken) (G i) 0 + 1
-  number-is i l = law .in-turn i l ∙ ap (λ (x : ℕ). x + 1) (ap (λ (x : ℕ). jobsOf js x i) (desk-of-job i l .0) ∙ sym (taken i (omega arith) (G i) (desk-of-job i l .1)))
+  number-is i l =
+      law .in-turn i l ∙ ap (λ (x : ℕ). x + 1) (ap (λ (x : ℕ). jobsOf js x i) (desk-of-job i l .0) ∙ sym (taken i (omega arith) (G i) (desk-of-job i l .1)))
 
   in-slot : (i : ℕ) → i < length js → G i * 6 + getD (T i .taken) (G i) 0 < 18
   in-slot i l = omega (arith, serves i l, j .few (G i) (desk-of-job i l .1))
@@ -109,7 +114,8 @@ module _ (s : SortingSection) (h : SortingSound s) (js : List Job) (law : Sortin
 
   start-ahead : (i : ℕ) → i < length js → Ahead (T i) i → max (getD (T i .free) (G i) 0) (scanned J (T i) (G i)) ≤ jobAt js i .start
   start-ahead i l a =
-      max-least (getD (T i .free) (G i) 0) (scanned J (T i) (G i)) (jobAt js i .start) (a .free i (le-refl _) l) (omega (arith, a .time i (le-refl _) l, scan-end i l, law .each i l .after-scan))
+      max-least (getD (T i .free) (G i) 0) (scanned J (T i) (G i)) (jobAt js i .start) (a .free i (le-refl _) l)
+      (omega (arith, a .time i (le-refl _) l, scan-end i l, law .each i l .after-scan))
 
   finish-ahead : (i : ℕ) → i < length js → Ahead (T i) i → finish J (T i) (G i) ≤ deskFinish s (jobAt js i)
   finish-ahead i l a = omega (arith, start-ahead i l a, finish-of i l)

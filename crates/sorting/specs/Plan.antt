@@ -33,7 +33,8 @@ jobOf J s d = record { desk = d + 1; number = getD (s .taken) d 0 + 1; scan = s 
 -- the jobs of the scanner list that has the number p
 unfoldable pub jobsOfList : List ℕ → ℕ → List Job
 jobsOfList J p =
-    listed (startState J .left) (λ i. jobOf J (reached J (startState J) (λ k. listedDesk p (startState J .left) k - 1) i) (listedDesk p (startState J .left) i - 1))
+    listed (startState J .left)
+    (λ i. jobOf J (reached J (startState J) (λ k. listedDesk p (startState J .left) k - 1) i) (listedDesk p (startState J .left) i - 1))
 
 unfoldable pub chosenJobs : SortingSection → List Job
 chosenJobs s = jobsOfList (instanceOf s) (firstBest (instanceOf s) .path)

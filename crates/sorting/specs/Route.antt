@@ -34,7 +34,8 @@ rises f n h i (suc k) l m = go (ℕ-discrete i (suc k)) (λ q. rises f n h i k q
 pub reached-same : (J : List ℕ) (s : State) (f g : ℕ → ℕ) (n : ℕ) → ((i : ℕ) → i < n → f i ≡ g i) → reached J s f n ≡ reached J s g n
 unfolding reached
 reached-same J s f g zero h = refl
-reached-same J s f g (suc n) h = ap (λ (x : State). stepOf J x (f n)) (reached-same J s f g n (λ i l. h i (omega arith))) ∙ ap (stepOf J (reached J s g n)) (h n (omega arith))
+reached-same J s f g (suc n) h =
+    ap (λ (x : State). stepOf J x (f n)) (reached-same J s f g n (λ i l. h i (omega arith))) ∙ ap (stepOf J (reached J s g n)) (h n (omega arith))
 
 pub reached-next : (J : List ℕ) (s : State) (f : ℕ → ℕ) (i : ℕ) → reached J s f (suc i) ≡ stepOf J (reached J s f i) (f i)
 unfolding reached
@@ -97,7 +98,9 @@ reached-lengths J s f p q (suc i) = (simp length-set (reached-lengths J s f p q 
 pub completion : (J : List ℕ) → Instance J → (k : ℕ) (s : State) → Consistent J s → s .left ≡ k → (e : State) × Completes J k s e × Consistent J e
 unfolding Completes
 completion J j zero s g e = (s, refl, g)
-completion J j (suc k) s g e = go (decLt (getD (s .taken) 0 0) (getD J 0 0)) (decLt (getD (s .taken) 1 0) (getD J 1 0)) (λ d p m. completion J j k (stepOf J s d) (consistent-step J j s g d p m (omega arith)) (step-left J s d ∙ less))
+completion J j (suc k) s g e =
+    go (decLt (getD (s .taken) 0 0) (getD J 0 0)) (decLt (getD (s .taken) 1 0) (getD J 1 0))
+    (λ d p m. completion J j k (stepOf J s d) (consistent-step J j s g d p m (omega arith)) (step-left J s d ∙ less))
   where
     less : s .left - 1 ≡ k
     less = omega arith

@@ -34,14 +34,13 @@ pub sorting-earliest : (s : SortingSection) → SortingSound s → (js : List Jo
     → (i : ℕ) → i < length js → (jobAt (chosenJobs s) i .scan ≤ jobAt js i .scan) × (jobAt (chosenJobs s) i .start ≤ jobAt js i .start)
 sorting-earliest s sound js law same i l = lawful-later s sound js law same i l
 
--- Of all timetables of the least figure it has the first scanner list in desk order: where another one parts from it first, the chosen desk has the lower number.
+-- Of all timetables of the least figure it has the first scanner list in desk order: where another one parts from it first, the chosen desk has the lower
+-- number.
 pub sorting-first : (s : SortingSection) → SortingSound s → (js : List Job) → SortingLawful s js → sortingFigure s js ≡ leastFigure s
-    → (i : ℕ) → i < length js → ((k : ℕ) → k < i → jobAt js k .desk ≡ jobAt (chosenJobs s) k .desk) → (jobAt js i .desk ≡ jobAt (chosenJobs s) i .desk → ⊥) → jobAt (chosenJobs s) i .desk < jobAt js i .desk
-sorting-first s sound js law least i l same parts = below (lawful-first s sound js law least i l same) parts
-  where
-    below : jobAt (chosenJobs s) i .desk ≤ jobAt js i .desk → (jobAt js i .desk ≡ jobAt (chosenJobs s) i .desk → ⊥)
-        → jobAt (chosenJobs s) i .desk < jobAt js i .desk
-    below l n = omega arith
+    → (i : ℕ) → i < length js → ((k : ℕ) → k < i → jobAt js k .desk ≡ jobAt (chosenJobs s) k .desk)
+    → (jobAt js i .desk ≡ jobAt (chosenJobs s) i .desk → ⊥)
+    → jobAt (chosenJobs s) i .desk < jobAt js i .desk
+sorting-first s sound js law least i l same parts = omega (arith, lawful-first s sound js law least i l same)
 
 -- Every timetable has as many jobs, one for each strip, at most 18.
 pub sorting-length : (s : SortingSection) → SortingSound s → (js : List Job) → SortingLawful s js → length js ≡ length (chosenJobs s)
@@ -57,7 +56,8 @@ sorting-early s sound i l = chosen-early s sound i (omega (arith, chosen-length 
 -- A section without strips has figure 0 and no job.
 pub sorting-absent : (s : SortingSection) → SortingSound s → ((d : ℕ) → d < 3 → getD (s .counts) d 0 ≡ 0) → (leastFigure s ≡ 0) × (chosenJobs s ≡ [])
 unfolding sortingFigure sumOver startState
-sorting-absent s sound none = (sym (sorting-figure s sound) ∙ ap (λ (n : ℕ). sumOver n (λ i. deskFinish s (jobAt (chosenJobs s) i))) no-job, empty (chosenJobs s) no-job)
+sorting-absent s sound none =
+    (sym (sorting-figure s sound) ∙ ap (λ (n : ℕ). sumOver n (λ i. deskFinish s (jobAt (chosenJobs s) i))) no-job, empty (chosenJobs s) no-job)
   where
     no-strip : (d : ℕ) → d < 3 → getD (instanceOf s) d 0 ≡ 0
     no-strip d l = count-at s sound d l ∙ none d l

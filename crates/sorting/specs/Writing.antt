@@ -47,7 +47,8 @@ withJob J s d p = record {
 
 -- the plan of the chosen list with its first i jobs written, and with all of them
 unfoldable pub writtenTo : List ℕ → ℕ → SortingPlan
-writtenTo J zero = record { figure = firstBest J .figure; jobs = 0; desk = replicate 18 0; number = replicate 18 0; scan = replicate 18 0; start = replicate 18 0 }
+writtenTo J zero =
+    record { figure = firstBest J .figure; jobs = 0; desk = replicate 18 0; number = replicate 18 0; scan = replicate 18 0; start = replicate 18 0 }
 writtenTo J (suc i) = withJob J (chosenState J i) (chosenDesk J i) (writtenTo J i)
 
 abbrev pub writtenPlan : List ℕ → SortingPlan
@@ -101,14 +102,18 @@ pub record Begun (J : List ℕ) (b : Incumbent) (p : SortingPlan) (s : State) : 
   pub figure : p .figure ≡ b .figure
   pub listed : listed (p .jobs) (planJob p) ≡ listed (p .jobs) (chosenJob J)
 
-pub begun-start : {J : List ℕ} {b : Incumbent} {s : State} → PlanOfPre J b → s ≡ startState J → Begun J b (record { figure = b .figure; jobs = 0; desk = replicate 18 0; number = replicate 18 0; scan = replicate 18 0; start = replicate 18 0 }) s
+pub begun-start : {J : List ℕ} {b : Incumbent} {s : State} → PlanOfPre J b → s ≡ startState J
+    → Begun J b (record { figure = b .figure; jobs = 0; desk = replicate 18 0; number = replicate 18 0; scan = replicate 18 0; start = replicate 18 0 }) s
 unfolding reached listed writtenTo
 begun-start h e = record {
   jobs = h .jobs;
   best = h .best;
   within = omega arith;
   state = e;
-  exact = ap (λ (x : Incumbent). record { figure = x .figure; jobs = 0; desk = replicate 18 0; number = replicate 18 0; scan = replicate 18 0; start = replicate 18 0 }) (h .best);
+  exact =
+      ap
+      (λ (x : Incumbent). record { figure = x .figure; jobs = 0; desk = replicate 18 0; number = replicate 18 0; scan = replicate 18 0; start = replicate 18 0 })
+      (h .best);
   sized = record { desk = refl; number = refl; scan = refl; start = refl };
   figure = refl;
   listed = refl;
@@ -126,11 +131,13 @@ record Next (J : List ℕ) (p : SortingPlan) (s : State) (digit : ℕ) : Type 0 
 module _ {J : List ℕ} {b : Incumbent} {p : SortingPlan} {s : State} where
   left-is : Begun J b p s → s .left + p .jobs ≡ startState J .left
   left-is h =
-      ap (λ (x : State). x .left + p .jobs) (h .state) ∙ reached-left J (h .jobs) (startState J) (consistent-start J (h .jobs)) (chosenDesk J) (startState J .left) (chosen J (h .jobs) .serves) (p .jobs) (h .within)
+      ap (λ (x : State). x .left + p .jobs) (h .state)
+      ∙ reached-left J (h .jobs) (startState J) (consistent-start J (h .jobs)) (chosenDesk J) (startState J .left) (chosen J (h .jobs) .serves) (p .jobs) (h .within)
 
   consistent-is : Begun J b p s → Consistent J s
   consistent-is h =
-      subst (Consistent J) (sym (h .state)) (reached-consistent J (h .jobs) (startState J) (consistent-start J (h .jobs)) (chosenDesk J) (startState J .left) (chosen J (h .jobs) .serves) (p .jobs) (h .within))
+      subst (Consistent J) (sym (h .state))
+      (reached-consistent J (h .jobs) (startState J) (consistent-start J (h .jobs)) (chosenDesk J) (startState J .left) (chosen J (h .jobs) .serves) (p .jobs) (h .within))
 
   next : {digit : ℕ} → Begun J b p s → 0 < s .left → digit ≡ b .path / 4 ^ (s .left - 1) % 4 → Next J p s digit
   unfolding listedDesk
@@ -168,14 +175,18 @@ module _ (J : List ℕ) (s : State) (d : ℕ) (p : SortingPlan) (z : Sized p) (r
   with-job-before : (i : ℕ) → i < p .jobs → planJob (withJob J s d p) i ≡ planJob p i
   unfolding withJob
   with-job-before i l =
-      same-job _ _ (getD-set-other (p .desk) (p .jobs) i (d + 1) 0 (λ e. omega arith)) (getD-set-other (p .number) (p .jobs) i (getD (s .taken) d 0 + 1) 0 (λ e. omega arith))
-      (getD-set-other (p .scan) (p .jobs) i (s .time) 0 (λ e. omega arith)) (getD-set-other (p .start) (p .jobs) i (max (getD (s .free) d 0) (scanned J s d)) 0 (λ e. omega arith))
+      same-job _ _ (getD-set-other (p .desk) (p .jobs) i (d + 1) 0 (λ e. omega arith))
+      (getD-set-other (p .number) (p .jobs) i (getD (s .taken) d 0 + 1) 0 (λ e. omega arith))
+      (getD-set-other (p .scan) (p .jobs) i (s .time) 0 (λ e. omega arith))
+      (getD-set-other (p .start) (p .jobs) i (max (getD (s .free) d 0) (scanned J s d)) 0 (λ e. omega arith))
 
   with-job-last : planJob (withJob J s d p) (p .jobs) ≡ jobOf J s d
   unfolding withJob jobOf
   with-job-last =
-      same-job _ _ (getD-set-same (p .desk) (p .jobs) (d + 1) 0 (omega (arith, z .desk))) (getD-set-same (p .number) (p .jobs) (getD (s .taken) d 0 + 1) 0 (omega (arith, z .number)))
-      (getD-set-same (p .scan) (p .jobs) (s .time) 0 (omega (arith, z .scan))) (getD-set-same (p .start) (p .jobs) (max (getD (s .free) d 0) (scanned J s d)) 0 (omega (arith, z .start)))
+      same-job _ _ (getD-set-same (p .desk) (p .jobs) (d + 1) 0 (omega (arith, z .desk)))
+      (getD-set-same (p .number) (p .jobs) (getD (s .taken) d 0 + 1) 0 (omega (arith, z .number)))
+      (getD-set-same (p .scan) (p .jobs) (s .time) 0 (omega (arith, z .scan)))
+      (getD-set-same (p .start) (p .jobs) (max (getD (s .free) d 0) (scanned J s d)) 0 (omega (arith, z .start)))
 
   with-job-listed : listed (suc (p .jobs)) (planJob (withJob J s d p)) ≡ listed (p .jobs) (planJob p) ++ (jobOf J s d ∷ [])
   unfolding listed
@@ -183,7 +194,8 @@ module _ (J : List ℕ) (s : State) (d : ℕ) (p : SortingPlan) (z : Sized p) (r
 
   with-job-sized : Sized (withJob J s d p)
   unfolding withJob
-  with-job-sized = record { desk = simp length-set (z .desk); number = simp length-set (z .number); scan = simp length-set (z .scan); start = simp length-set (z .start) }
+  with-job-sized =
+      record { desk = simp length-set (z .desk); number = simp length-set (z .number); scan = simp length-set (z .scan); start = simp length-set (z .start) }
 
   with-job-jobs : withJob J s d p .jobs ≡ p .jobs + 1
   unfolding withJob
@@ -198,16 +210,24 @@ module _ {J : List ℕ} {b : Incumbent} {p : SortingPlan} {s : State} {digit : �
   job-is h w = ap (λ (x : State). jobOf J x (digit - 1)) (h .state) ∙ ap (jobOf J (chosenState J (p .jobs))) (w .desk)
 
   state-is : Begun J b p s → Next J p s digit → stepOf J s (digit - 1) ≡ chosenState J (suc (p .jobs))
-  state-is h w = ap (λ (x : State). stepOf J x (digit - 1)) (h .state) ∙ ap (stepOf J (chosenState J (p .jobs))) (w .desk) ∙ sym (reached-next J (startState J) (chosenDesk J) (p .jobs))
+  state-is h w =
+      ap (λ (x : State). stepOf J x (digit - 1)) (h .state)
+      ∙ ap (stepOf J (chosenState J (p .jobs))) (w .desk)
+      ∙ sym (reached-next J (startState J) (chosenDesk J) (p .jobs))
 
   jobs-are : Begun J b p s → Next J p s digit → listed (suc (p .jobs)) (planJob (withJob J s (digit - 1) p)) ≡ listed (suc (p .jobs)) (chosenJob J)
   unfolding listed
-  jobs-are h w = with-job-listed J s (digit - 1) p (h .sized) (w .room) ∙ ap (λ (l : List Job). l ++ (jobOf J s (digit - 1) ∷ [])) (h .listed) ∙ ap (λ (x : Job). listed (p .jobs) (chosenJob J) ++ (x ∷ [])) (job-is h w)
+  jobs-are h w =
+      with-job-listed J s (digit - 1) p (h .sized) (w .room)
+      ∙ ap (λ (l : List Job). l ++ (jobOf J s (digit - 1) ∷ [])) (h .listed)
+      ∙ ap (λ (x : Job). listed (p .jobs) (chosenJob J) ++ (x ∷ [])) (job-is h w)
 
   plan-is : Begun J b p s → Next J p s digit → withJob J s (digit - 1) p ≡ writtenTo J (suc (p .jobs))
   unfolding writtenTo
   plan-is h w =
-      ap (withJob J s (digit - 1)) (h .exact) ∙ ap (λ (x : State). withJob J x (digit - 1) (writtenTo J (p .jobs))) (h .state) ∙ ap (λ (d : ℕ). withJob J (chosenState J (p .jobs)) d (writtenTo J (p .jobs))) (w .desk)
+      ap (withJob J s (digit - 1)) (h .exact)
+      ∙ ap (λ (x : State). withJob J x (digit - 1) (writtenTo J (p .jobs))) (h .state)
+      ∙ ap (λ (d : ℕ). withJob J (chosenState J (p .jobs)) d (writtenTo J (p .jobs))) (w .desk)
 
   begun-next : Begun J b p s → Next J p s digit → Begun J b (withJob J s (digit - 1) p) (stepOf J s (digit - 1))
   begun-next h w = record {

@@ -70,7 +70,8 @@ module _ (J : List ℕ) (s : State) (g : Consistent J s) (d : ℕ) (p : d < 3) (
   same-rest : deskRest J s d ≡ weightOf J d (getD (s .taken) d 0) * finish J s d + deskRest J (stepOf J s d) d
   unfolding deskRest stepOf
   same-rest =
-      rw (getD-set-same (s .taken) d (getD (s .taken) d 0 + 1) 0 (omega (arith, g .fits .takens)), getD-set-same (s .free) d (finish J s d) 0 (omega (arith, g .fits .frees)))
+      rw
+      (getD-set-same (s .taken) d (getD (s .taken) d 0 + 1) 0 (omega (arith, g .fits .takens)), getD-set-same (s .free) d (finish J s d) 0 (omega (arith, g .fits .frees)))
       (alone-one J d (getD J d 0) (getD (s .taken) d 0) (s .time) (getD (s .free) d 0) m)
 
   other-rest : (e : ℕ) → (e ≡ d → ⊥) → deskRest J s e ≤ deskRest J (stepOf J s d) e
@@ -85,9 +86,12 @@ step-cost J s d = refl
 
 lower-step : (J : List ℕ) (s : State) → Consistent J s → (d : ℕ) → d < 3 → StripLeft J s d → deskBound J s ≤ deskBound J (stepOf J s d)
 unfolding deskBound
-lower-step J s g zero p m = omega (arith, step-cost J s 0, same-rest J s g 0 p m, other-rest J s g 0 p m 1 (λ e. omega arith), other-rest J s g 0 p m 2 (λ e. omega arith))
-lower-step J s g (suc zero) p m = omega (arith, step-cost J s 1, same-rest J s g 1 p m, other-rest J s g 1 p m 0 (λ e. omega arith), other-rest J s g 1 p m 2 (λ e. omega arith))
-lower-step J s g (suc (suc zero)) p m = omega (arith, step-cost J s 2, same-rest J s g 2 p m, other-rest J s g 2 p m 0 (λ e. omega arith), other-rest J s g 2 p m 1 (λ e. omega arith))
+lower-step J s g zero p m =
+    omega (arith, step-cost J s 0, same-rest J s g 0 p m, other-rest J s g 0 p m 1 (λ e. omega arith), other-rest J s g 0 p m 2 (λ e. omega arith))
+lower-step J s g (suc zero) p m =
+    omega (arith, step-cost J s 1, same-rest J s g 1 p m, other-rest J s g 1 p m 0 (λ e. omega arith), other-rest J s g 1 p m 2 (λ e. omega arith))
+lower-step J s g (suc (suc zero)) p m =
+    omega (arith, step-cost J s 2, same-rest J s g 2 p m, other-rest J s g 2 p m 0 (λ e. omega arith), other-rest J s g 2 p m 1 (λ e. omega arith))
 lower-step J s g (suc (suc (suc d))) p m = absurd (omega arith)
 
 module _ (J : List ℕ) (j : Instance J) where
@@ -103,7 +107,8 @@ module _ (J : List ℕ) (j : Instance J) where
 
       no-rest : (d : ℕ) → getD J d 0 ≤ getD (s .taken) d 0 → deskRest J s d ≡ 0
       no-rest d l = alone-none J d (getD J d 0) (getD (s .taken) d 0) (s .time) (getD (s .free) d 0) l
-  desk-bound-holds (suc k) s g e = λ d p m. bound-down J k (stepOf J s d) _ _ (lower-step J s g d p m) (desk-bound-holds k (stepOf J s d) (consistent-step J j s g d p m (omega arith)) (step-left J s d ∙ less))
+  desk-bound-holds (suc k) s g e =
+      λ d p m. bound-down J k (stepOf J s d) _ _ (lower-step J s g d p m) (desk-bound-holds k (stepOf J s d) (consistent-step J j s g d p m (omega arith)) (step-left J s d ∙ less))
     where
       less : s .left - 1 ≡ k
       less = omega arith
@@ -119,7 +124,8 @@ pub record RestSoFar (J : List ℕ) (w d i t f sum : ℕ) : Type 0 where
   pub is : sum + aloneSum J d (getD J d 0 - i) i t f ≡ w
 
 module _ (J : List ℕ) (j : Instance J) (s : State) (g : Consistent J s) (d : ℕ) (p : d < 3) where
-  pub rest-none : RestSoFar J (aloneSum J d (getD J d 0 - getD (s .taken) d 0) (getD (s .taken) d 0) (s .time) (getD (s .free) d 0)) d (getD (s .taken) d 0) (s .time) (getD (s .free) d 0) 0
+  pub rest-none : RestSoFar J (aloneSum J d (getD J d 0 - getD (s .taken) d 0) (getD (s .taken) d 0) (s .time) (getD (s .free) d 0)) d (getD (s .taken) d 0)
+      (s .time) (getD (s .free) d 0) 0
   rest-none = record {
     within = g .within d p;
     six = j .few d p;

@@ -106,19 +106,22 @@ module _ (J M : List ℕ) (j : Instance J) (t : EntriesFrom J M 0) where
     key-0 : countKey (stepOf J s 0) ≡ countKey s + 49
     unfolding stepOf
     key-0 =
-        rw (getD-set-same (s .taken) 0 (getD (s .taken) 0 0 + 1) 0 (omega (arith, g .fits .takens)), getD-set-other (s .taken) 0 1 (getD (s .taken) 0 0 + 1) 0 (λ e. omega arith), getD-set-other (s .taken) 0 2 (getD (s .taken) 0 0 + 1) 0 (λ e. omega arith))
+        rw
+        (getD-set-same (s .taken) 0 (getD (s .taken) 0 0 + 1) 0 (omega (arith, g .fits .takens)), getD-set-other (s .taken) 0 1 (getD (s .taken) 0 0 + 1) 0 (λ e. omega arith), getD-set-other (s .taken) 0 2 (getD (s .taken) 0 0 + 1) 0 (λ e. omega arith))
         (omega arith)
 
     key-1 : countKey (stepOf J s 1) ≡ countKey s + 7
     unfolding stepOf
     key-1 =
-        rw (getD-set-same (s .taken) 1 (getD (s .taken) 1 0 + 1) 0 (omega (arith, g .fits .takens)), getD-set-other (s .taken) 1 0 (getD (s .taken) 1 0 + 1) 0 (λ e. omega arith), getD-set-other (s .taken) 1 2 (getD (s .taken) 1 0 + 1) 0 (λ e. omega arith))
+        rw
+        (getD-set-same (s .taken) 1 (getD (s .taken) 1 0 + 1) 0 (omega (arith, g .fits .takens)), getD-set-other (s .taken) 1 0 (getD (s .taken) 1 0 + 1) 0 (λ e. omega arith), getD-set-other (s .taken) 1 2 (getD (s .taken) 1 0 + 1) 0 (λ e. omega arith))
         (omega arith)
 
     key-2 : countKey (stepOf J s 2) ≡ countKey s + 1
     unfolding stepOf
     key-2 =
-        rw (getD-set-same (s .taken) 2 (getD (s .taken) 2 0 + 1) 0 (omega (arith, g .fits .takens)), getD-set-other (s .taken) 2 0 (getD (s .taken) 2 0 + 1) 0 (λ e. omega arith), getD-set-other (s .taken) 2 1 (getD (s .taken) 2 0 + 1) 0 (λ e. omega arith))
+        rw
+        (getD-set-same (s .taken) 2 (getD (s .taken) 2 0 + 1) 0 (omega (arith, g .fits .takens)), getD-set-other (s .taken) 2 0 (getD (s .taken) 2 0 + 1) 0 (λ e. omega arith), getD-set-other (s .taken) 2 1 (getD (s .taken) 2 0 + 1) 0 (λ e. omega arith))
         (omega arith)
 
     share-at : (d i : ℕ) → i ≡ getD (s .taken) d 0 → share J (timeAt J (countKey s)) d i ≤ weightOf J d (getD (s .taken) d 0) * finish J s d
@@ -137,7 +140,8 @@ module _ (J M : List ℕ) (j : Instance J) (t : EntriesFrom J M 0) where
   pub scanner-bound-holds : (k : ℕ) (s : State) → Consistent J s → s .left ≡ k → LowerBound J k s (scannerBound M s)
   unfolding LowerBound
   scanner-bound-holds zero s g e = scanner-leaf s g e
-  scanner-bound-holds (suc k) s g e = λ d p m. bound-down J k (stepOf J s d) _ _ (scanner-step s g d p m) (scanner-bound-holds k (stepOf J s d) (consistent-step J j s g d p m (omega arith)) (step-left J s d ∙ less))
+  scanner-bound-holds (suc k) s g e =
+      λ d p m. bound-down J k (stepOf J s d) _ _ (scanner-step s g d p m) (scanner-bound-holds k (stepOf J s d) (consistent-step J j s g d p m (omega arith)) (step-left J s d ∙ less))
     where
       less : s .left - 1 ≡ k
       less = omega arith

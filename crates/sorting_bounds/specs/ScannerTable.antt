@@ -17,7 +17,8 @@ use Rattle.interleaving.specs.Instance.{Instance, desk-capped, scanOf, deskOf, 
 use Rattle.interleaving.specs.Consistent.{Consistent, scanSum}
 use Rattle.sorting_bounds.specs.Layout.{countKey, labelsLength, searchLength}
 use Rattle.sorting_bounds.specs.DeskBound.{boundCap}
-use Rattle.sorting_bounds.specs.ScannerBound.{entryCap, firstCount, secondCount, thirdCount, timeAt, share, entryAt, throughOf, entryOf, filledFrom, Entry, EntriesFrom, scannerBound}
+use Rattle.sorting_bounds.specs.ScannerBound.{entryCap, firstCount, secondCount, thirdCount, timeAt, share, entryAt, throughOf, entryOf, filledFrom}
+use Rattle.sorting_bounds.specs.ScannerBound.{Entry, EntriesFrom, scannerBound}
 
 -- scan_sum
 pub record ScanSum (J : List ℕ) (d n r : ℕ) : Type 0 where
@@ -106,7 +107,9 @@ unfolding throughOf
 through-of J t d i rest = go (decLt i (getD J d 0))
   where
     go : Dec (i < getD J d 0) → Through J t d i rest (cond (leb (getD J d 0) i) entryCap (min (share J t d i + rest) entryCap))
-    go (yes l) = rw (lt-leb (getD J d 0) i l) (record { capped = lesser-least (share J t d i + rest) entryCap .1; least = λ m. lesser-least (share J t d i + rest) entryCap .0 })
+    go (yes l) =
+        rw (lt-leb (getD J d 0) i l)
+        (record { capped = lesser-least (share J t d i + rest) entryCap .1; least = λ m. lesser-least (share J t d i + rest) entryCap .0 })
     go (no l) = rw (le-leb (getD J d 0) i (omega arith)) (record { capped = le-refl _; least = λ m. absurd (l m) })
 
 -- scanner_entry
@@ -168,7 +171,8 @@ pub entry-some : {J M : List ℕ} {k t a b c x y z u r : ℕ} → ScannerEntryPr
     → ScanSum J 0 (firstCount k) a → ScanSum J 1 (secondCount k) b → ScanSum J 2 (thirdCount k) c → t ≡ a + b + c
     → firstCount k + secondCount k + thirdCount k < getD J 0 0 + getD J 1 0 + getD J 2 0 → r ≡ entryOf J M k
 unfolding entryOf
-entry-some {J} {M} {k} {t} e w v f g h p q s i some = rw (lt-leb (getD J 0 0 + getD J 1 0 + getD J 2 0) (firstCount k + secondCount k + thirdCount k) some, w, v, f, g, h, i, time-at k p q s)
+entry-some {J} {M} {k} {t} e w v f g h p q s i some =
+    rw (lt-leb (getD J 0 0 + getD J 1 0 + getD J 2 0) (firstCount k + secondCount k + thirdCount k) some, w, v, f, g, h, i, time-at k p q s)
 
 -- an entry is what the bound asks of it
 entry-of : (J M : List ℕ) (k : ℕ) → Entry J M k (entryOf J M k)
@@ -185,7 +189,8 @@ entry-of J M k = go (decLt (firstCount k + secondCount k + thirdCount k) (getD J
     z = throughOf J (timeAt J k) 2 (thirdCount k) (entryAt M (k + 1))
 
     least : (min (min x y) z ≤ x) × (min (min x y) z ≤ y) × (min (min x y) z ≤ z)
-    least = (le-trans (lesser-least (min x y) z .0) (lesser-least x y .0), le-trans (lesser-least (min x y) z .0) (lesser-least x y .1), lesser-least (min x y) z .1)
+    least =
+        (le-trans (lesser-least (min x y) z .0) (lesser-least x y .0), le-trans (lesser-least (min x y) z .0) (lesser-least x y .1), lesser-least (min x y) z .1)
 
     go : Dec (firstCount k + secondCount k + thirdCount k < getD J 0 0 + getD J 1 0 + getD J 2 0)
         → Entry J M k (cond (leb (getD J 0 0 + getD J 1 0 + getD J 2 0) (firstCount k + secondCount k + thirdCount k)) 0 (min (min x y) z))
@@ -196,7 +201,9 @@ entry-of J M k = go (decLt (firstCount k + secondCount k + thirdCount k) (getD J
       third = λ m. le-trans (least .2) (through-of J (timeAt J k) 2 (thirdCount k) (entryAt M (k + 1)) .least m);
       full = λ p q r. absurd (omega (arith, l, p, q, r));
     })
-    go (no l) = rw (le-leb (getD J 0 0 + getD J 1 0 + getD J 2 0) (firstCount k + secondCount k + thirdCount k) (omega arith)) (record { capped = omega arith; first = λ m. omega arith; second = λ m. omega arith; third = λ m. omega arith; full = λ p q r. omega arith })
+    go (no l) =
+        rw (le-leb (getD J 0 0 + getD J 1 0 + getD J 2 0) (firstCount k + secondCount k + thirdCount k) (omega arith))
+        (record { capped = omega arith; first = λ m. omega arith; second = λ m. omega arith; third = λ m. omega arith; full = λ p q r. omega arith })
 
 -- fill_scanner_table: the entries from k on are there, and the numbers before and behind all entries are as they were
 pub record Filled (J M₀ M : List ℕ) (k : ℕ) : Type 0 where
@@ -268,7 +275,9 @@ filling-enter {J} {M₀} {M} {k} j f l = record {
   jobs = j .0;
   key = omega (arith, f .within);
   size = f .size;
-  behind = subst (EntriesFrom J M) (same (f .within) l) (subst (λ (x : List ℕ). EntriesFrom J x (343 - (343 - k))) (sym (f .is)) (filled J M₀ (f .start) (343 - k) (omega arith) .entries));
+  behind =
+      subst (EntriesFrom J M) (same (f .within) l)
+      (subst (λ (x : List ℕ). EntriesFrom J x (343 - (343 - k))) (sym (f .is)) (filled J M₀ (f .start) (343 - k) (omega arith) .entries));
   first-few = j .0 .few 0 (omega arith);
   second-few = j .0 .few 1 (omega arith);
   third-few = j .0 .few 2 (omega arith);

@@ -31,7 +31,8 @@ labelPlace k j = (k * 4 + j) * 4
 -- whether the label at a dominates s: neither its cost nor one of its free times is larger
 unfoldable pub labelDominates : List ℕ → ℕ → State → Bool
 labelDominates M a s =
-    leb (getD M a 0) (s .cost) && (leb (getD M (a + 1) 0) (getD (s .free) 0 0) && (leb (getD M (a + 2) 0) (getD (s .free) 1 0) && leb (getD M (a + 3) 0) (getD (s .free) 2 0)))
+    leb (getD M a 0) (s .cost)
+    && (leb (getD M (a + 1) 0) (getD (s .free) 0 0) && (leb (getD M (a + 2) 0) (getD (s .free) 1 0) && leb (getD M (a + 3) 0) (getD (s .free) 2 0)))
 
 -- whether one of the first n labels of the count vector k dominates s
 unfoldable pub dominatedBy : List ℕ → ℕ → State → ℕ → Bool
@@ -80,13 +81,15 @@ module _ (M : List ℕ) (a : ℕ) (s : State) where
       → false ≡ labelDominates M a s
   unfolding labelDominates
   over-third p q r t =
-      rw (le-leb (getD M a 0) (s .cost) p, le-leb (getD M (a + 1) 0) (getD (s .free) 0 0) q, le-leb (getD M (a + 2) 0) (getD (s .free) 1 0) r, lt-leb (getD M (a + 3) 0) (getD (s .free) 2 0) t)
+      rw
+      (le-leb (getD M a 0) (s .cost) p, le-leb (getD M (a + 1) 0) (getD (s .free) 0 0) q, le-leb (getD M (a + 2) 0) (getD (s .free) 1 0) r, lt-leb (getD M (a + 3) 0) (getD (s .free) 2 0) t)
 
   pub over-none : getD M a 0 ≤ s .cost → getD M (a + 1) 0 ≤ getD (s .free) 0 0 → getD M (a + 2) 0 ≤ getD (s .free) 1 0 → getD M (a + 3) 0 ≤ getD (s .free) 2 0
       → true ≡ labelDominates M a s
   unfolding labelDominates
   over-none p q r t =
-      rw (le-leb (getD M a 0) (s .cost) p, le-leb (getD M (a + 1) 0) (getD (s .free) 0 0) q, le-leb (getD M (a + 2) 0) (getD (s .free) 1 0) r, le-leb (getD M (a + 3) 0) (getD (s .free) 2 0) t)
+      rw
+      (le-leb (getD M a 0) (s .cost) p, le-leb (getD M (a + 1) 0) (getD (s .free) 0 0) q, le-leb (getD M (a + 2) 0) (getD (s .free) 1 0) r, le-leb (getD M (a + 3) 0) (getD (s .free) 2 0) t)
 
 -- the label at a dominates s
 pub record LabelDominates (M : List ℕ) (a : ℕ) (s : State) : Type 0 where
@@ -99,11 +102,13 @@ label-dominates : (M : List ℕ) (a : ℕ) (s : State) → labelDominates M a s 
 unfolding labelDominates
 label-dominates M a s e = go (both _ _ e)
   where
-    go : (leb (getD M a 0) (s .cost) ≡ true) × ((leb (getD M (a + 1) 0) (getD (s .free) 0 0) && (leb (getD M (a + 2) 0) (getD (s .free) 1 0) && leb (getD M (a + 3) 0) (getD (s .free) 2 0))) ≡ true)
+    go : (leb (getD M a 0) (s .cost) ≡ true)
+        × ((leb (getD M (a + 1) 0) (getD (s .free) 0 0) && (leb (getD M (a + 2) 0) (getD (s .free) 1 0) && leb (getD M (a + 3) 0) (getD (s .free) 2 0))) ≡ true)
         → LabelDominates M a s
     go p = second (both _ _ (p .1))
       where
-        second : (leb (getD M (a + 1) 0) (getD (s .free) 0 0) ≡ true) × ((leb (getD M (a + 2) 0) (getD (s .free) 1 0) && leb (getD M (a + 3) 0) (getD (s .free) 2 0)) ≡ true)
+        second : (leb (getD M (a + 1) 0) (getD (s .free) 0 0) ≡ true)
+            × ((leb (getD M (a + 2) 0) (getD (s .free) 1 0) && leb (getD M (a + 3) 0) (getD (s .free) 2 0)) ≡ true)
             → LabelDominates M a s
         second q = third (both _ _ (q .1))
           where
@@ -188,7 +193,9 @@ module _ (M : List ℕ) (k : ℕ) where
   costliest-below : (n : ℕ) → costliestOf M k (suc n) ≤ n
   unfolding costliestOf costlier
   costliest-below zero = one-of (ltb (getD M (labelPlace k 0) 0) (getD M (labelPlace k 0) 0)) 0 0 0 (le-refl _) (le-refl _)
-  costliest-below (suc n) = one-of (ltb (getD M (labelPlace k (costliestOf M k (suc n))) 0) (getD M (labelPlace k (suc n)) 0)) (suc n) (costliestOf M k (suc n)) (suc n) (le-refl _) (le-trans (costliest-below n) (omega arith))
+  costliest-below (suc n) =
+      one-of (ltb (getD M (labelPlace k (costliestOf M k (suc n))) 0) (getD M (labelPlace k (suc n)) 0)) (suc n) (costliestOf M k (suc n)) (suc n) (le-refl _)
+      (le-trans (costliest-below n) (omega arith))
 
   pub costliest-few : costliest M k < 4
   costliest-few = omega (arith, costliest-below 3)
@@ -238,7 +245,11 @@ cleared-label n M i l = List·getD-append (replicate n noLabel) (drop n M) 0 i (
 
 pub cleared-rest : (n : ℕ) (M : List ℕ) (i : ℕ) → n ≤ i → getD (noLabelsTo n M) i 0 ≡ getD M i 0
 unfolding noLabelsTo
-cleared-rest n M i l = ap (λ (x : ℕ). getD (replicate n noLabel ++ drop n M) x 0) there ∙ getD-append-add (replicate n noLabel) (drop n M) (i - n) 0 ∙ getD-drop n M (i - n) 0 ∙ ap (λ (x : ℕ). getD M x 0) back
+cleared-rest n M i l =
+    ap (λ (x : ℕ). getD (replicate n noLabel ++ drop n M) x 0) there
+    ∙ getD-append-add (replicate n noLabel) (drop n M) (i - n) 0
+    ∙ getD-drop n M (i - n) 0
+    ∙ ap (λ (x : ℕ). getD M x 0) back
   where
     there : i ≡ length (replicate n noLabel) + (i - n)
     there = omega (arith, length-replicate n noLabel)

@@ -46,7 +46,8 @@ module _ (J : List ℕ) where
     frees = simp length-set (m .frees);
     frees′ = simp length-set (m .frees′);
     free = λ e. go e (ℕ-discrete e d);
-    cost = omega (arith, m .cost, mul-le-mul-left (weightOf J d (getD (s .taken) d 0)) (finish-mono s z d m), ap (λ (T : List ℕ). weightOf J d (getD T d 0) * finish J z d) (m .taken));
+    cost =
+        omega (arith, m .cost, mul-le-mul-left (weightOf J d (getD (s .taken) d 0)) (finish-mono s z d m), ap (λ (T : List ℕ). weightOf J d (getD T d 0) * finish J z d) (m .taken));
   }
     where
       go : (e : ℕ) → Dec (e ≡ d) → getD (set (s .free) d (finish J s d)) e 0 ≤ getD (set (z .free) d (finish J z d)) e 0
@@ -84,24 +85,29 @@ module _ (M : List ℕ) (a : ℕ) (s : State) where
   module _ (h : a + 3 < length M) where
     store-0 : getD (storeLabel M a s) a 0 ≡ s .cost
     store-0 =
-        getD-set-other (set (set (set M a (s .cost)) (a + 1) (getD (s .free) 0 0)) (a + 2) (getD (s .free) 1 0)) (a + 3) a (getD (s .free) 2 0) 0 (λ e. omega arith)
+        getD-set-other (set (set (set M a (s .cost)) (a + 1) (getD (s .free) 0 0)) (a + 2) (getD (s .free) 1 0)) (a + 3) a (getD (s .free) 2 0) 0
+        (λ e. omega arith)
         ∙ getD-set-other (set (set M a (s .cost)) (a + 1) (getD (s .free) 0 0)) (a + 2) a (getD (s .free) 1 0) 0 (λ e. omega arith)
         ∙ getD-set-other (set M a (s .cost)) (a + 1) a (getD (s .free) 0 0) 0 (λ e. omega arith)
         ∙ getD-set-same M a (s .cost) 0 (omega arith)
 
     store-1 : getD (storeLabel M a s) (a + 1) 0 ≡ getD (s .free) 0 0
     store-1 =
-        getD-set-other (set (set (set M a (s .cost)) (a + 1) (getD (s .free) 0 0)) (a + 2) (getD (s .free) 1 0)) (a + 3) (a + 1) (getD (s .free) 2 0) 0 (λ e. omega arith)
+        getD-set-other (set (set (set M a (s .cost)) (a + 1) (getD (s .free) 0 0)) (a + 2) (getD (s .free) 1 0)) (a + 3) (a + 1) (getD (s .free) 2 0) 0
+        (λ e. omega arith)
         ∙ getD-set-other (set (set M a (s .cost)) (a + 1) (getD (s .free) 0 0)) (a + 2) (a + 1) (getD (s .free) 1 0) 0 (λ e. omega arith)
         ∙ getD-set-same (set M a (s .cost)) (a + 1) (getD (s .free) 0 0) 0 (simp length-set (omega arith))
 
     store-2 : getD (storeLabel M a s) (a + 2) 0 ≡ getD (s .free) 1 0
     store-2 =
-        getD-set-other (set (set (set M a (s .cost)) (a + 1) (getD (s .free) 0 0)) (a + 2) (getD (s .free) 1 0)) (a + 3) (a + 2) (getD (s .free) 2 0) 0 (λ e. omega arith)
+        getD-set-other (set (set (set M a (s .cost)) (a + 1) (getD (s .free) 0 0)) (a + 2) (getD (s .free) 1 0)) (a + 3) (a + 2) (getD (s .free) 2 0) 0
+        (λ e. omega arith)
         ∙ getD-set-same (set (set M a (s .cost)) (a + 1) (getD (s .free) 0 0)) (a + 2) (getD (s .free) 1 0) 0 (simp length-set (omega arith))
 
     store-3 : getD (storeLabel M a s) (a + 3) 0 ≡ getD (s .free) 2 0
-    store-3 = getD-set-same (set (set (set M a (s .cost)) (a + 1) (getD (s .free) 0 0)) (a + 2) (getD (s .free) 1 0)) (a + 3) (getD (s .free) 2 0) 0 (simp length-set (omega arith))
+    store-3 =
+        getD-set-same (set (set (set M a (s .cost)) (a + 1) (getD (s .free) 0 0)) (a + 2) (getD (s .free) 1 0)) (a + 3) (getD (s .free) 2 0) 0
+        (simp length-set (omega arith))
 
 module _ (J : List ℕ) (j : Instance J) where
   -- equal numbers, equal counts
@@ -160,7 +166,8 @@ module _ (J : List ℕ) (j : Instance J) where
 
           under : Dominates s z
           under =
-              dominated s z g k same (rw (store-0 M (labelPlace (countKey s) slot) s room) at (u .cost)) (rw (store-1 M (labelPlace (countKey s) slot) s room) at (u .one))
+              dominated s z g k same (rw (store-0 M (labelPlace (countKey s) slot) s room) at (u .cost))
+              (rw (store-1 M (labelPlace (countKey s) slot) s room) at (u .one))
               (rw (store-2 M (labelPlace (countKey s) slot) s room) at (u .two)) (rw (store-3 M (labelPlace (countKey s) slot) s room) at (u .three))
       go z k c (no n) = h z k (record { slot = c .slot; few = c .few; under = u })
         where
@@ -168,12 +175,16 @@ module _ (J : List ℕ) (j : Instance J) where
           apart x y p q e = n (omega arith)
 
           same : (x : ℕ) → x < 4
-              → getD (storeLabel M (labelPlace (countKey s) slot) s) (labelPlace (countKey z) (c .slot) + x) 0 ≡ getD M (labelPlace (countKey z) (c .slot) + x) 0
-          same x p = store-other M (labelPlace (countKey s) slot) s _ (λ e. apart x 0 p (omega arith) (omega arith)) (apart x 1 p (omega arith)) (apart x 2 p (omega arith)) (apart x 3 p (omega arith))
+              → getD (storeLabel M (labelPlace (countKey s) slot) s) (labelPlace (countKey z) (c .slot) + x) 0
+              ≡ getD M (labelPlace (countKey z) (c .slot) + x) 0
+          same x p =
+              store-other M (labelPlace (countKey s) slot) s _ (λ e. apart x 0 p (omega arith) (omega arith)) (apart x 1 p (omega arith))
+              (apart x 2 p (omega arith)) (apart x 3 p (omega arith))
 
           u : LabelDominates M (labelPlace (countKey z) (c .slot)) z
           u = record {
-            cost = omega (arith, c .under .cost, store-other M (labelPlace (countKey s) slot) s (labelPlace (countKey z) (c .slot)) n (λ e. apart 0 1 (omega arith) (omega arith) (omega arith)) (λ e. apart 0 2 (omega arith) (omega arith) (omega arith)) (λ e. apart 0 3 (omega arith) (omega arith) (omega arith)));
+            cost =
+                omega (arith, c .under .cost, store-other M (labelPlace (countKey s) slot) s (labelPlace (countKey z) (c .slot)) n (λ e. apart 0 1 (omega arith) (omega arith) (omega arith)) (λ e. apart 0 2 (omega arith) (omega arith) (omega arith)) (λ e. apart 0 3 (omega arith) (omega arith) (omega arith)));
             one = omega (arith, c .under .one, same 1 (omega arith));
             two = omega (arith, c .under .two, same 2 (omega arith));
             three = omega (arith, c .under .three, same 3 (omega arith));
@@ -194,7 +205,9 @@ module _ (J M N : List ℕ) (s : State) (b r : Incumbent) (k : ℕ) where
 -- it changes no number behind the labels, and no length
 pub stored-behind : (M : List ℕ) (k : ℕ) (s : State) → k < 343 → (x : ℕ) → labelsLength ≤ x → getD (withLabel M k s) x 0 ≡ getD M x 0
 unfolding withLabel
-stored-behind M k s l x p = store-other M (labelPlace k (costliest M k)) s x (λ e. apart 0 (omega arith) (omega arith)) (apart 1 (omega arith)) (apart 2 (omega arith)) (apart 3 (omega arith))
+stored-behind M k s l x p =
+    store-other M (labelPlace k (costliest M k)) s x (λ e. apart 0 (omega arith) (omega arith)) (apart 1 (omega arith)) (apart 2 (omega arith))
+    (apart 3 (omega arith))
   where
     apart : (y : ℕ) → y < 4 → x ≡ labelPlace k (costliest M k) + y → ⊥
     apart y q e = omega (arith, costliest-few M k)

@@ -1,4 +1,5 @@
--- What best_interleaving is lent and what it hands out. The search starts from the greedy figure plus one, and returns what it returns from no incumbent: the first
+-- What best_interleaving is lent and what it hands out. The search starts from the greedy figure plus one, and returns what it returns from no incumbent: the
+-- first
 -- best list. The table is what the search with its cuts leaves, and it holds for the figure found.
 use mathlib.Core.Path.{_≡_, sym, ap, subst, _∙_}
 use mathlib.Core.List.{List}
@@ -35,7 +36,8 @@ aboveGreedy g = record { figure = g + 1; path = 0 }
 
 -- the table M as the search leaves it
 unfoldable pub searchedTable : List ℕ → List ℕ → List ℕ
-searchedTable J M = cutSearch J (startState J .left) (startState J) (outcome (aboveGreedy (greedyFigure J (startTable J M) (startState J))) (startTable J M)) .table
+searchedTable J M =
+    cutSearch J (startState J .left) (startState J) (outcome (aboveGreedy (greedyFigure J (startTable J M) (startState J))) (startTable J M)) .table
 
 -- The working table M after the search, which found the figure B. The caller clears it.
 pub record Used (J M N : List ℕ) (B : ℕ) : Type 0 where
@@ -74,7 +76,8 @@ module _ {J M N O : List ℕ} where
     exact = x;
     holds = t;
     entries = λ x l. q x l ∙ ap (λ (y : List ℕ). getD y x 0) (e ∙ ap (λ (y : List ℕ). filledFrom J y 343) c);
-    rest = λ x l. q x (omega arith) ∙ ap (λ (y : List ℕ). getD y x 0) e ∙ start-filled h c .rest x l ∙ ap (λ (y : List ℕ). getD y x 0) c ∙ cleared-rest labelsLength M x (omega arith);
+    rest =
+        λ x l. q x (omega arith) ∙ ap (λ (y : List ℕ). getD y x 0) e ∙ start-filled h c .rest x l ∙ ap (λ (y : List ℕ). getD y x 0) c ∙ cleared-rest labelsLength M x (omega arith);
   }
 
 module _ {J M N O : List ℕ} {s : State} where
@@ -99,9 +102,11 @@ module _ {J M N O : List ℕ} {s : State} where
   pub found : {P : List ℕ} {g : ℕ} {r : Incumbent} → BestInterleavingPre J M → N ≡ noLabelsTo labelsLength M → O ≡ filledFrom J N 343 → s ≡ startState J
       → (g ≡ greedyFigure J O s) × (g ≤ costCap) → Searched J s (aboveGreedy g) O P r → Found J M P r
   unfolding firstBest
-  found {P} {g} {r} h c f e w q = record { found = first (greedy-figure (lower-bound-pre-start h c f e) w); table = table-used h c f (searched-is h c f e (w .0) q) (q .table) (q .behind) }
+  found {P} {g} {r} h c f e w q =
+      record { found = first (greedy-figure (lower-bound-pre-start h c f e) w); table = table-used h c f (searched-is h c f e (w .0) q) (q .table) (q .behind) }
     where
       first : GreedyFigure J s g → r ≡ searchFrom J (startState J .left) (startState J) noIncumbent
       first w =
-          q .found ∙ any-incumbent J (s .left) s (aboveGreedy g) noIncumbent (w .end) (w .completes) (omega (arith, w .figure)) (omega (arith, w .figure, w .small)) (omega arith) (omega arith)
+          q .found
+          ∙ any-incumbent J (s .left) s (aboveGreedy g) noIncumbent (w .end) (w .completes) (omega (arith, w .figure)) (omega (arith, w .figure, w .small)) (omega arith) (omega arith)
           ∙ ap (λ (x : State). searchFrom J (x .left) x noIncumbent) e

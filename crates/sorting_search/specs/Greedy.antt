@@ -28,7 +28,8 @@ firstDesk J s = cond (ltb (getD (s .taken) 0 0) (getD J 0 0)) 0 (cond (ltb (getD
 
 -- of two desks the one whose step has the smaller lower bound; the chosen one where they are equal, or where d has no strip left
 unfoldable pub betterDesk : List ℕ → List ℕ → State → ℕ → ℕ → ℕ
-betterDesk J M s chosen d = cond (ltb (getD (s .taken) d 0) (getD J d 0)) (cond (ltb (boundOf J M (stepOf J s d)) (boundOf J M (stepOf J s chosen))) d chosen) chosen
+betterDesk J M s chosen d =
+    cond (ltb (getD (s .taken) d 0) (getD J d 0)) (cond (ltb (boundOf J M (stepOf J s d)) (boundOf J M (stepOf J s chosen))) d chosen) chosen
 
 -- the desk whose step has the least lower bound
 unfoldable pub greedyDesk : List ℕ → List ℕ → State → ℕ
@@ -126,8 +127,11 @@ module _ {J : List ℕ} {s : State} {M : List ℕ} where
       one false c = h .serves
 
       go : Dec (StripLeft J s d)
-          → StepPre J s (cond (ltb (getD (s .taken) d 0) (getD J d 0)) (cond (ltb (boundOf J M (stepOf J s d)) (boundOf J M (stepOf J s chosen))) d chosen) chosen)
-      go (yes m) = rw (lt-ltb (getD (s .taken) d 0) (getD J d 0) m) (one (ltb (boundOf J M (stepOf J s d)) (boundOf J M (stepOf J s chosen))) (serve-at (h .going) (h .desk) m))
+          → StepPre J s
+          (cond (ltb (getD (s .taken) d 0) (getD J d 0)) (cond (ltb (boundOf J M (stepOf J s d)) (boundOf J M (stepOf J s chosen))) d chosen) chosen)
+      go (yes m) =
+          rw (lt-ltb (getD (s .taken) d 0) (getD J d 0) m)
+          (one (ltb (boundOf J M (stepOf J s d)) (boundOf J M (stepOf J s chosen))) (serve-at (h .going) (h .desk) m))
       go (no n) = rw (le-ltb (getD (s .taken) d 0) (getD J d 0) (omega arith)) (h .serves)
 
   pub better-desk-pre-second : {a d : ℕ} → GreedyDeskPre J s M → d < 3 → a ≡ firstDesk J s → BetterDeskPre J s a d M
@@ -168,7 +172,8 @@ leads-serves {J} {s} {t} h l e = subst (StepPre J t) (sym e) (greedy-serves (lea
 
 greedy-next : (J M : List ℕ) (t : State) → 0 < t .left → greedyFigure J M (stepOf J t (greedyDesk J M t)) ≡ greedyFigure J M t
 unfolding greedyFrom
-greedy-next J M t l = ap (λ (k : ℕ). greedyFrom J M k (stepOf J t (greedyDesk J M t))) (step-left J t (greedyDesk J M t)) ∙ sym (ap (λ (k : ℕ). greedyFrom J M k t) more)
+greedy-next J M t l =
+    ap (λ (k : ℕ). greedyFrom J M k (stepOf J t (greedyDesk J M t))) (step-left J t (greedyDesk J M t)) ∙ sym (ap (λ (k : ℕ). greedyFrom J M k t) more)
   where
     more : t .left ≡ suc (t .left - 1)
     more = omega arith
@@ -214,7 +219,8 @@ module _ (J M : List ℕ) where
           less = omega arith
 
           made : (x : State) × Completes J k (stepOf J s (greedyDesk J M s)) x × (greedyFrom J M k (stepOf J s (greedyDesk J M s)) ≡ x .cost)
-              → (x : State) × ((d : ℕ) × (d < 3) × StripLeft J s d × Completes J k (stepOf J s d) x) × (greedyFrom J M k (stepOf J s (greedyDesk J M s)) ≡ x .cost)
+              → (x : State) × ((d : ℕ) × (d < 3) × StripLeft J s d × Completes J k (stepOf J s d) x)
+              × (greedyFrom J M k (stepOf J s (greedyDesk J M s)) ≡ x .cost)
           made r = (r .0, (greedyDesk J M s, c .desk, c .strip, r .1), r .2)
 
 pub greedy-figure : {J : List ℕ} {s : State} {M : List ℕ} {r : ℕ} → LowerBoundPre J s M → (r ≡ greedyFigure J M s) × (r ≤ costCap) → GreedyFigure J s r

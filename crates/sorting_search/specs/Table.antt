@@ -1,4 +1,5 @@
--- The working table during the search, the contracts of the search, and the laws that its proof cites: with its cuts it finds what the search without cuts finds.
+-- The working table during the search, the contracts of the search, and the laws that its proof cites: with its cuts it finds what the search without cuts
+-- finds.
 use mathlib.Core.Path.{_≡_, refl, sym, ap, subst, _∙_}
 use mathlib.Core.Bool.{Bool, true, false, _||_, or-true}
 use mathlib.Core.List.{List}
@@ -40,7 +41,8 @@ same-trans : (n : ℕ) (M N O : List ℕ) → SameFrom n M N → SameFrom n N O 
 unfolding SameFrom
 same-trans n M N O p q x l = q x l ∙ p x l
 
--- what the search asks and what it gives: incumbent and table as the search with its cuts has them, and the incumbent as the search without cuts finds it. Behind the
+-- what the search asks and what it gives: incumbent and table as the search with its cuts has them, and the incumbent as the search without cuts finds it.
+-- Behind the
 -- labels it changes nothing.
 pub record SearchPre (J : List ℕ) (s : State) (B : ℕ) (M : List ℕ) : Type 0 where
   pub jobs : Instance J
@@ -120,7 +122,8 @@ same-store M N s k l e = rw e (stored-behind M k s l)
 module _ {J M : List ℕ} {s : State} {b : Incumbent} where
   pub searched-leaf : {r : Incumbent} → SearchPre J s (b .figure) M → s .left ≡ 0 → r ≡ keep s b → Searched J s b M M r
   unfolding SameFrom
-  searched-leaf {r} h e k = let w : r ≡ searchFrom J (s .left) s b = k ∙ sym (search-leaf J s b e) in record { exact = exact-leaf J M s b r e k; found = w; table = table-search s b r (s .left) (h .table) w; behind = λ x l. refl }
+  searched-leaf {r} h e k =
+      let w : r ≡ searchFrom J (s .left) s b = k ∙ sym (search-leaf J s b e) in record { exact = exact-leaf J M s b r e k; found = w; table = table-search s b r (s .left) (h .table) w; behind = λ x l. refl }
 
   pub searched-cut : {q : Bool} → SearchPre J s (b .figure) M → (s .left ≡ 0 → ⊥) → q ≡ isCut J M s (b .figure) → q ≡ true → Searched J s b M M b
   unfolding SameFrom
@@ -141,7 +144,8 @@ pub record Branched (J : List ℕ) (s : State) (b : Incumbent) (M N : List ℕ) 
 
 pub branched-none : {J M : List ℕ} {s : State} {b : Incumbent} → SearchPre J s (b .figure) M → Branched J s b M M 0 b
 unfolding SameFrom
-branched-none {J} {M} {s} {b} h = record { desks = omega arith; exact = over-none _ (outcome b M); found = over-none _ b; table = h .table; behind = λ x l. refl }
+branched-none {J} {M} {s} {b} h =
+    record { desks = omega arith; exact = over-none _ (outcome b M); found = over-none _ b; table = h .table; behind = λ x l. refl }
 
 module _ {J M N : List ℕ} {s : State} {b : Incumbent} where
   pub branched-no : {d : ℕ} {r : Incumbent} → Branched J s b M N d r → d < 3 → getD J d 0 ≤ getD (s .taken) d 0 → Branched J s b M N (d + 1) r
@@ -157,7 +161,9 @@ module _ {J M N : List ℕ} {s : State} {b : Incumbent} where
       → Searched J n q N O r → Branched J s b M O (d + 1) r
   branched-yes {d} {q} {r} {n} {O} h l m e w = record {
     desks = omega arith;
-    exact = branch-again-yes J (cutSearch J (s .left - 1)) s d (outcome b M) (outcome q N) n (outcome r O) (h .exact) m e (w .exact ∙ ap (λ (k : ℕ). cutSearch J k n (outcome q N)) less);
+    exact =
+        branch-again-yes J (cutSearch J (s .left - 1)) s d (outcome b M) (outcome q N) n (outcome r O) (h .exact) m e
+        (w .exact ∙ ap (λ (k : ℕ). cutSearch J k n (outcome q N)) less);
     found = branch-again-yes J (searchFrom J (s .left - 1)) s d b q n r (h .found) m e (w .found ∙ ap (λ (k : ℕ). searchFrom J k n q) less);
     table = w .table;
     behind = same-trans labelsLength M N O (h .behind) (w .behind);
@@ -167,7 +173,8 @@ module _ {J M N : List ℕ} {s : State} {b : Incumbent} where
       less = ap (λ (x : State). x .left) e ∙ step-left J s d
 
 pub branched-same : {J M N O : List ℕ} {s : State} {b r q : Incumbent} {d : ℕ} → N ≡ O → r ≡ q → Branched J s b M O d q → Branched J s b M N d r
-branched-same {J} {M} {N} {O} {s} {b} {r} {q} {d} e w h = subst (λ (x : List ℕ). Branched J s b M x d r) (sym e) (subst (λ (x : Incumbent). Branched J s b M O d x) (sym w) h)
+branched-same {J} {M} {N} {O} {s} {b} {r} {q} {d} e w h =
+    subst (λ (x : List ℕ). Branched J s b M x d r) (sym e) (subst (λ (x : Incumbent). Branched J s b M O d x) (sym w) h)
 
 pub can-serve : {J M : List ℕ} {s : State} {B d : ℕ} {q : Bool} → SearchPre J s B M → (s .left ≡ 0 → ⊥) → d < 3 → q ≡ ltb (getD (s .taken) d 0) (getD J d 0)
     → q ≡ true → StepPre J s d

@@ -31,13 +31,17 @@ loop-less : tie.Need-loop-less Inv-loop μ-loop
 loop-less c = search needs
 
 loop-again : tie.Need-loop-again Inv-loop μ-loop
-loop-again c = taken-less (c .before .before .before .before .before .before .before .before .before .pre) (c .before .before .before .loop .inv) (omega arith) (c .before .candidate2 .ensures) (c .if1 .taken)
+loop-again c =
+    taken-less (c .before .before .before .before .before .before .before .before .before .pre) (c .before .before .before .loop .inv) (omega arith)
+    (c .before .candidate2 .ensures) (c .if1 .taken)
 
 loop-less-2 : tie.Need-loop-less-2 Inv-loop μ-loop
 loop-less-2 c = search needs
 
 loop-again-2 : tie.Need-loop-again-2 Inv-loop μ-loop
-loop-again-2 c = taken-more (c .before .before .before .before .before .before .before .before .before .pre) (c .before .before .before .loop .inv) (omega arith) (c .before .candidate2 .ensures) (c .if1 .left)
+loop-again-2 c =
+    taken-more (c .before .before .before .before .before .before .before .before .before .pre) (c .before .before .before .loop .inv) (omega arith)
+    (c .before .candidate2 .ensures) (c .if1 .left)
 
 returns : tie.Need-returns Inv-loop μ-loop
 returns c = search taken-end

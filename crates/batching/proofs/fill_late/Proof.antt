@@ -28,7 +28,10 @@ loop-less : tie.Need-loop-less Inv-loop μ-loop
 loop-less c = search needs
 
 loop-again : tie.Need-loop-again Inv-loop μ-loop
-loop-again c = all-step (c .before .before .before .before .before .before .before .before .before .before .before .pre) (c .before .before .before .before .before .before .before .loop .inv) (omega arith) (c .before .before .before .fill-late-after .ensures) (search needs) (search needs)
+loop-again c =
+    all-step (c .before .before .before .before .before .before .before .before .before .before .before .pre)
+    (c .before .before .before .before .before .before .before .loop .inv) (omega arith) (c .before .before .before .fill-late-after .ensures) (search needs)
+    (search needs)
 
 same-length : tie.Need-same-length Inv-loop μ-loop
 same-length c = search needs

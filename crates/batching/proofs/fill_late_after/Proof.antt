@@ -1,7 +1,8 @@
 -- `fill_late_after` meets its contract. Invariant: the batches of the strips after i up to q are done.
 use Prim.Native.Nat.{_-_}
 use borrow.Author.Needs.{needs}
-use Rattle.batching.proofs.LateLaws.{LateSoFar, after-start, after-ready, after-block, after-sub, after-finish, after-product, after-sum, after-step, after-end}
+use Rattle.batching.proofs.LateLaws.{LateSoFar, after-start, after-ready, after-block, after-sub, after-finish, after-product, after-sum, after-step}
+use Rattle.batching.proofs.LateLaws.{after-end}
 use Rattle.batching.proofs.fill_late_after.Statement.{statement}
 use Rattle.batching.proofs.fill_late_after.Tie as tie
 

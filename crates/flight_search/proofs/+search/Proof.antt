@@ -1,7 +1,8 @@
 -- `flight_search::search` meets its contract: the measure is the number of passes left, and each of the four ways is a step of the definition.
 use native.Mathlib.Omega.{arith}
 use borrow.Author.Needs.{needs}
-use Rattle.flight_search.proofs.Searching.{try-order-pre, append-within, append-short, first-search-pre, only-second-search-pre, second-search-pre, only-second, only-first, first-then-second, search-end}
+use Rattle.flight_search.proofs.Searching.{try-order-pre, append-within, append-short, first-search-pre, only-second-search-pre, second-search-pre}
+use Rattle.flight_search.proofs.Searching.{only-second, only-first, first-then-second, search-end}
 use Prim.Native.Nat.{ℕ, _<_}
 use borrow.Fn.Kinds.{In}
 use borrow.Fn.PlainCycle.{Measures, is, falls, and}

@@ -50,7 +50,8 @@ shared-slice-read-done : tie.Need-shared-slice-read-done
 shared-slice-read-done c = let h = step-pre-capped (c .before .before .before .before .before .before .before .pre) in omega arith
 
 add-done-2 : tie.Need-add-done-2
-add-done-2 c = let h = step-pre-capped (c .before .before .before .before .before .before .before .pre) in let k = greater-capped _ _ _ (c .before .greater .ensures) (omega arith) (omega arith) in omega arith
+add-done-2 c =
+    let h = step-pre-capped (c .before .before .before .before .before .before .before .pre) in let k = greater-capped _ _ _ (c .before .greater .ensures) (omega arith) (omega arith) in omega arith
 
 mul-free : tie.Need-mul-free
 mul-free c = search needs
@@ -80,10 +81,12 @@ shared-slice-read-t15 : tie.Need-shared-slice-read-t15
 shared-slice-read-t15 c = let h = step-pre-capped (c .before .before .before .before .before .before .before .before .before .pre) in omega arith
 
 mul-t18 : tie.Need-mul-t18
-mul-t18 c = let h = step-pre-capped (c .before .before .before .before .before .before .before .before .before .pre) in let k = weighted-capped h _ (greater-capped _ _ _ (c .before .before .before .greater .ensures) (omega arith) (omega arith)) in omega arith
+mul-t18 c =
+    let h = step-pre-capped (c .before .before .before .before .before .before .before .before .before .pre) in let k = weighted-capped h _ (greater-capped _ _ _ (c .before .before .before .greater .ensures) (omega arith) (omega arith)) in omega arith
 
 add-t21 : tie.Need-add-t21
-add-t21 c = let h = step-pre-capped (c .before .before .before .before .before .before .before .before .before .before .pre) in let k = weighted-capped h _ (greater-capped _ _ _ (c .before .before .before .before .greater .ensures) (omega arith) (omega arith)) in omega arith
+add-t21 c =
+    let h = step-pre-capped (c .before .before .before .before .before .before .before .before .before .before .pre) in let k = weighted-capped h _ (greater-capped _ _ _ (c .before .before .before .before .greater .ensures) (omega arith) (omega arith)) in omega arith
 
 mul-t27 : tie.Need-mul-t27
 mul-t27 c = let h = step-pre-capped (c .before .before .before .before .before .before .before .before .before .before .before .pre) in omega arith
@@ -95,7 +98,8 @@ add-t30 : tie.Need-add-t30
 add-t30 c = let h = step-pre-capped (c .before .before .before .before .before .before .before .before .before .before .before .pre) in omega arith
 
 returns : tie.Need-returns
-returns c = let h = step-pre-capped (c .before .before .before .before .before .before .before .before .before .before .before .pre) in step-is _ _ _ _ (c .before .before .before .before .before .greater .ensures)
+returns c =
+    let h = step-pre-capped (c .before .before .before .before .before .before .before .before .before .before .before .pre) in step-is _ _ _ _ (c .before .before .before .before .before .greater .ensures)
 
 pub step-spec : {M : Type 1} → statement M
 step-spec =

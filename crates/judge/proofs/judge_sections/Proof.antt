@@ -2,7 +2,8 @@
 use Rattle.judge.specs.Loops.{index-fits}
 use Prim.Native.Nat.{_-_}
 use borrow.Author.Needs.{needs}
-use Rattle.judge.specs.Loops.{Outer, outer-start, outer-end, outer-absent, Inner, inner-start, place-asked, member-asked, after-asked, inner-wrong, inner-more, head-asked, head-wrong, inner-next}
+use Rattle.judge.specs.Loops.{Outer, outer-start, outer-end, outer-absent, Inner, inner-start, place-asked, member-asked, after-asked, inner-wrong}
+use Rattle.judge.specs.Loops.{inner-more, head-asked, head-wrong, inner-next}
 use Rattle.judge.proofs.judge_sections.Statement.{statement}
 use Rattle.judge.proofs.judge_sections.Tie as tie
 
@@ -49,7 +50,9 @@ member-follows-requires : tie.Need-member-follows-requires Inv-loop μ-loop Inv-
 member-follows-requires c κs = search member-asked
 
 after-member-requires : tie.Need-after-member-requires Inv-loop μ-loop Inv-sections μ-sections
-after-member-requires c κs = after-asked _ _ _ _ _ _ (c .before .before .before .before .loop .inv) (c .before .before .before .loop-test .taken) _ (c .before .before .member-place .ensures) _ (c .before .member-follows .ensures) (c .if3 .left)
+after-member-requires c κs =
+    after-asked _ _ _ _ _ _ (c .before .before .before .before .loop .inv) (c .before .before .before .loop-test .taken) _
+    (c .before .before .member-place .ensures) _ (c .before .member-follows .ensures) (c .if3 .left)
 
 add-k : tie.Need-add-k Inv-loop μ-loop Inv-sections μ-sections
 add-k c = search index-fits
@@ -58,7 +61,9 @@ loop-less : tie.Need-loop-less Inv-loop μ-loop Inv-sections μ-sections
 loop-less c = search needs
 
 loop-again : tie.Need-loop-again Inv-loop μ-loop Inv-sections μ-sections
-loop-again c = inner-more _ _ _ _ _ _ (c .before .before .before .before .before .loop .inv) (c .before .before .before .before .loop-test .taken) _ (c .before .before .before .member-place .ensures) _ (c .before .before .member-follows .ensures) _ (c .before .if3 .left) (c .after-member .ensures)
+loop-again c =
+    inner-more _ _ _ _ _ _ (c .before .before .before .before .before .loop .inv) (c .before .before .before .before .loop-test .taken) _
+    (c .before .before .before .member-place .ensures) _ (c .before .before .member-follows .ensures) _ (c .before .if3 .left) (c .after-member .ensures)
 
 head-number-requires : tie.Need-head-number-requires Inv-loop μ-loop Inv-sections μ-sections
 head-number-requires c κs = search head-asked

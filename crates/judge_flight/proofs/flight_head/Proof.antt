@@ -23,7 +23,8 @@ returns-4 : tie.Need-returns-4
 returns-4 c = search head-given
 
 passes-in-order-requires-2 : tie.Need-passes-in-order-requires-2
-passes-in-order-requires-2 c κs = order-asked _ _ _ _ (c .before .before .proper .ensures) (c .before .if2 .left) (c .before .before .before .before .before .before .pre)
+passes-in-order-requires-2 c κs =
+    order-asked _ _ _ _ (c .before .before .proper .ensures) (c .before .if2 .left) (c .before .before .before .before .before .before .pre)
 
 returns-5 : tie.Need-returns-5
 returns-5 c = search head-free

@@ -3,7 +3,8 @@ use Prim.Native.Nat.{_-_, _*_}
 use mathlib.Core.Path.{_≡_, refl}
 use borrow.Author.Needs.{needs}
 use Rattle.plan_read.specs.PlanRead.{blocksFrom}
-use Rattle.judge_flight.specs.Laws.{OrderedSoFar, ordered-none, ordered-more, ordered-wrong, ordered-all, this-position, next-position, next-start, this-end}
+use Rattle.judge_flight.specs.Laws.{OrderedSoFar, ordered-none, ordered-more, ordered-wrong, ordered-all, this-position, next-position, next-start}
+use Rattle.judge_flight.specs.Laws.{this-end}
 use Rattle.judge_flight.proofs.passes_in_order.Statement.{statement}
 use Rattle.judge_flight.proofs.passes_in_order.Tie as tie
 

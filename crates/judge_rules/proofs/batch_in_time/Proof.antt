@@ -8,7 +8,8 @@ use Rattle.judge_rules.specs.Follows.{batchInTime}
 use Rattle.judge_rules.proofs.batch_in_time.Statement.{statement}
 use Rattle.judge_rules.proofs.batch_in_time.Tie as tie
 
-finish-untrue : (ready before start finish due : ℕ) → ready ≤ start → before ≤ start → (finish ≡ due → ⊥) → _≡_ {A = Bool} false (batchInTime ready before start finish due)
+finish-untrue : (ready before start finish due : ℕ) → ready ≤ start → before ≤ start → (finish ≡ due → ⊥)
+    → _≡_ {A = Bool} false (batchInTime ready before start finish due)
 unfolding batchInTime
 finish-untrue ready before start finish due a b d = rw (le-leb _ _ a, le-leb _ _ b, ne-eqb _ _ d)
 

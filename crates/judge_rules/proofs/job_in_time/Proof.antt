@@ -8,7 +8,8 @@ use Rattle.judge_rules.specs.Follows.{jobInTime}
 use Rattle.judge_rules.proofs.job_in_time.Statement.{statement}
 use Rattle.judge_rules.proofs.job_in_time.Tie as tie
 
-desk-taken : (scanner free scan scanned start finish : ℕ) → scanner ≤ scan → scanned ≤ start → start < free → _≡_ {A = Bool} false (jobInTime scanner free scan scanned start finish)
+desk-taken : (scanner free scan scanned start finish : ℕ) → scanner ≤ scan → scanned ≤ start → start < free
+    → _≡_ {A = Bool} false (jobInTime scanner free scan scanned start finish)
 unfolding jobInTime
 desk-taken scanner free scan scanned start finish a b d = rw (le-leb _ _ a, le-leb _ _ b, lt-leb _ _ d)
 

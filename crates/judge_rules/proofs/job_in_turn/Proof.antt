@@ -9,7 +9,8 @@ use borrow.Author.Needs.{needs}
 use Rattle.judge_rules.proofs.job_in_turn.Statement.{statement}
 use Rattle.judge_rules.proofs.job_in_turn.Tie as tie
 
-not-next : (desks strips done desk number : ℕ) → 1 ≤ desk → desk ≤ desks → (number ≡ done + 1 → ⊥) → _≡_ {A = Bool} false (jobInTurn desks strips done desk number)
+not-next : (desks strips done desk number : ℕ) → 1 ≤ desk → desk ≤ desks → (number ≡ done + 1 → ⊥)
+    → _≡_ {A = Bool} false (jobInTurn desks strips done desk number)
 unfolding jobInTurn
 not-next desks strips done desk number a b d = rw (le-leb _ _ a, le-leb _ _ b, ne-eqb _ _ d)
 

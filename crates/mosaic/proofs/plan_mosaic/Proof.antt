@@ -4,6 +4,9 @@ use borrow.Author.Needs.{needs}
 use Rattle.mosaic.proofs.plan_mosaic.Statement.{statement}
 use Rattle.mosaic.proofs.plan_mosaic.Tie as tie
 
+setup-time-requires : tie.Need-setup-time-requires
+setup-time-requires c κs = search needs
+
 ready-times-requires : tie.Need-ready-times-requires
 ready-times-requires c κs = search needs
 
@@ -41,6 +44,7 @@ pub plan-mosaic-spec : {M : Type 1} → statement M
 plan-mosaic-spec =
     tie.close
     (tie.spec
+    setup-time-requires
     ready-times-requires
     bench-sums-requires
     slice-aggregate-fill-late

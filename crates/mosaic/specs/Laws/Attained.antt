@@ -10,8 +10,9 @@ use Rattle.sheet.specs.Limits.{mostTime, mostStrips}
 use Rattle.sheet.specs.Sound.{MosaicSound}
 use Rattle.sheet.specs.declared.MosaicSection.{MosaicSection}
 use Rattle.rules.specs.declared.Batch.{Batch}
-use Rattle.rules.specs.Mosaic.{ready}
+use Rattle.rules.specs.Mosaic.{ready, setupTime, mostSetup}
 use Rattle.running.specs.Running.{BatchFollows, MosaicRuns, none, more}
+use Rattle.rules_laws.specs.Finish.{setup-most}
 use Rattle.rules_laws.specs.MosaicRunning.{runningFigure}
 use Rattle.batching.specs.Least.{mountStart, benchStart, finishOf}
 use Rattle.mosaic.specs.Least.{instanceOf}
@@ -32,7 +33,7 @@ FinishBy c (b ∷ bs) = (b .finish ≤ c) × FinishBy c bs
 
 -- no batch up to strip i finishes later
 abbrev pub latest : ℕ → ℕ
-latest i = mostStrips * mostTime + i * (2 * mostTime)
+latest i = mostStrips * mostTime + i * (mostSetup + mostTime)
 
 -- the batches of the strips after i, the bench free at `free`
 pub record Attains (m : MosaicSection) (i free figure : ℕ) (bs : List Batch) : Type 0 where
@@ -55,7 +56,7 @@ module _ {m : MosaicSection} (S : MosaicSound m) where
     finish-most : finishOf (instanceOf m) free i q ≤ latest q
     unfolding instanceOf finishOf benchStart mountStart
     finish-most =
-        omega (arith, bench-most S i (q - i), ready-most S q (omega (arith, S .most-strips)), S .most-mount)
+        omega (arith, bench-most S i (q - i), ready-most S q (omega (arith, S .most-strips)), setup-most m S)
 
     pub attains-batch : (figure : ℕ) (bs : List Batch) → Attains m q (finishOf (instanceOf m) free i q) figure bs
         → Attains m i free ((q - i) * finishOf (instanceOf m) free i q + figure) (batchOf (instanceOf m) free i q ∷ bs)
@@ -75,8 +76,9 @@ module _ {m : MosaicSection} (S : MosaicSound m) where
       }
 
     -- to close the open batch at strip q
-    close : Attains m q (finishOf (instanceOf m) free i q) (leastAt (instanceOf m) q (finishOf (instanceOf m) free i q)) (chosenAt (instanceOf m) q (finishOf (instanceOf m) free i q))
-        → Attains m i free (closedAt (instanceOf m) (benchStart (m .mount) free (ready m q)) i q)
+    close : Attains m q (finishOf (instanceOf m) free i q) (leastAt (instanceOf m) q (finishOf (instanceOf m) free i q))
+        (chosenAt (instanceOf m) q (finishOf (instanceOf m) free i q))
+        → Attains m i free (closedAt (instanceOf m) (benchStart (setupTime m) free (ready m q)) i q)
         (batchOf (instanceOf m) free i q ∷ chosenAt (instanceOf m) q (finishOf (instanceOf m) free i q))
     unfolding closedAt instanceOf finishOf
     close A = rw (weight-count m i (q - i)) (attains-batch _ _ A)
@@ -97,7 +99,7 @@ module _ {m : MosaicSection} (S : MosaicSound m) where
       let x = instanceOf m in
       let F = finishOf x free i q in
       let less : q < m .strips = omega arith in
-      elim (decLt (closedAt x (benchStart (m .mount) free (ready m q)) i q) (openAt x i (q + 1) free)) [
+      elim (decLt (closedAt x (benchStart (setupTime m) free (ready m q)) i q) (openAt x i (q + 1) free)) [
         | yes y ↦
             same (omega (arith, open-more x i q free less)) (chosen-close x i q free less y)
             (close i q free h (omega arith) l

@@ -1,4 +1,5 @@
--- What ties the finish rule to the recursion: no lawful batch finishes before the earliest finish of its strips, and the batch that is as early as can be is lawful.
+-- What ties the finish rule to the recursion: no lawful batch finishes before the earliest finish of its strips, and the batch that is as early as can be is
+-- lawful.
 use mathlib.Core.Path.{_≡_, refl}
 use Prim.Native.Nat.{ℕ, _≤_, _<_}
 use native.Mathlib.Omega.{arith}

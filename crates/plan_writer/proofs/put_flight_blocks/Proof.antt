@@ -12,7 +12,12 @@ slice-aggregate-put-blocks-2 : tie.Need-slice-aggregate-put-blocks-2
 slice-aggregate-put-blocks-2 c = search needs
 
 put-blocks-requires : tie.Need-put-blocks-requires
-put-blocks-requires c κs = record { first-long = omega (arith, slice-aggregate-put-blocks (c .before)); second-long = omega (arith, slice-aggregate-put-blocks-2 c); room = search needs }
+put-blocks-requires c κs =
+    record {
+      first-long = omega (arith, slice-aggregate-put-blocks (c .before));
+      second-long = omega (arith, slice-aggregate-put-blocks-2 c);
+      room = search needs;
+    }
 
 same-length : tie.Need-same-length
 same-length c = search needs

@@ -15,7 +15,13 @@ slice-aggregate-put-batches-3 : tie.Need-slice-aggregate-put-batches-3
 slice-aggregate-put-batches-3 c = search needs
 
 put-batches-requires : tie.Need-put-batches-requires
-put-batches-requires c κs = record { last-long = omega (arith, slice-aggregate-put-batches (c .before .before)); start-long = omega (arith, slice-aggregate-put-batches-2 (c .before)); finish-long = omega (arith, slice-aggregate-put-batches-3 c); room = search needs }
+put-batches-requires c κs =
+    record {
+      last-long = omega (arith, slice-aggregate-put-batches (c .before .before));
+      start-long = omega (arith, slice-aggregate-put-batches-2 (c .before));
+      finish-long = omega (arith, slice-aggregate-put-batches-3 c);
+      room = search needs;
+    }
 
 same-length : tie.Need-same-length
 same-length c = search needs

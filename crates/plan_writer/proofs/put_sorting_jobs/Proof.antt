@@ -18,7 +18,14 @@ slice-aggregate-put-jobs-4 : tie.Need-slice-aggregate-put-jobs-4
 slice-aggregate-put-jobs-4 c = search needs
 
 put-jobs-requires : tie.Need-put-jobs-requires
-put-jobs-requires c κs = record { desk-long = omega (arith, slice-aggregate-put-jobs (c .before .before .before)); number-long = omega (arith, slice-aggregate-put-jobs-2 (c .before .before)); scan-long = omega (arith, slice-aggregate-put-jobs-3 (c .before)); start-long = omega (arith, slice-aggregate-put-jobs-4 c); room = search needs }
+put-jobs-requires c κs =
+    record {
+      desk-long = omega (arith, slice-aggregate-put-jobs (c .before .before .before));
+      number-long = omega (arith, slice-aggregate-put-jobs-2 (c .before .before));
+      scan-long = omega (arith, slice-aggregate-put-jobs-3 (c .before));
+      start-long = omega (arith, slice-aggregate-put-jobs-4 c);
+      room = search needs;
+    }
 
 same-length : tie.Need-same-length
 same-length c = search needs

@@ -53,7 +53,8 @@ loop-less : tie.Need-loop-less Inv-loop μ-loop
 loop-less c = omega arith
 
 loop-again : tie.Need-loop-again Inv-loop μ-loop
-loop-again c = ⊎-elim (λ w. (omega arith, omega arith, w .1 ∙ search costliest-next)) (λ w. (omega arith, omega arith, w .1 ∙ search costliest-kept)) (c .if1 .came)
+loop-again c =
+    ⊎-elim (λ w. (omega arith, omega arith, w .1 ∙ search costliest-next)) (λ w. (omega arith, omega arith, w .1 ∙ search costliest-kept)) (c .if1 .came)
 
 returns : tie.Need-returns Inv-loop μ-loop
 returns c = costliest-all _ _ _ _ (c .before .loop .inv .2) (c .before .loop .inv .0) (omega arith) (c .before .loop .inv .1)

@@ -1,7 +1,10 @@
--- `sorting_search::search` meets its contract, by the number of strips left, which falls. The loop's invariant: incumbent and table are those of the search with its cuts
--- after the desks passed, the incumbent is that of the search without cuts, and the table holds for it. A cut keeps the incumbent, as the search without cuts does;
+-- `sorting_search::search` meets its contract, by the number of strips left, which falls. The loop's invariant: incumbent and table are those of the search
+-- with its cuts
+-- after the desks passed, the incumbent is that of the search without cuts, and the table holds for it. A cut keeps the incumbent, as the search without cuts
+-- does;
 -- the label is stored once the loop is through.
-use Rattle.sorting_search.specs.Table.{Branched, searched-leaf, searched-cut, branched-none, branched-yes, branched-no, branched-same, can-serve, step-less, search-pre-step, searched-all}
+use Rattle.sorting_search.specs.Table.{Branched, searched-leaf, searched-cut, branched-none, branched-yes, branched-no, branched-same, can-serve}
+use Rattle.sorting_search.specs.Table.{step-less, search-pre-step, searched-all}
 use Prim.Native.Nat.{_-_}
 use borrow.Author.Tests.{ltb-true, ltb-false}
 use mathlib.Core.Logic.{⊎-elim}
@@ -84,7 +87,8 @@ search-step-requires : (t : ℕ) → search-lts.Need-step-requires (claims t) (s
 search-step-requires t c κs = let p : c .before .before .before .loop .d < 3 = omega arith in search can-serve
 
 search-search-requires : (t : ℕ) → search-lts.Need-search-requires (claims t) (search-at t) search′.Post search-Inv-loop search-μ-loop
-search-search-requires t c κs = let p : c .before .before .before .before .before .loop .d < 3 = omega arith in (search (step-less, can-serve), search (search-pre-step, can-serve))
+search-search-requires t c κs =
+    let p : c .before .before .before .before .before .loop .d < 3 = omega arith in (search (step-less, can-serve), search (search-pre-step, can-serve))
 
 search-add-d : (t : ℕ) → search-lts.Need-add-d (claims t) (search-at t) search′.Post search-Inv-loop search-μ-loop
 search-add-d t c = omega arith

@@ -60,7 +60,10 @@ loop-less : tie.Need-loop-less Inv-loop μ-loop
 loop-less c = search needs
 
 loop-again : tie.Need-loop-again Inv-loop μ-loop
-loop-again c = plan-step (c .before .before .before .before .before .before .before .before .before .before .before .pre) (c .before .before .before .before .before .before .before .loop .inv) (c .before .before .before .before .before .before .loop-test .taken) (c .before .before .before .before .before .first-batch .ensures) (c .before .before .before .greater .ensures) (c .add-batch .ensures)
+loop-again c =
+    plan-step (c .before .before .before .before .before .before .before .before .before .before .before .pre)
+    (c .before .before .before .before .before .before .before .loop .inv) (c .before .before .before .before .before .before .loop-test .taken)
+    (c .before .before .before .before .before .first-batch .ensures) (c .before .before .before .greater .ensures) (c .add-batch .ensures)
 
 returns : tie.Need-returns Inv-loop μ-loop
 returns c = search plan-end

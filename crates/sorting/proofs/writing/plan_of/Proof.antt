@@ -1,4 +1,5 @@
--- `sorting::writing::plan_of` meets its contract. The loop's invariant: the jobs written are those of the chosen list, and the state is the one that it has reached.
+-- `sorting::writing::plan_of` meets its contract. The loop's invariant: the jobs written are those of the chosen list, and the state is the one that it has
+-- reached.
 use Rattle.sorting.specs.Writing.{Begun, begun-start, loop-digit, loop-with-job-pre, loop-serves, loop-falls, loop-more, begun-end}
 use borrow.Author.Needs.{needs}
 use native.Mathlib.Omega.{arith}

@@ -1,6 +1,7 @@
 -- `sorting_bounds::desk_bound::desk_rest` meets its contract. The loop's invariant: what is summed and what is left are together the whole rest;
 -- each strip adds at most `restSpan`.
-use Rattle.sorting_bounds.specs.DeskBound.{aloneSum, deskRest, RestSoFar, rest-none, rest-more, rest-all, rest-small, strip-small, greater-small, weighted-small}
+use Rattle.sorting_bounds.specs.DeskBound.{aloneSum, deskRest, RestSoFar, rest-none, rest-more, rest-all, rest-small, strip-small, greater-small}
+use Rattle.sorting_bounds.specs.DeskBound.{weighted-small}
 use lib.ListN.{getD}
 use borrow.Author.Needs.{needs}
 use mathlib.Core.Path.{_≡_, refl}
@@ -34,7 +35,8 @@ array-read-f : tie.Need-array-read-f Inv-loop μ-loop
 array-read-f c = search needs
 
 loop-holds : tie.Need-loop-holds Inv-loop μ-loop
-loop-holds c = (refl, rest-none _ (c .before .before .before .before .pre .0) _ (c .before .before .before .before .pre .1) _ (c .before .before .before .before .pre .2))
+loop-holds c =
+    (refl, rest-none _ (c .before .before .before .before .pre .0) _ (c .before .before .before .before .pre .1) _ (c .before .before .before .before .pre .2))
 
 mul-at : tie.Need-mul-at Inv-loop μ-loop
 mul-at c = omega arith
@@ -52,7 +54,8 @@ shared-slice-read-t : tie.Need-shared-slice-read-t Inv-loop μ-loop
 shared-slice-read-t c = omega arith
 
 add-t : tie.Need-add-t Inv-loop μ-loop
-add-t c = let a = strip-small _ (c .before .before .before .before .before .before .before .pre .0) _ _ _ _ _ _ (c .before .before .loop .inv .1) (omega arith) in omega arith
+add-t c =
+    let a = strip-small _ (c .before .before .before .before .before .before .before .pre .0) _ _ _ _ _ _ (c .before .before .loop .inv .1) (omega arith) in omega arith
 
 greater-requires : tie.Need-greater-requires Inv-loop μ-loop
 greater-requires c κs = search needs
@@ -67,10 +70,12 @@ shared-slice-read-f : tie.Need-shared-slice-read-f Inv-loop μ-loop
 shared-slice-read-f c = omega arith
 
 add-f-2 : tie.Need-add-f-2 Inv-loop μ-loop
-add-f-2 c = let a = strip-small _ (c .before .before .before .before .before .before .before .before .before .pre .0) _ _ _ _ _ _ (c .before .before .before .before .loop .inv .1) (omega arith) in let b = greater-small _ (c .before .before .before .before .before .before .before .before .before .pre .0) _ _ _ _ _ _ (c .before .before .before .before .loop .inv .1) (omega arith) in omega arith
+add-f-2 c =
+    let a = strip-small _ (c .before .before .before .before .before .before .before .before .before .pre .0) _ _ _ _ _ _ (c .before .before .before .before .loop .inv .1) (omega arith) in let b = greater-small _ (c .before .before .before .before .before .before .before .before .before .pre .0) _ _ _ _ _ _ (c .before .before .before .before .loop .inv .1) (omega arith) in omega arith
 
 add-sum : tie.Need-add-sum Inv-loop μ-loop
-add-sum c = let e = weighted-small _ (c .before .before .before .before .before .before .before .before .before .pre .0) _ _ _ _ _ _ (c .before .before .before .before .loop .inv .1) (omega arith) _ (c .before .greater .ensures) in omega arith
+add-sum c =
+    let e = weighted-small _ (c .before .before .before .before .before .before .before .before .before .pre .0) _ _ _ _ _ _ (c .before .before .before .before .loop .inv .1) (omega arith) _ (c .before .greater .ensures) in omega arith
 
 mul-sum : tie.Need-mul-sum Inv-loop μ-loop
 mul-sum c = omega arith
@@ -79,10 +84,12 @@ shared-slice-read-sum : tie.Need-shared-slice-read-sum Inv-loop μ-loop
 shared-slice-read-sum c = omega arith
 
 mul-sum-2 : tie.Need-mul-sum-2 Inv-loop μ-loop
-mul-sum-2 c = let e = weighted-small _ (c .before .before .before .before .before .before .before .before .before .before .pre .0) _ _ _ _ _ _ (c .before .before .before .before .before .loop .inv .1) (omega arith) _ (c .before .before .greater .ensures) in omega arith
+mul-sum-2 c =
+    let e = weighted-small _ (c .before .before .before .before .before .before .before .before .before .before .pre .0) _ _ _ _ _ _ (c .before .before .before .before .before .loop .inv .1) (omega arith) _ (c .before .before .greater .ensures) in omega arith
 
 add-sum-2 : tie.Need-add-sum-2 Inv-loop μ-loop
-add-sum-2 c = let e = weighted-small _ (c .before .before .before .before .before .before .before .before .before .before .pre .0) _ _ _ _ _ _ (c .before .before .before .before .before .loop .inv .1) (omega arith) _ (c .before .before .greater .ensures) in omega arith
+add-sum-2 c =
+    let e = weighted-small _ (c .before .before .before .before .before .before .before .before .before .before .pre .0) _ _ _ _ _ _ (c .before .before .before .before .before .loop .inv .1) (omega arith) _ (c .before .before .greater .ensures) in omega arith
 
 add-i : tie.Need-add-i Inv-loop μ-loop
 add-i c = omega arith
@@ -91,11 +98,13 @@ loop-less : tie.Need-loop-less Inv-loop μ-loop
 loop-less c = omega arith
 
 loop-again : tie.Need-loop-again Inv-loop μ-loop
-loop-again c = (omega arith, rest-more _ (c .before .before .before .before .before .before .before .before .before .before .pre .0) _ _ _ _ _ _ (c .before .before .before .before .before .loop .inv .1) (omega arith) _ _ refl (c .before .before .greater .ensures))
+loop-again c =
+    (omega arith, rest-more _ (c .before .before .before .before .before .before .before .before .before .before .pre .0) _ _ _ _ _ _ (c .before .before .before .before .before .loop .inv .1) (omega arith) _ _ refl (c .before .before .greater .ensures))
 
 returns : tie.Need-returns Inv-loop μ-loop
 unfolding deskRest
-returns c = (rest-all _ (c .before .before .before .before .before .before .pre .0) _ _ _ _ _ _ (c .before .loop .inv .1) (omega arith), rest-small _ (c .before .before .before .before .before .before .pre .0) _ _ _ _ _ _ (c .before .loop .inv .1))
+returns c =
+    (rest-all _ (c .before .before .before .before .before .before .pre .0) _ _ _ _ _ _ (c .before .loop .inv .1) (omega arith), rest-small _ (c .before .before .before .before .before .before .pre .0) _ _ _ _ _ _ (c .before .loop .inv .1))
 
 pub desk-rest-spec : {M : Type 1} → statement M
 desk-rest-spec =

@@ -97,7 +97,13 @@ lesser-requires-2 : tie.Need-lesser-requires-2
 lesser-requires-2 c κs = search needs
 
 returns-2 : tie.Need-returns-2
-returns-2 c = entry-some (c .before .before .before .before .before .before .before .before .before .before .before .before .before .before .before .before .before .pre) (c .lesser2 .ensures) (c .before .lesser .ensures) (c .before .before .before .before .before .before .through .ensures) (c .before .before .before .before .through2 .ensures) (c .before .before .through3 .ensures) (c .before .before .before .before .before .before .before .before .before .before .scan-sum .ensures) (c .before .before .before .before .before .before .before .before .before .scan-sum2 .ensures) (c .before .before .before .before .before .before .before .before .scan-sum3 .ensures) refl (omega arith)
+returns-2 c =
+    entry-some (c .before .before .before .before .before .before .before .before .before .before .before .before .before .before .before .before .before .pre)
+    (c .lesser2 .ensures) (c .before .lesser .ensures) (c .before .before .before .before .before .before .through .ensures)
+    (c .before .before .before .before .through2 .ensures) (c .before .before .through3 .ensures)
+    (c .before .before .before .before .before .before .before .before .before .before .scan-sum .ensures)
+    (c .before .before .before .before .before .before .before .before .before .scan-sum2 .ensures)
+    (c .before .before .before .before .before .before .before .before .scan-sum3 .ensures) refl (omega arith)
 
 pub scanner-entry-spec : {M : Type 1} → statement M
 scanner-entry-spec =

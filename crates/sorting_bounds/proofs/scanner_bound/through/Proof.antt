@@ -57,7 +57,8 @@ mul-lesser-2 : tie.Need-mul-lesser-2
 mul-lesser-2 c = let h = strip-sums (c .before .before .before .before .before .before .pre) in omega arith
 
 add-lesser-2 : tie.Need-add-lesser-2
-add-lesser-2 c = let h = strip-sums (c .before .before .before .before .before .before .pre) in omega (arith, c .before .before .before .before .before .before .pre .next (omega arith))
+add-lesser-2 c =
+    let h = strip-sums (c .before .before .before .before .before .before .pre) in omega (arith, c .before .before .before .before .before .before .pre .next (omega arith))
 
 lesser-requires : tie.Need-lesser-requires
 lesser-requires c κs = search needs

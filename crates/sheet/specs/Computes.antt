@@ -1,0 +1,27 @@
+-- For proofs that compute: to unfold `sheetComputes` is to unfold every definition that the reading of a sheet runs through.
+use Prim.{Unit, tt}
+use Rattle.base.specs.Branch.{check}
+use Rattle.order.specs.Order.{seconds, firsts, neverMoreSeconds, isProper}
+use Rattle.field.specs.Bytes.{numberAt, bytesOf}
+use Rattle.field.specs.Field.{fieldAt, fieldBytes}
+use Rattle.sheet.specs.Sections.{stripsOfDesk}
+use Rattle.sheet.specs.FieldTable.{lengthDue, mosaicHeadValues, mosaicStripValues, stationTimes, sortingHeadValues, sortingStripValues}
+use Rattle.sheet.specs.FieldTable.{flightBlockValues, valuesOf}
+use Rattle.sheet.specs.Rows.{firstFailure}
+use Rattle.sheet.specs.Checks.{endsSection, sectionFilled, fewBlocks, orderGiven, orderPermitted, permitted}
+use Rattle.sheet.specs.Checks.{valueNumber, valueNumbers, rangeNumber, hasRoom, orderProper}
+use Rattle.sheet.specs.Decode.{zeros, noMosaic, noSorting, noFlight, withMosaicHead, withStationTimes, withMosaicStrip, withSortingHead, withStripAt}
+use Rattle.sheet.specs.Decode.{withSortingStrip, withBlock, withOrder, nextMosaic, nextSorting, nextFlight, nextSection, nextMembers, nextHead}
+use Rattle.sheet.specs.Decode.{nextReading, startReading}
+use Rattle.sheet.specs.Read.{readSheet, contentChecks, fieldChecks, fieldNumber, endChecks, endNumber, placeOf, refused, accepted, atEnd, readFrom}
+use Rattle.sheet.specs.Sound.{stripsInAll}
+
+unfoldable pub sheetComputes : Unit {0}
+unfolding
+    seconds firsts neverMoreSeconds isProper numberAt bytesOf fieldAt fieldBytes check
+    lengthDue mosaicHeadValues mosaicStripValues stationTimes sortingHeadValues sortingStripValues flightBlockValues valuesOf
+    endsSection sectionFilled fewBlocks orderGiven orderPermitted permitted firstFailure valueNumber valueNumbers rangeNumber hasRoom stripsOfDesk orderProper
+    zeros noMosaic noSorting noFlight withMosaicHead withStationTimes withMosaicStrip withSortingHead withStripAt withSortingStrip withBlock withOrder
+    nextMosaic nextSorting nextFlight nextSection nextMembers nextHead nextReading startReading
+    contentChecks fieldChecks fieldNumber endChecks endNumber placeOf refused accepted atEnd readFrom readSheet stripsInAll
+sheetComputes = tt
