@@ -1,7 +1,6 @@
-// The search over the interleavings of the desks' strips: its states and one step of it (in the literature: the differentiation flowshop, two stages with
-// one common machine, the scanner, and then dedicated machines, the desks, for the sum of weighted completion times). The section is one list of numbers,
-// `jobs`: strips of each
-// desk, then scan times, desk times and weights, six to a desk (specs/Instance.antt). Desks and strips are counted from 0.
+// The search over the interleavings of the desks' strips: its states and one step of it (in the literature: the differentiation flowshop, two stages with one
+// common machine, the scanner, and then dedicated machines, the desks, for the sum of weighted completion times). The section is one list of numbers, `jobs`:
+// strips of each desk, then scan times, desk times and weights, six to a desk (specs/Instance.antt). Desks and strips are counted from 0.
 ghost use mathlib.Core.Path.{_≡_};
 ghost use Prim.Native.Nat.{_<_};
 ghost use lib.ListN.{getD};

@@ -21,11 +21,11 @@ use Rattle.plan_read.specs.Laws.{member-at}
 use Rattle.running.specs.FunctionLaws.{TimeTold}
 use Rattle.rules.specs.declared.Passes.{Passes}
 use Rattle.judge_rules.specs.Follows.{passesInOrder, flightHead}
-use Rattle.judge_flight.specs.Starts.{startOf, endOf, PassStartPre, StartTold, FigureTold, FlightHeadPre, PassEndPre, PassesInOrderPre}
+use Rattle.judge_flight.specs.Starts.{startInPlan, endInPlan, PassStartPre, StartTold, FigureTold, FlightHeadPre, PassEndPre, PassesInOrderPre}
 
 module _ (f : FlightSection) (plan : List ℕ) (at p : ℕ) (known : p < 2 * f .blocks) where
-  start-case : Dec (p < f .blocks) → startOf plan at (f .blocks) p ≡ passStart f (blocksFrom plan at (f .blocks)) p
-  unfolding startOf passStart passesAt
+  start-case : Dec (p < f .blocks) → startInPlan plan at (f .blocks) p ≡ passStart f (blocksFrom plan at (f .blocks)) p
+  unfolding startInPlan passStart passesAt
   start-case (yes h) = rw (lt-ltb _ _ h, member-at passesFrom (sizeOf passesForm) plan at (f .blocks) p noPasses h)
   start-case (no h) =
       let l : f .blocks ≤ p = omega arith in
@@ -33,26 +33,26 @@ module _ (f : FlightSection) (plan : List ℕ) (at p : ℕ) (known : p < 2 * f .
       rw (le-ltb _ _ l, member-at passesFrom (sizeOf passesForm) plan at (f .blocks) (p - f .blocks) noPasses k)
 
   -- what the bytes give is the start and the end that the rules name
-  pub start-is : startOf plan at (f .blocks) p ≡ passStart f (blocksFrom plan at (f .blocks)) p
+  pub start-is : startInPlan plan at (f .blocks) p ≡ passStart f (blocksFrom plan at (f .blocks)) p
   start-is = start-case (decLt p (f .blocks))
 
-  pub end-is : endOf f plan at p ≡ passEnd f (blocksFrom plan at (f .blocks)) p
-  unfolding endOf passEnd
+  pub end-is : endInPlan f plan at p ≡ passEnd f (blocksFrom plan at (f .blocks)) p
+  unfolding endInPlan passEnd
   end-is = ap (λ n. n + passTime f p) start-is
 
 module _ (plan : List ℕ) (at n p : ℕ) (block : Passes) where
-  pub first-start : p < n → PassesRead plan (at + sizeOf passesForm * p) block → StartTold (startOf plan at n p) (block .first)
-  unfolding startOf
+  pub first-start : p < n → PassesRead plan (at + sizeOf passesForm * p) block → StartTold (startInPlan plan at n p) (block .first)
+  unfolding startInPlan
   first-start h r = record { is = rw (lt-ltb _ _ h) (ap (λ (q : Passes). q .first) (r .is)); fits = r .fits .first }
 
-  pub second-start : n ≤ p → PassesRead plan (at + sizeOf passesForm * (p - n)) block → StartTold (startOf plan at n p) (block .second)
-  unfolding startOf
+  pub second-start : n ≤ p → PassesRead plan (at + sizeOf passesForm * (p - n)) block → StartTold (startInPlan plan at n p) (block .second)
+  unfolding startInPlan
   second-start h r = record { is = rw (le-ltb _ _ h) (ap (λ (q : Passes). q .second) (r .is)); fits = r .fits .second }
 
 module _ (f : FlightSection) (plan : List ℕ) (at p : ℕ) where
-  pub end-told : (start time : ℕ) → StartTold (startOf plan at (f .blocks) p) start → TimeTold (passTime f p) time
-      → FigureTold (endOf f plan at p) (start + time)
-  unfolding endOf
+  pub end-told : (start time : ℕ) → StartTold (startInPlan plan at (f .blocks) p) start → TimeTold (passTime f p) time
+      → FigureTold (endInPlan f plan at p) (start + time)
+  unfolding endInPlan
   end-told start time t u = record { is = rw (t .is, u .is); fits = omega (arith, t .fits, u .fits) }
 
 -- the first k passes of the order come one after another
@@ -80,7 +80,7 @@ ordered-none f order ps = record { within = omega arith; so-far = refl }
 
 module _ (f : FlightSection) (order : ℕ) (plan : List ℕ) (at k : ℕ) (a : PassesInOrderPre f order at) (t : OrderedSoFar f order (blocksFrom plan at (f .blocks)) k)
     (less : k + 1 < 2 * f .blocks) (p q start end : ℕ) (ep : p ≡ passAt (f .blocks) order k) (eq : q ≡ passAt (f .blocks) order (k + 1))
-    (ts : StartTold (startOf plan at (f .blocks) q) start) (te : FigureTold (endOf f plan at p) end) where
+    (ts : StartTold (startInPlan plan at (f .blocks) q) start) (te : FigureTold (endInPlan f plan at p) end) where
   known-p : p < 2 * f .blocks
   known-p = rw ep (pass-known (a .proper) k (omega arith))
 
@@ -146,7 +146,7 @@ unfolding greatestOver
 latest-none f ps = record { within = omega arith; is = refl; fits = omega arith }
 
 module _ (f : FlightSection) (plan : List ℕ) (at p value : ℕ) (t : LatestSoFar f (blocksFrom plan at (f .blocks)) p value) where
-  pub latest-more : (end next : ℕ) → p < 2 * f .blocks → FigureTold (endOf f plan at p) end → next ≡ max value end
+  pub latest-more : (end next : ℕ) → p < 2 * f .blocks → FigureTold (endInPlan f plan at p) end → next ≡ max value end
       → LatestSoFar f (blocksFrom plan at (f .blocks)) (p + 1) next
   unfolding greatestOver
   latest-more end next h u e =

@@ -12,11 +12,11 @@ use Rattle.rules.specs.Flight.{passTime}
 use Rattle.plan_format.specs.Format.{sizeOf, widthOf, passesForm}
 use Rattle.plan_read.specs.PlanRead.{passesFrom}
 
-unfoldable pub startOf : List ℕ → ℕ → ℕ → ℕ → ℕ
-startOf plan at n p = cond (ltb p n) (passesFrom plan (at + sizeOf passesForm * p) .first) (passesFrom plan (at + sizeOf passesForm * (p - n)) .second)
+unfoldable pub startInPlan : List ℕ → ℕ → ℕ → ℕ → ℕ
+startInPlan plan at n p = cond (ltb p n) (passesFrom plan (at + sizeOf passesForm * p) .first) (passesFrom plan (at + sizeOf passesForm * (p - n)) .second)
 
-unfoldable pub endOf : FlightSection → List ℕ → ℕ → ℕ → ℕ
-endOf f plan at p = startOf plan at (f .blocks) p + passTime f p
+unfoldable pub endInPlan : FlightSection → List ℕ → ℕ → ℕ → ℕ
+endInPlan f plan at p = startInPlan plan at (f .blocks) p + passTime f p
 
 pub record PassStartPre (at n p : ℕ) : Type 0 where
   pub room : at + sizeOf passesForm * mostBlocks < 2 ^ 64

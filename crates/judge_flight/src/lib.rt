@@ -11,12 +11,12 @@ ghost use Prim.Native.Nat.{_+_, _-_, _*_, _<_};
 ghost use Rattle.rules.specs.Flight.{flightFigure};
 ghost use Rattle.plan_read.specs.PlanRead.{blocksFrom};
 ghost use Rattle.judge_rules.specs.Follows.{passesInOrder, flightHead};
-ghost use Rattle.judge_flight.specs.Starts.{PassStartPre, StartTold, PassEndPre, PassesInOrderPre, FigureTold, FlightHeadPre, startOf, endOf};
+ghost use Rattle.judge_flight.specs.Starts.{PassStartPre, StartTold, PassEndPre, PassesInOrderPre, FigureTold, FlightHeadPre, startInPlan, endInPlan};
 
 // The start of pass p of n blocks.
 fn pass_start(plan: &[u8], at: usize, n: usize, p: usize) -> u64
     requires { ⌜ PassStartPre at n p ⌝ }
-    ensures { λ r. ⌜ StartTold (startOf (now (plan .entry)) at n p) r ⌝ }
+    ensures { λ r. ⌜ StartTold (startInPlan (now (plan .entry)) at n p) r ⌝ }
 {
     if p < n {
         let block = passes_from(plan, at + PASSES_SIZE * p);
@@ -29,7 +29,7 @@ fn pass_start(plan: &[u8], at: usize, n: usize, p: usize) -> u64
 // The end of pass p.
 fn pass_end(f: FlightSection, plan: &[u8], at: usize, p: usize) -> u64
     requires { ⌜ PassEndPre f at p ⌝ }
-    ensures { λ r. ⌜ FigureTold (endOf f (now (plan .entry)) at p) r ⌝ }
+    ensures { λ r. ⌜ FigureTold (endInPlan f (now (plan .entry)) at p) r ⌝ }
 {
     pass_start(plan, at, f.blocks, p) + pass_time(f, p)
 }

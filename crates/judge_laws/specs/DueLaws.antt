@@ -1,6 +1,5 @@
 -- The judge decides 12. Walking from part to part as it does, every field passed is due where it stands, and where a part is not right, no field that is due
--- stands
--- (Standing). And the fields that are due are determined by the plan, so that no other place is the first wrong one (stuck-once).
+-- stands (Standing). And the fields that are due are determined by the plan, so that no other place is the first wrong one (first-wrong-once).
 use Prim.Native.Nat.{ℕ, zero, suc, _+_, _*_, _≤_, _<_}
 use mathlib.Core.Path.{_≡_, refl, sym, ap, ap₂, subst, _∙_}
 use mathlib.Core.Bool.{Bool, true, false, cond, true≢false}
@@ -351,20 +350,20 @@ module _ (s : Sheet) (plan : List ℕ) where
       go (no e) h = h (omega (arith, e))
 
   -- where the walk is at its end: no field that is due follows
-  record Stuck (at k : ℕ) : Type 0 where
+  record FirstWrong (at k : ℕ) : Type 0 where
     pub fields : ℕ
     pub up-to : DueUpTo s plan fields at k
     pub none : NoneDue s plan at k
 
-  not-before : {at k bt j : ℕ} (p : Stuck at k) (q : Stuck bt j) → p .fields < q .fields → ⊥
+  not-before : {at k bt j : ℕ} (p : FirstWrong at k) (q : FirstWrong bt j) → p .fields < q .fields → ⊥
   unfolding NoneDue
   not-before {at} {k} p q l =
       let d = due-before (q .up-to) (p .fields) l in
       let e = due-up-to-once (d .up-to) (p .up-to) in
       p .none (d .tag) (d .len) (d .next) (ap (fieldAt plan) (sym (e .0)) ∙ d .field) (subst (λ (x : ℕ). Due s x (d .tag) (d .len) (d .next)) (e .1) (d .due))
 
-  stuck-once : {at k bt j : ℕ} → Stuck at k → Stuck bt j → (at ≡ bt) × (k ≡ j)
-  stuck-once {at} {k} {bt} {j} p q = go (decLt (p .fields) (q .fields)) (decLt (q .fields) (p .fields))
+  first-wrong-once : {at k bt j : ℕ} → FirstWrong at k → FirstWrong bt j → (at ≡ bt) × (k ≡ j)
+  first-wrong-once {at} {k} {bt} {j} p q = go (decLt (p .fields) (q .fields)) (decLt (q .fields) (p .fields))
     where
       go : Dec (p .fields < q .fields) → Dec (q .fields < p .fields) → (at ≡ bt) × (k ≡ j)
       go (yes l) b = absurd (not-before p q l)
@@ -378,23 +377,23 @@ module _ (s : Sheet) (plan : List ℕ) where
   unfolding NoneDue
   at-end at k e tag len j f d = let w = whole-at plan at tag len f .within in omega arith
 
-  stuck-right : (r : LaidOut s plan) → Stuck (length plan) (r .section)
-  stuck-right r = record { fields = r .fields; up-to = r .due; none = at-end (length plan) (r .section) refl }
+  first-wrong-right : (r : LaidOut s plan) → FirstWrong (length plan) (r .section)
+  first-wrong-right r = record { fields = r .fields; up-to = r .due; none = at-end (length plan) (r .section) refl }
 
   -- one plan has no two first faults, and none where it is laid out right
   fault-once : (place other : ℕ) → LayoutFault s plan place → LayoutFault s plan other → place ≡ other
   fault-once place other (LayoutFault.wrong-field n k p l h) (LayoutFault.wrong-field m i q o g) =
-      stuck-once (record { fields = n; up-to = p; none = h }) (record { fields = m; up-to = q; none = g }) .0
+      first-wrong-once (record { fields = n; up-to = p; none = h }) (record { fields = m; up-to = q; none = g }) .0
   fault-once place other (LayoutFault.wrong-field n k p l h) (LayoutFault.ends-early m i j q e x) =
-      stuck-once (record { fields = n; up-to = p; none = h }) (record { fields = m; up-to = q; none = at-end other i e }) .0
+      first-wrong-once (record { fields = n; up-to = p; none = h }) (record { fields = m; up-to = q; none = at-end other i e }) .0
   fault-once place other (LayoutFault.ends-early n k j p e x) (LayoutFault.wrong-field m i q o g) =
-      stuck-once (record { fields = n; up-to = p; none = at-end place k e }) (record { fields = m; up-to = q; none = g }) .0
+      first-wrong-once (record { fields = n; up-to = p; none = at-end place k e }) (record { fields = m; up-to = q; none = g }) .0
   fault-once place other (LayoutFault.ends-early n k j p e x) (LayoutFault.ends-early m i l q f y) = e ∙ sym f
 
   right-no-fault : (place : ℕ) → LaidOut s plan → LayoutFault s plan place → ⊥
-  right-no-fault place r (LayoutFault.wrong-field n k p l h) = omega (arith, stuck-once (record { fields = n; up-to = p; none = h }) (stuck-right r) .0)
+  right-no-fault place r (LayoutFault.wrong-field n k p l h) = omega (arith, first-wrong-once (record { fields = n; up-to = p; none = h }) (first-wrong-right r) .0)
   right-no-fault place r (LayoutFault.ends-early n k j p e x) =
-      let w = stuck-once (record { fields = n; up-to = p; none = at-end place k e }) (stuck-right r) in
+      let w = first-wrong-once (record { fields = n; up-to = p; none = at-end place k e }) (first-wrong-right r) in
       r .last j (subst (λ (i : ℕ). NextSection s i j) (w .1) x)
 
   -- So the judge's number is 12 at the place of the fault, and 0 where there is none.

@@ -1,5 +1,5 @@
--- Proper orders as 64-bit numbers: those of at most 32 blocks are 64-bit numbers, no 64-bit number is proper for more,
--- and the ones of the whole number are as many as the blocks.
+-- Proper orders as 64-bit numbers: those of at most 32 blocks are 64-bit numbers, no 64-bit number is proper for more, and the ones of the whole number are as
+-- many as the blocks.
 use mathlib.Core.Path.{_≡_, _∙_}
 use Prim.Native.Nat.{ℕ, _*_, _^_, _≤_, _<_}
 use native.Mathlib.Nat.{lt-of-lt-of-le}

@@ -1,6 +1,5 @@
 -- What best_interleaving is lent and what it hands out. The search starts from the greedy figure plus one, and returns what it returns from no incumbent: the
--- first
--- best list. The table is what the search with its cuts leaves, and it holds for the figure found.
+-- first best list. The table is what the search with its cuts leaves, and it holds for the figure found.
 use mathlib.Core.Path.{_≡_, sym, ap, subst, _∙_}
 use mathlib.Core.List.{List}
 use Prim.Native.Nat.{ℕ, _+_, _≤_}

@@ -42,8 +42,7 @@ unfolding SameFrom
 same-trans n M N O p q x l = q x l ∙ p x l
 
 -- what the search asks and what it gives: incumbent and table as the search with its cuts has them, and the incumbent as the search without cuts finds it.
--- Behind the
--- labels it changes nothing.
+-- Behind the labels it changes nothing.
 pub record SearchPre (J : List ℕ) (s : State) (B : ℕ) (M : List ℕ) : Type 0 where
   pub jobs : Instance J
   pub state : Consistent J s

@@ -1,7 +1,6 @@
 -- `sorting_search::search` meets its contract, by the number of strips left, which falls. The loop's invariant: incumbent and table are those of the search
--- with its cuts
--- after the desks passed, the incumbent is that of the search without cuts, and the table holds for it. A cut keeps the incumbent, as the search without cuts
--- does;
+-- with its cuts after the desks passed, the incumbent is that of the search without cuts, and the table holds for it. A cut keeps the incumbent, as the search
+-- without cuts does;
 -- the label is stored once the loop is through.
 use Rattle.sorting_search.specs.Table.{Branched, searched-leaf, searched-cut, branched-none, branched-yes, branched-no, branched-same, can-serve}
 use Rattle.sorting_search.specs.Table.{step-less, search-pre-step, searched-all}
