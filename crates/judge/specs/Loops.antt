@@ -20,7 +20,7 @@ use Rattle.judge_layout.specs.Laws.{LayoutVerdictPre, PartFits, parts-fit}
 use Rattle.judge_layout.specs.declared.Part.{Part}
 use Rattle.judge_layout.specs.declared.Verdict.{Verdict}
 use Rattle.judge_members.specs.Members.{present, headForm, memberForm, memberPlace, begun, memberFollows, afterMember, headNumber}
-use Rattle.judge_members.specs.Laws.{Kept, MemberPlacePre, MemberFollowsPre, AfterMemberPre, HeadAsked, begun-kept, member-kept}
+use Rattle.judge_members.specs.Laws.{Kept, MemberPlacePre, MemberFollowsPre, AfterMemberPre, HeadNumberPre, begun-kept, member-kept}
 use Rattle.judge_members.specs.declared.Progress.{Progress}
 use Rattle.judge.specs.Judged.{pickPart, partAt, sectionFrom, sectionVerdict, sectionsFrom, statedFigure, turnedBack, found, concluded, judgedPlan}
 use Rattle.judge.specs.Judged.{judged}
@@ -246,7 +246,7 @@ module _ (s : Sheet) (plan : List ℕ) (section : ℕ) (part : Part) (k : ℕ) (
                   ∙ opened-member;
             }
 
-  pub head-asked : HeadAsked s part
+  pub head-asked : HeadNumberPre s part
   head-asked = record { sound = i .sound; room = omega (arith, i .small, fits .within, fits .members) }
 
   module _ (all : part .members ≤ k) (number : ℕ) (en : number ≡ headNumber s plan section part p) where
