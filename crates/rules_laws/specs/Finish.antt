@@ -9,7 +9,7 @@ use Rattle.rules.specs.declared.Batch.{Batch}
 
 pub setup-most : (m : MosaicSection) → MosaicSound m → setupTime m ≤ mostSetup
 unfolding setupTime
-setup-most m sound = sound .most-mount
+setup-most m sound = omega (arith, sound .most-mount)
 
 pub finish-worked : (m : MosaicSection) (before b : Batch) → b .start + benchSum m (before .last) (b .last - before .last) ≤ finishDue m before b
 unfolding finishDue

@@ -43,9 +43,9 @@ pub record SetupTold (m : MosaicSection) (r : ℕ) : Type 0 where
   pub is : r ≡ setupTime m
   pub fits : r ≤ mostSetup
 
-pub setup-told : (m : MosaicSection) → MosaicSound m → SetupTold m (m .mount)
+pub setup-told : (m : MosaicSection) (r : ℕ) → MosaicSound m → r ≡ setupTime m → SetupTold m r
 unfolding setupTime
-setup-told m sound = record { is = refl; fits = sound .most-mount }
+setup-told m r sound e = record { is = e; fits = omega (arith, sound .most-mount) }
 
 -- a sum of at most 40 times
 pub record SumTold (value r : ℕ) : Type 0 where
