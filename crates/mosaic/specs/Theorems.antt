@@ -2,10 +2,10 @@
 -- (any batching, any idle time), starts each mount as early as its batches allow, and finishes below the ceiling.
 use mathlib.Core.Path.{_≡_, refl, _∙_}
 use mathlib.Core.List.{List, []}
-use Prim.Native.Nat.{ℕ, _+_, _*_, _-_, _≤_, _<_}
+use Prim.Native.Nat.{ℕ, _*_, _-_, _≤_, _<_}
 use native.Mathlib.Omega.{arith}
 use lib.ListN.{length}
-use Rattle.sheet.specs.Limits.{mostTime, mostStrips}
+use Rattle.sheet.specs.Limits.{mostStrips}
 use Rattle.sheet.specs.Sound.{MosaicSound}
 use Rattle.sheet.specs.declared.MosaicSection.{MosaicSection}
 use Rattle.rules.specs.declared.Batch.{Batch}
@@ -46,12 +46,12 @@ module _ (m : MosaicSection) (S : MosaicSound m) where
       earliest m (chosenBatches m) bs noBatch noBatch (attained m S .early) chosen-runs (running.mosaic-runs m bs L) refl (omega arith) e
 
   -- 1,200,000 at most, below the ceiling of 10,000,000
-  pub mosaic-finishes : (i : ℕ) → i < length (chosenBatches m) → batchAt (chosenBatches m) i .finish ≤ mostStrips * mostTime + mostStrips * (2 * mostTime)
+  pub mosaic-finishes : (i : ℕ) → i < length (chosenBatches m) → batchAt (chosenBatches m) i .finish ≤ latest mostStrips
   unfolding batchAt
   mosaic-finishes i h = omega (arith, finish-at (latest (m .strips)) (chosenBatches m) (attained m S .finishes) i h, S .most-strips)
 
   -- 48,000,000 at most, which four bytes hold
-  pub mosaic-figure-most : leastFigure m ≤ mostStrips * (mostStrips * mostTime + mostStrips * (2 * mostTime))
+  pub mosaic-figure-most : leastFigure m ≤ mostStrips * latest mostStrips
   mosaic-figure-most = rw (least-is m) (figure-most S)
 
   pub mosaic-count : length (chosenBatches m) ≤ m .strips

@@ -14,7 +14,7 @@ use Rattle.order.specs.Order.{Decides}
 use Rattle.sheet.specs.declared.MosaicSection.{MosaicSection}
 use Rattle.sheet.specs.declared.SortingSection.{SortingSection}
 use Rattle.sheet.specs.declared.FlightSection.{FlightSection}
-use Rattle.rules.specs.Mosaic.{ready, MosaicLawful, mosaicFigure}
+use Rattle.rules.specs.Mosaic.{MosaicLawful, mosaicFigure}
 use Rattle.rules.specs.Sorting.{SortingLawful, sortingFigure}
 use Rattle.rules.specs.Flight.{FlightLawful, Keeps, OrderAllowed, flightFigure}
 use Rattle.rules.proofs.Computes.{rulesCompute}
