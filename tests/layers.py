@@ -1,11 +1,11 @@
 #!/usr/bin/env python3
-"""Draws the crates, layer by layer from bytes to C, from crates.txt, and checks who sees whom.
+"""Writes a page of the crates, layer by layer from bytes to C, from crates.txt, and checks who rests on whom.
 
 In crates.txt a line `## NAME: what it is` begins a layer; lower layers come first. A crate may rest on crates of its own and of lower layers alone.
-The judge and the planner never see each other: no crate of either layer rests on one of the other, directly or through others.
+Neither the judge nor the planner rests on a crate of the other, directly or through others.
 
     layers.py           writes docs/CRATES.md
-    layers.py --check   fails where docs/CRATES.md is not what would be written, or where a crate rests on what it must not see
+    layers.py --check   fails where docs/CRATES.md is not what would be written, or where a crate rests on what it must not
 """
 import pathlib
 import re
@@ -17,8 +17,8 @@ APART = ("The judge", "The planner")
 
 HEAD = """# The crates
 
-Layers from bytes to C; each rests on those above it in this page. The judge and the planner never see each other. One line a crate: what it is, and the
-crates that it rests on. Written by tests/layers.py from crates.txt and from the first sentence of each crate, and checked by it.
+Layers from bytes to C. A crate rests only on crates of its own layer and of layers above it in this page, and neither the judge nor the planner rests on
+a crate of the other. One line a crate: what it is, and the crates that it rests on. Written by tests/layers.py from crates.txt and from the first sentence of each crate, and checked by it.
 """
 
 
@@ -39,7 +39,7 @@ def read():
 
 
 def reached(crate, rests):
-    """Every crate that a crate sees, directly or through others."""
+    """Every crate that a crate rests on, directly or through others."""
     seen, todo = set(), list(rests[crate])
     while todo:
         name = todo.pop()
@@ -50,7 +50,7 @@ def reached(crate, rests):
 
 
 def faults(layers, rests):
-    """Where a crate rests on what it must not see."""
+    """Where a crate rests on what it must not."""
     level = {crate: k for k, (_, _, crates) in enumerate(layers) for crate in crates}
     apart = {name: set(crates) for name, _, crates in layers if name in APART}
     if set(apart) != set(APART):
@@ -62,7 +62,7 @@ def faults(layers, rests):
         for one, other in (APART, APART[::-1]):
             if crate in apart.get(one, ()):
                 for name in sorted(reached(crate, rests) & apart.get(other, set())):
-                    yield "%s sees %s: the judge and the planner must not see each other" % (crate, name)
+                    yield "%s rests on %s: the judge and the planner must not rest on each other" % (crate, name)
 
 
 def purpose(crate):

@@ -1,8 +1,8 @@
 -- The three demands on the planner and the judge, in their own words and order, as theorems about calls. What a theorem asks of a call is what the
 -- contract of the function gives: `Called` of `planner::plan` (planner, Call.antt), `Viewed` of `sevulamon_plan` (viewer, Viewed.antt), and
 -- `j ≡ judged sheet plan` of `judge::judge` and `sevulamon_judge` (judge, Judged.antt). When a plan is allowed is said by the rules alone (rules: Mosaic,
--- Sorting,
--- Flight, Plan). Rows of bytes are lists of numbers; where a law needs that they are below 256, as those of every lent slice are, it says so (`AreBytes`).
+-- Sorting, Flight, Plan). Rows of bytes are lists of numbers; where a law needs that they are below 256, as those of every lent slice are, it says so
+-- (`AreBytes`).
 use Prim.Native.Nat.{ℕ, _≤_, _<_}
 use mathlib.Core.Path.{_≡_, refl, sym, ap, subst, _∙_}
 use mathlib.Core.Bool.{true}
@@ -90,8 +90,7 @@ module _ (sheet plan table planAfter tableEnd : List ℕ) (r : Answer) (call : C
   refused-writes-nothing = call-refused sheet plan table planAfter tableEnd r call
 
   -- "an accepted one writes the plan and no byte past it": `written` is as many bytes as the answer says, at most 1,095, and behind them the buffer is as it
-  -- was.
-  -- That they are the plan is demand 3.
+  -- was. That they are the plan is demand 3.
   pub accepted-writes-the-plan : r .number ≡ 0 → WritesPlan plan planAfter r
   accepted-writes-the-plan z =
       let a = call-accepted sheet plan table planAfter tableEnd r call z in

@@ -39,8 +39,10 @@ HeadFollows s plan section part st =
     elim (eqb section 1) [
       | true ↦ st .before .last ≡ s .mosaic .strips
       | false ↦
-          elim (eqb section 2)
-          [ true ↦ AllDone (s .sorting) (st .desks) | false ↦ FlightHead (s .flight) (orderFrom plan (part .head)) (blocksFrom plan (part .head + sizeOf flightHeadForm) (part .members)) ]
+          elim (eqb section 2) [
+            | true ↦ AllDone (s .sorting) (st .desks)
+            | false ↦ FlightHead (s .flight) (orderFrom plan (part .head)) (blocksFrom plan (part .head + sizeOf flightHeadForm) (part .members))
+          ]
     ]
 
 -- the figure that the rules give the members of a section, as they stand in the plan

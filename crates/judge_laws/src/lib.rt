@@ -1,1 +1,1 @@
-// Laws of the judge: the theorems stand in specs/. There is no code.
+// The faults that the judge names, and the laws of the judge: definitions and theorems stand in specs/. There is no code.

@@ -1,4 +1,4 @@
--- The rules as tests: what is checked at a member and at a head (01, the end of "Turned back"). Crate judge_laws ties them to the rules.
+-- The rules as tests: what is checked at a member and at a head (01, the end of "Turned back"). Crate judge_laws proves that they decide the rules.
 use Prim.Native.Nat.{ℕ, zero, suc, _+_, _-_, _*_}
 use mathlib.Core.Bool.{Bool, true, not, _&&_, _||_}
 use mathlib.Core.List.{List}

@@ -1,5 +1,5 @@
 -- The format of a plan's fields (01, "The plan"): of each field its tag, and the widths in bytes of the numbers of its content, in order.
--- For every field alike there follow from it its size, its bytes and the numbers that are read from it.
+-- From a form follow its size, its bytes and the numbers that are read from it, for every form alike.
 use Prim.Native.Nat.{ℕ, _+_, _*_, _^_, _<_}
 use mathlib.Core.List.{List, [], _∷_, _++_}
 use lib.ListN.{getD, take}

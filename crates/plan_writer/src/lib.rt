@@ -5,7 +5,8 @@ ghost use Rattle.rules.specs.Plan.{membersBytes, batchBytes, jobBytes, passesBy
 ghost use Rattle.mosaic.specs.Plan.{batchesOf};
 ghost use Rattle.sorting.specs.Plan.{jobsOfPlan};
 ghost use Rattle.flight.specs.Choice.{passesOfPlan};
-ghost use Rattle.plan_writer.specs.Written.{PutMosaicBatchesPre, PutSortingJobsPre, PutFlightBlocksPre, WriteMosaicPre, WriteSortingPre, WriteFlightPre, WritePlanPre, Written, planOf};
+ghost use Rattle.plan_writer.specs.Written.{PutMosaicBatchesPre, PutSortingJobsPre, PutFlightBlocksPre, WriteMosaicPre, WriteSortingPre};
+ghost use Rattle.plan_writer.specs.Written.{WriteFlightPre, WritePlanPre, Written, planOf};
 use flight::FlightPlan;
 use mosaic::MosaicPlan;
 use plan_fields::heads::put_flight_head;

@@ -103,7 +103,15 @@ module _ (sheet plan table planAfter tableEnd : List ℕ) (r : Answer) (call : C
       go (Outcome.accepted l s i e p t) =
           let long : r .length ≡ length (ourBytes sheet) = ap (λ (a : Answer). a .length) e in
           let h = held (ourBytes sheet) plan planAfter (r .length) long p in
-          record { large = l; sound = s; possible = i; place = ap (λ (a : Answer). a .place) e; bytes = h .0; long = ap length (h .0) ∙ sym long; behind = h .1 }
+          record {
+            large = l;
+            sound = s;
+            possible = i;
+            place = ap (λ (a : Answer). a .place) e;
+            bytes = h .0;
+            long = ap length (h .0) ∙ sym long;
+            behind = h .1;
+          }
 
   -- A refused call has written nothing.
   pub call-refused : (r .number ≡ 0 → ⊥) → (planAfter ≡ plan) × (r .length ≡ 0)

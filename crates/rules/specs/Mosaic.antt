@@ -5,7 +5,7 @@ use mathlib.Core.Bool.{cond}
 use mathlib.Core.List.{List, [], _∷_}
 use lib.ListN.{length, getD}
 use lib.Dec.{leb}
-use Rattle.sheet.specs.Limits.{mostTime, ceiling}
+use Rattle.sheet.specs.Limits.{ceiling}
 use Rattle.sheet.specs.declared.MosaicSection.{MosaicSection}
 use Rattle.base.specs.Sums.{sumOver, greatestOver}
 use Rattle.rules.specs.declared.Batch.{Batch}
@@ -37,9 +37,6 @@ batchBefore bs (suc i) = batchAt bs i
 -- what a batch takes at the bench beside its strips' bench times: the mount time s (in the literature: setup time)
 unfoldable pub setupTime : MosaicSection → ℕ
 setupTime m = m .mount
-
-abbrev pub mostSetup : ℕ
-mostSetup = mostTime
 
 -- "Finish = start + s + the batch's bench times": its strips are those after the last strip of the batch before, up to its own last strip
 unfoldable pub finishDue : MosaicSection → Batch → Batch → ℕ

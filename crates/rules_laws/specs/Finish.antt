@@ -4,8 +4,9 @@ use Prim.Native.Nat.{_+_, _-_, _≤_}
 use native.Mathlib.Omega.{arith}
 use Rattle.sheet.specs.Sound.{MosaicSound}
 use Rattle.sheet.specs.declared.MosaicSection.{MosaicSection}
-use Rattle.rules.specs.Mosaic.{benchSum, setupTime, mostSetup, finishDue}
+use Rattle.rules.specs.Mosaic.{benchSum, setupTime, finishDue}
 use Rattle.rules.specs.declared.Batch.{Batch}
+use Rattle.running.specs.FunctionLaws.{mostSetup}
 
 pub setup-most : (m : MosaicSection) → MosaicSound m → setupTime m ≤ mostSetup
 unfolding setupTime

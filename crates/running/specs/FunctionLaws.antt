@@ -13,7 +13,7 @@ use Rattle.sheet.specs.declared.MosaicSection.{MosaicSection}
 use Rattle.sheet.specs.declared.SortingSection.{SortingSection}
 use Rattle.sheet.specs.declared.FlightSection.{FlightSection}
 use Rattle.base.specs.Sums.{sumOver, greatestOver}
-use Rattle.rules.specs.Mosaic.{stationSum, ready, benchSum, setupTime, mostSetup, finishDue}
+use Rattle.rules.specs.Mosaic.{stationSum, ready, benchSum, setupTime, finishDue}
 use Rattle.rules.specs.Sorting.{slot, scanTime, deskTime}
 use Rattle.rules.specs.Flight.{passTime}
 use Rattle.rules.specs.declared.Batch.{Batch}
@@ -38,6 +38,10 @@ pub record FinishDuePre (m : MosaicSection) (before b : Batch) : Type 0 where
   pub rises : before .last ≤ b .last
   pub strips : b .last ≤ mostStrips
   pub fits : b .start < 2 ^ 32
+
+-- no setup time is longer
+abbrev pub mostSetup : ℕ
+mostSetup = mostTime
 
 pub record SetupTold (m : MosaicSection) (r : ℕ) : Type 0 where
   pub is : r ≡ setupTime m

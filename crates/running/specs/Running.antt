@@ -1,5 +1,4 @@
--- The rules once more, as they run over the members in order: what the judge follows. Equivalent.antt of crate rules_laws shows that they say the same as the
--- rules.
+-- The rules as they are checked member by member, in order. Equivalent.antt of crate rules_laws shows that they say the same as the rules.
 use Prim.Native.Nat.{ℕ, _+_, _-_, _*_, _≤_, _<_}
 use mathlib.Core.Path.{_≡_}
 use mathlib.Core.List.{List, [], _∷_}
@@ -26,7 +25,7 @@ pub data MosaicRuns (m : MosaicSection) : Batch → List Batch → Type 0 where
   none : {before : Batch} → before .last ≡ m .strips → MosaicRuns m before []
   more : {before b : Batch} {bs : List Batch} → BatchFollows m before b → MosaicRuns m b bs → MosaicRuns m before (b ∷ bs)
 
--- A job may follow where each desk has had so many strips and is free from so on, and the scanner is.
+-- A job may follow. `d` says how many strips each desk has had, and from when on each desk and the scanner are free.
 pub record JobFollows (s : SortingSection) (d : Desks) (j : Job) : Type 0 where
   pub lawful : JobLawful s j
   pub in-turn : j .number ≡ getD (d .done) (j .desk - 1) 0 + 1
@@ -54,7 +53,7 @@ pub data SortingRuns (s : SortingSection) : Desks → List Job → Type 0 where
   none : {d : Desks} → AllDone s d → SortingRuns s d []
   more : {d : Desks} {j : Job} {js : List Job} → JobFollows s d j → SortingRuns s (afterJob s d j) js → SortingRuns s d (j ∷ js)
 
--- The passes of block i keep the exact delay and the ceiling.
+-- The passes of block i keep the exact delay and end by the ceiling.
 pub record BlockFollows (f : FlightSection) (i : ℕ) (p : Passes) : Type 0 where
   pub known : i < f .blocks
   pub delay-kept : DelayKept f i p

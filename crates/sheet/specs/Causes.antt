@@ -16,7 +16,7 @@ use Rattle.sheet.specs.FieldTable.{lengthDue, valuesOf, OutOfRange}
 use Rattle.sheet.specs.Rows.{Row, row}
 use Rattle.sheet.specs.declared.Reading.{Reading}
 
--- 3: "under three bytes left, or content runs past the end"
+-- 3, of a field that stands there: "under three bytes left, or content runs past the end"
 pub data FieldCut (s : List ℕ) (at : ℕ) : Type 0 where
   under-three : length s < at + 3 → FieldCut s at
   past-end : length s < at + 3 + numberAt s (at + 1) 2 → FieldCut s at

@@ -16,7 +16,7 @@ use Rattle.sheet.specs.Rows.{firstFailure}
 unfoldable pub endsSection : ℕ → Bool
 endsSection tag = eqb tag mosaicHeadTag || (eqb tag sortingHeadTag || eqb tag flightHeadTag)
 
--- 8, "section without members": a tag that ends the section before finds a member in it
+-- 8, "section without members": where the tag ends the section before, that section has a member
 unfoldable pub sectionFilled : ℕ → ℕ → ℕ → Bool
 sectionFilled tag section members = not (endsSection tag) || (eqb section noSection || leb 1 members)
 

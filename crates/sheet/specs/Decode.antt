@@ -78,7 +78,7 @@ unfoldable pub withOrder : List ℕ → ℕ → ℕ → FlightSection → Flight
 withOrder s c at f =
     record { blocks = f .blocks; first = f .first; delay = f .delay; second = f .second; ordered = true; order = numberAt s c 8; place = at }
 
--- each section after a field; a section begins with its head
+-- each section after a field; a mosaic and a sorting begin anew with their head, and the head of a flight is empty
 unfoldable pub nextMosaic : List ℕ → ℕ → ℕ → MosaicSection → MosaicSection
 nextMosaic s c tag m = cond (eqb tag mosaicHeadTag) (withMosaicHead s c) (cond (eqb tag mosaicStripTag) (withMosaicStrip s c m) m)
 

@@ -10,7 +10,7 @@ use Rattle.field.specs.Bytes.{numberAt}
 use Rattle.sheet.specs.Limits.{mostStations, mostDesks, mostTime}
 use Rattle.sheet.specs.Tags.{mosaicHeadTag, mosaicStripTag, sortingHeadTag, sortingStripTag, flightHeadTag, flightBlockTag}
 
--- the length of the content, with m stations in the head of the mosaic
+-- the length of the content, with m stations in the head of the mosaic; every other tag is 32, or is refused with 4 before its length is looked at
 unfoldable pub lengthDue : ℕ → ℕ → ℕ
 lengthDue tag stations =
     cond (eqb tag mosaicHeadTag) 3
@@ -39,7 +39,7 @@ unfoldable pub mosaicStripValues : List ℕ → ℕ → ℕ → ℕ → List Val
 mosaicStripValues s c k zero = value 1 (numberAt s (c + 2 * k) 2) mostTime ∷ []
 mosaicStripValues s c k (suc n) = value 0 (numberAt s (c + 2 * k) 2) mostTime ∷ mosaicStripValues s c (k + 1) n
 
--- the station times that a strip of a content length has before its bench time
+-- the station times that a strip of a content length has before its bench time: m where the length is the one due, 2 m + 2
 unfoldable pub stationTimes : ℕ → ℕ
 stationTimes len = (len - 1) / 2
 
@@ -70,7 +70,7 @@ unfoldable pub OutOfRange : List Value → Type 0
 OutOfRange [] = ⊥
 OutOfRange (v ∷ values) = (v .number < v .least) ⊎ (v .most < v .number) ⊎ OutOfRange values
 
--- every value is within its range
+-- a value is within its range, and every value is
 pub record Within (v : Value) : Type 0 where
   pub at-least : v .least ≤ v .number
   pub at-most : v .number ≤ v .most

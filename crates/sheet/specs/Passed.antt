@@ -15,7 +15,7 @@ use Rattle.order.specs.Decided.{proper-true, proper-decided}
 use Rattle.sheet.specs.Tags.{flightOrderTag}
 use Rattle.sheet.specs.Sections.{stripsOfDesk}
 use Rattle.sheet.specs.FieldTable.{lengthDue, Value, valuesOf, OutOfRange, Within, InRange}
-use Rattle.sheet.specs.Rows.{rowAt, Passes}
+use Rattle.sheet.specs.Rows.{rowAt, NoCause}
 use Rattle.sheet.specs.RowLaws.{answer-passes}
 use Rattle.sheet.specs.Causes.{Permitted, TooMany, fieldRows}
 use Rattle.sheet.specs.Checks.{permitted}
@@ -62,8 +62,8 @@ length-else len due h = go (ℕ-discrete len due)
     go (yes e) = e
     go (no n) = absurd (h n)
 
-pub passed-rows : (s : List ℕ) (st : Reading) (tag len : ℕ) → Passes (fieldRows s st tag len) → Passed s st tag len
-unfolding Passes fieldRows rowAt
+pub passed-rows : (s : List ℕ) (st : Reading) (tag len : ℕ) → NoCause (fieldRows s st tag len) → Passed s st tag len
+unfolding NoCause fieldRows rowAt
 passed-rows s st tag len p =
     record {
       tag-ok = permitted-else tag (st .section) (st .members) (p 3);

@@ -9,7 +9,7 @@ use native.Mathlib.Decide.{decLt}
 use lib.Dec.{T, ltb, eqb, lit<}
 use borrow.Author.Tests.{eq-eqb}
 use Rattle.base.specs.Branch.{check}
-use Rattle.sheet.specs.Rows.{Row, row, rowAt, Fails, Passes, firstFailure}
+use Rattle.sheet.specs.Rows.{Row, row, rowAt, Fails, NoCause, firstFailure}
 
 -- what a check gives: the number where the cause lies, 0 where it does not
 pub data Gives (given number : ℕ) (cause : Type 0) : Type 0 where
@@ -24,10 +24,10 @@ gives-check false number cause f p = fails refl (f refl)
 -- what the checks of rows answer together, with the place of each number
 pub data Answers (rows : List Row) (place : ℕ → ℕ) (answer : ℕ) : Type 0 where
   first : 0 < answer → Fails rows answer (place answer) → Answers rows place answer
-  none : answer ≡ 0 → Passes rows → Answers rows place answer
+  none : answer ≡ 0 → NoCause rows → Answers rows place answer
 
 pub answers-none : (place : ℕ → ℕ) → Answers [] place (firstFailure [])
-unfolding firstFailure Passes rowAt
+unfolding firstFailure NoCause rowAt
 answers-none place = none refl (λ k c. c)
 
 first-here : (number : ℕ) (checks : List ℕ) → 0 < number → firstFailure (number ∷ checks) ≡ number
@@ -48,8 +48,8 @@ module _ (place : ℕ → ℕ) (number at : ℕ) (cause : Type 0) (rows : List R
       before zero h q = c q
       before (suc i) h q = f .before i (omega arith) q
 
-  passes-behind : (cause → ⊥) → Passes rows → Passes (row number at cause ∷ rows)
-  unfolding Passes rowAt
+  passes-behind : (cause → ⊥) → NoCause rows → NoCause (row number at cause ∷ rows)
+  unfolding NoCause rowAt
   passes-behind c f zero q = c q
   passes-behind c f (suc k) q = f k q
 
@@ -61,7 +61,7 @@ module _ (place : ℕ → ℕ) (number at : ℕ) (cause : Type 0) (rows : List R
 -- One row, by its check.
 pub answers-last : (place : ℕ → ℕ) (number at : ℕ) (cause : Type 0) (given : ℕ) → 0 < number → place number ≡ at → Gives given number cause
     → Answers (row number at cause ∷ []) place given
-unfolding Passes rowAt
+unfolding NoCause rowAt
 answers-last place number at cause given pos ep (fails e c) = rw e (first pos (fails-here place number at cause [] number refl ep c))
 answers-last place number at cause given pos ep (passes e c) = none e (passes-behind place number at cause [] c (λ k q. q))
 
@@ -76,14 +76,14 @@ fails-before (r ∷ rows) others n p (suc k) en ep c b =
     fails-behind (λ _. p) (r .number) (r .place) (r .cause) (rows ++ others) n p (b 0 (omega arith))
     (fails-before rows others n p k en ep c (λ i h. b (suc i) (omega arith)))
 
-answers-passed : (rows others : List Row) (place : ℕ → ℕ) (answer : ℕ) → Passes rows → Answers others place answer → Answers (rows ++ others) place answer
-unfolding Passes rowAt
+answers-passed : (rows others : List Row) (place : ℕ → ℕ) (answer : ℕ) → NoCause rows → Answers others place answer → Answers (rows ++ others) place answer
+unfolding NoCause rowAt
 answers-passed [] others place answer p a = a
 answers-passed (r ∷ rows) others place answer p a =
     answers-behind place (r .number) (r .place) (r .cause) (rows ++ others) answer (p 0) (answers-passed rows others place answer (λ k. p (suc k)) a)
 
 pub answers-rows : (rows others : List Row) (place : ℕ → ℕ) (given : ℕ) (checks : List ℕ) → Answers rows place given
-    → (Passes rows → Answers others place (firstFailure checks)) → Answers (rows ++ others) place (firstFailure (given ∷ checks))
+    → (NoCause rows → Answers others place (firstFailure checks)) → Answers (rows ++ others) place (firstFailure (given ∷ checks))
 unfolding firstFailure
 answers-rows rows others place given checks (first h f) later =
     rw (first-here given checks h) (first h (fails-before rows others given (place given) (f .k) (f .number-is) (f .place-is) (f .cause) (f .before)))
@@ -92,18 +92,18 @@ answers-rows rows others place given checks (none z p) later = rw z (answers-pas
 pub answers-row : (place : ℕ → ℕ) (number at : ℕ) (cause : Type 0) (others : List Row) (given : ℕ) (checks : List ℕ) → 0 < number → place number ≡ at
     → Gives given number cause → ((cause → ⊥) → Answers others place (firstFailure checks))
     → Answers (row number at cause ∷ others) place (firstFailure (given ∷ checks))
-unfolding Passes rowAt
+unfolding NoCause rowAt
 answers-row place number at cause others given checks pos ep g later =
     answers-rows (row number at cause ∷ []) others place given checks (answers-last place number at cause given pos ep g) (λ p. later (p 0))
 
 module _ (rows : List Row) (place : ℕ → ℕ) (answer : ℕ) where
   -- the answer is 0 exactly where every row passes ..
-  pub answer-passes : Answers rows place answer → answer ≡ 0 → Passes rows
+  pub answer-passes : Answers rows place answer → answer ≡ 0 → NoCause rows
   answer-passes (first h f) z = absurd (omega arith)
   answer-passes (none e p) z = p
 
-  pub passes-answer : Answers rows place answer → Passes rows → answer ≡ 0
-  unfolding Passes
+  pub passes-answer : Answers rows place answer → NoCause rows → answer ≡ 0
+  unfolding NoCause
   passes-answer (first h f) p = absurd (p (f .k) (f .cause))
   passes-answer (none e _) p = e
 
@@ -126,7 +126,7 @@ module _ (rows : List Row) (place : ℕ → ℕ) (answer : ℕ) where
           )
 
   pub fails-answer : Answers rows place answer → (n p : ℕ) → Fails rows n p → (answer ≡ n) × (place answer ≡ p)
-  unfolding Passes
+  unfolding NoCause
   fails-answer (first h f) n p g = same-row answer (place answer) n p f g
   fails-answer (none e q) n p g = absurd (q (g .k) (g .cause))
 

@@ -27,8 +27,8 @@ pub record Fails (rows : List Row) (number place : ℕ) : Type 0 where
   pub before : (i : ℕ) → i < k → rowAt rows i .cause → ⊥
 
 -- no row's cause lies there
-unfoldable pub Passes : List Row → Type 0
-Passes rows = (k : ℕ) → rowAt rows k .cause → ⊥
+unfoldable pub NoCause : List Row → Type 0
+NoCause rows = (k : ℕ) → rowAt rows k .cause → ⊥
 
 -- The same as numbers: each check gives its row's number where the cause lies and else 0, and the first number that is not 0 is the answer.
 unfoldable pub firstFailure : List ℕ → ℕ

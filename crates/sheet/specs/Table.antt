@@ -1,11 +1,13 @@
--- When a sheet is refused: in a reading that has passed every field before, where the cause of a row lies and that of no row before it. The rows are those of
+-- A sheet is refused where a reading has passed every field before, the cause of a row lies there, and that of no row before it. The rows are those of
+-- Causes.antt. Refused.antt shows that `readSheet` refuses exactly there, and that a sheet is sound exactly where `RefusedFor` holds of no number and place.
+use of a row lies and that of no row before it. The rows are those of
 -- Causes.antt. Refused.antt shows that a sheet is refused with a number and a place exactly there, and sound exactly where it is nowhere so.
 use Prim.Native.Nat.{ℕ}
 use mathlib.Core.Path.{_≡_}
 use mathlib.Core.List.{List}
 use Rattle.field.specs.Field.{fieldAt}
 use Rattle.field.specs.declared.Field.the-variants.{End, Whole}
-use Rattle.sheet.specs.Rows.{Fails, Passes}
+use Rattle.sheet.specs.Rows.{Fails, NoCause}
 use Rattle.sheet.specs.Causes.{fieldRows, endRows, rowsAt}
 use Rattle.sheet.specs.Decode.{nextReading, startReading}
 use Rattle.sheet.specs.declared.Reading.{Reading}
@@ -13,7 +15,7 @@ use Rattle.sheet.specs.declared.Reading.{Reading}
 -- a reading that has passed every field before where it stands
 pub data Reached (s : List ℕ) : Reading → Type 0 where
   at-start : Reached s startReading
-  past-field : {st : Reading} (tag len : ℕ) → Reached s st → fieldAt s (st .at) ≡ Whole tag len → Passes (fieldRows s st tag len)
+  past-field : {st : Reading} (tag len : ℕ) → Reached s st → fieldAt s (st .at) ≡ Whole tag len → NoCause (fieldRows s st tag len)
       → Reached s (nextReading s st tag len)
 
 -- why a sheet is refused where a reading stands: the first row whose cause lies there
@@ -29,4 +31,4 @@ pub record RefusedFor (s : List ℕ) (number place : ℕ) : Type 0 where
 -- a sheet is read to its end
 pub record Complete (s : List ℕ) (st : Reading) : Type 0 where
   pub at-end : fieldAt s (st .at) ≡ End
-  pub passed : Passes (endRows st)
+  pub passed : NoCause (endRows st)

@@ -15,7 +15,7 @@ use Rattle.field.specs.declared.Field.the-variants.{End, Cut, Whole}
 use Rattle.sheet.specs.Limits.{mostBlocksWithoutOrder}
 use Rattle.sheet.specs.Refusals.{fieldCut, orderImpossible}
 use Rattle.sheet.specs.Sections.{inFlight, afterOrder}
-use Rattle.sheet.specs.Rows.{rowAt, Fails, Passes}
+use Rattle.sheet.specs.Rows.{rowAt, Fails, NoCause}
 use Rattle.sheet.specs.RowLaws.{answer-passes, passes-answer, answer-fails, fails-answer, numbersOf, isAmong, fails-other}
 use Rattle.sheet.specs.Causes.{fieldRows, endRows, rowsAt}
 use Rattle.sheet.specs.Table.{Reached, Cause, Complete}
@@ -136,24 +136,24 @@ unfolding atEnd
 read-accepted s st r c =
     sym (progress-end s st (reached-progress s st r) End (sym (c .at-end)) _ refl refl) ∙ rw (passes-answer _ _ _ (end-answers st) (c .passed))
 
--- What is accepted is sound: every value in its range, every count within its limits, an order proper where one is given.
-some-members : (st : Reading) → Passes (endRows st) → 1 ≤ st .members
-unfolding Passes endRows rowAt
+-- What is accepted is sound: every time in its range, every count within its limits, an order proper where one is given.
+some-members : (st : Reading) → NoCause (endRows st) → 1 ≤ st .members
+unfolding NoCause endRows rowAt
 some-members st p = go (decLt (st .members) 1)
   where
     go : Dec (st .members < 1) → 1 ≤ st .members
     go (yes h) = absurd (p 0 h)
     go (no h) = omega arith
 
-few-blocks : (st : Reading) → Passes (endRows st) → st .section ≡ inFlight → st .members ≤ mostBlocksWithoutOrder
-unfolding Passes endRows rowAt
+few-blocks : (st : Reading) → NoCause (endRows st) → st .section ≡ inFlight → st .members ≤ mostBlocksWithoutOrder
+unfolding NoCause endRows rowAt
 few-blocks st p e = go (decLt mostBlocksWithoutOrder (st .members))
   where
     go : Dec (mostBlocksWithoutOrder < st .members) → st .members ≤ mostBlocksWithoutOrder
     go (yes h) = absurd (p 1 (record { flight = e; many = h }))
     go (no h) = omega arith
 
-flight-free : (s : List ℕ) (st : Reading) → Kept s st → Passes (endRows st) → st .flight .ordered ≡ false → st .flight .blocks ≤ mostBlocksWithoutOrder
+flight-free : (s : List ℕ) (st : Reading) → Kept s st → NoCause (endRows st) → st .flight .ordered ≡ false → st .flight .blocks ≤ mostBlocksWithoutOrder
 flight-free s st k p plain = by-section (ℕ-discrete (st .section) inFlight) (ℕ-discrete (st .section) afterOrder)
   where
     by-section : Dec (st .section ≡ inFlight) → Dec (st .section ≡ afterOrder) → st .flight .blocks ≤ mostBlocksWithoutOrder

@@ -43,7 +43,7 @@ pub struct Sheet {
     pub flight: FlightSection,
 }
 
-// How far a sheet is read: the next field's place, the section that stands open, its head's place and its members, and what is decoded.
+// How far a sheet is read: the next field's place, the section that is being read, its head's place and its members, and what is decoded.
 pub struct Reading {
     pub at: usize,
     pub section: u64,

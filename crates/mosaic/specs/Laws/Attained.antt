@@ -10,7 +10,8 @@ use Rattle.sheet.specs.Limits.{mostTime, mostStrips}
 use Rattle.sheet.specs.Sound.{MosaicSound}
 use Rattle.sheet.specs.declared.MosaicSection.{MosaicSection}
 use Rattle.rules.specs.declared.Batch.{Batch}
-use Rattle.rules.specs.Mosaic.{ready, setupTime, mostSetup}
+use Rattle.rules.specs.Mosaic.{ready, setupTime}
+use Rattle.running.specs.FunctionLaws.{mostSetup}
 use Rattle.running.specs.Running.{BatchFollows, MosaicRuns, none, more}
 use Rattle.rules_laws.specs.Finish.{setup-most}
 use Rattle.rules_laws.specs.MosaicRunning.{runningFigure}
