@@ -1,7 +1,5 @@
 -- A sheet is refused where a reading has passed every field before, the cause of a row lies there, and that of no row before it. The rows are those of
 -- Causes.antt. Refused.antt shows that `readSheet` refuses exactly there, and that a sheet is sound exactly where `RefusedFor` holds of no number and place.
-use of a row lies and that of no row before it. The rows are those of
--- Causes.antt. Refused.antt shows that a sheet is refused with a number and a place exactly there, and sound exactly where it is nowhere so.
 use Prim.Native.Nat.{ℕ}
 use mathlib.Core.Path.{_≡_}
 use mathlib.Core.List.{List}
