@@ -165,7 +165,8 @@ unfolding sectionFrom
 members-judged s plan section part k p = refl
 
 pub inner-start : (s : Sheet) (plan : List ℕ) (section : ℕ) (part mosaic sorting flight : Part) (p : Progress) (x : Bool) → Outer s plan section → section ≤ 3
-    → x ≡ present s section → not x ≡ false → JudgeSectionsPre s plan mosaic sorting flight → length plan * 1 < 2 ^ 63 → part ≡ pickPart section mosaic sorting flight
+    → x ≡ present s section → not x ≡ false → JudgeSectionsPre s plan mosaic sorting flight → length plan * 1 < 2 ^ 63
+    → part ≡ pickPart section mosaic sorting flight
     → p ≡ begun → Inner s plan section part 0 p
 inner-start s plan section part mosaic sorting flight p x o h ex hx a small ep eb =
     let e = picked s plan section mosaic sorting flight part (a .parts) ep in

@@ -78,7 +78,8 @@ pub ordered-none : (f : FlightSection) (order : ℕ) (ps : List Passes) → Orde
 unfolding passesInOrder
 ordered-none f order ps = record { within = omega arith; so-far = refl }
 
-module _ (f : FlightSection) (order : ℕ) (plan : List ℕ) (at k : ℕ) (a : PassesInOrderPre f order at) (t : OrderedSoFar f order (blocksFrom plan at (f .blocks)) k)
+module _ (f : FlightSection) (order : ℕ) (plan : List ℕ) (at k : ℕ) (a : PassesInOrderPre f order at)
+    (t : OrderedSoFar f order (blocksFrom plan at (f .blocks)) k)
     (less : k + 1 < 2 * f .blocks) (p q start end : ℕ) (ep : p ≡ passAt (f .blocks) order k) (eq : q ≡ passAt (f .blocks) order (k + 1))
     (ts : StartTold (startInPlan plan at (f .blocks) q) start) (te : FigureTold (endInPlan f plan at p) end) where
   known-p : p < 2 * f .blocks
@@ -169,7 +170,8 @@ module _ (f : FlightSection) (plan : List ℕ) (at p value : ℕ) (t : LatestSoF
       all = let w = t .within in omega arith
 
 -- the head of the flight
-pub order-asked : (f : FlightSection) (order at : ℕ) (x : Bool) → x ≡ isProper (f .blocks) order → not x ≡ false → FlightHeadPre f at → PassesInOrderPre f order at
+pub order-asked : (f : FlightSection) (order at : ℕ) (x : Bool) → x ≡ isProper (f .blocks) order → not x ≡ false → FlightHeadPre f at
+    → PassesInOrderPre f order at
 order-asked f order at x ex hx a = record { sound = a .sound; room = a .room; proper = proper-true (f .blocks) order (sym ex ∙ not-false x hx) }
 
 given-right : (o e : Bool) → o ≡ true → e ≡ true → (not o || e) ≡ true
