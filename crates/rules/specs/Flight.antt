@@ -1,4 +1,5 @@
--- The rules of the flight (01, "The three sets of rules", and "The sheet" for the order number).
+-- The rules of the flight (01, "The three sets of rules", and "The sheet" for the order number). In the literature: coupled tasks with exact delays on one
+-- machine.
 use Prim.Native.Nat.{ℕ, _+_, _-_, _*_, _≤_, _<_}
 use mathlib.Core.Path.{_≡_}
 use mathlib.Core.Bool.{true, cond}
@@ -62,6 +63,6 @@ pub record OrderAllowed (f : FlightSection) (order : ℕ) : Type 0 where
   pub proper : Proper (f .blocks) order
   pub as-given : f .ordered ≡ true → order ≡ f .order
 
--- "Figure: the end of the last pass."
+-- "Figure: the end of the last pass." (in the literature: makespan)
 unfoldable pub flightFigure : FlightSection → List Passes → ℕ
 flightFigure f ps = greatestOver (2 * f .blocks) (λ p. passEnd f ps p)

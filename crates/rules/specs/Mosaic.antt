@@ -1,4 +1,5 @@
--- The rules of the mosaic (01, "The three sets of rules"). Strips are numbered from 1.
+-- The rules of the mosaic (01, "The three sets of rules"). Strips are numbered from 1. In the literature: batching on one machine with a setup time for
+-- each batch and release dates.
 use Prim.Native.Nat.{ℕ, zero, suc, _+_, _-_, _*_, _≤_, _<_}
 use mathlib.Core.Path.{_≡_}
 use mathlib.Core.Bool.{cond}
@@ -14,7 +15,7 @@ use Rattle.rules.specs.declared.Batch.{Batch}
 unfoldable pub stationSum : MosaicSection → ℕ → ℕ → ℕ
 stationSum m k j = sumOver j (λ i. getD (m .station) (4 * i + k) 0)
 
--- "A strip is ready at the greatest, over the stations, of the sum of its own and all earlier station times": strip j
+-- "A strip is ready at the greatest, over the stations, of the sum of its own and all earlier station times": strip j (in the literature: release date)
 unfoldable pub ready : MosaicSection → ℕ → ℕ
 ready m j = greatestOver (m .stations) (λ k. stationSum m k j)
 
@@ -64,6 +65,6 @@ unfoldable pub completion : List Batch → ℕ → ℕ
 completion [] j = 0
 completion (b ∷ bs) j = cond (leb j (b .last)) (b .finish) (completion bs j)
 
--- "Figure: the sum of completions over strips."
+-- "Figure: the sum of completions over strips." (in the literature: the sum of completion times)
 unfoldable pub mosaicFigure : MosaicSection → List Batch → ℕ
 mosaicFigure m bs = sumOver (m .strips) (λ j. completion bs (j + 1))

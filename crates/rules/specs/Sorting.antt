@@ -1,4 +1,5 @@
--- The rules of the sorting (01, "The three sets of rules"). Desks, and strips within a desk, are numbered from 1; jobs are listed in scanner order.
+-- The rules of the sorting (01, "The three sets of rules"). Desks, and strips within a desk, are numbered from 1; jobs are listed in scanner order. In the
+-- literature: a differentiation flowshop, one machine and then a machine for each kind of job.
 use Prim.Native.Nat.{ℕ, _+_, _-_, _*_, _≤_, _<_}
 use mathlib.Core.Path.{_≡_}
 use mathlib.Core.Bool.{cond}
@@ -60,6 +61,6 @@ pub record SortingLawful (s : SortingSection) (js : List Job) : Type 0 where
   -- "A desk takes its strips in order, one at a time"
   pub one-job : (i j : ℕ) → i < j → j < length js → jobAt js i .desk ≡ jobAt js j .desk → deskFinish s (jobAt js i) ≤ jobAt js j .start
 
--- "Figure: the sum of desk finishing times over strips."
+-- "Figure: the sum of desk finishing times over strips." (in the literature: the sum of completion times)
 unfoldable pub sortingFigure : SortingSection → List Job → ℕ
 sortingFigure s js = sumOver (length js) (λ i. deskFinish s (jobAt js i))
