@@ -1,6 +1,7 @@
--- What several layers need: sums over the numbers below n, lists given by their elements, and the laws by which proofs follow a chain of tests.
+-- What several layers need: sums over the numbers below n, lists given by their elements, the laws by which proofs follow a chain of tests, and least figures.
 pub mod Branch
 pub mod Sums
 pub mod SumLaws
 pub mod Listed
 pub mod Zeros
+pub mod LeastFigure

@@ -1,4 +1,5 @@
--- The three demands on the planner and the judge, in their own words and order, as theorems about calls. What a theorem asks of a call is what the
+-- The three demands on the planner and the judge, in their own words and order, as theorems about calls, and behind them what the change requests of 02 ask
+-- to be shown. What a theorem asks of a call is what the
 -- contract of the function gives: `Called` of `planner::plan` (planner, Call.antt), `Viewed` of `sevulamon_plan` (viewer, Viewed.antt), and
 -- `j ≡ judged sheet plan` of `judge::judge` and `sevulamon_judge` (judge, Judged.antt). When a plan is allowed is said by the rules alone (rules: Mosaic,
 -- Sorting, Flight, Plan). Rows of bytes are lists of numbers; where a law needs that they are below 256, as those of every lent slice are, it says so
@@ -9,7 +10,7 @@ use mathlib.Core.Bool.{true}
 use mathlib.Core.List.{List}
 use lib.ListN.{length, drop}
 use native.Mathlib.Omega.{arith}
-use Rattle.sheet.specs.Limits.{tableLength, planLength}
+use Rattle.sheet.specs.Limits.{ceiling, tableLength, planLength}
 use Rattle.sheet.specs.Refusals.{orderImpossible}
 use Rattle.sheet.specs.Read.{readSheet}
 use Rattle.sheet.specs.Theorems.{read-sound}
@@ -17,11 +18,18 @@ use Rattle.sheet.specs.Table.{RefusedFor}
 use Rattle.sheet.specs.Refused.{sound-exactly}
 use Rattle.sheet.specs.Decode.{zeros}
 use Rattle.sheet.specs.Stores.{length-zeros}
+use Rattle.sheet.specs.Sound.{SheetSound}
+use Rattle.sheet.specs.declared.FlightSection.{FlightSection}
 use Rattle.sheet.specs.declared.Sheet.{Sheet}
-use Rattle.rules.specs.Mosaic.{batchAt}
-use Rattle.rules.specs.Sorting.{jobAt}
-use Rattle.rules.specs.Flight.{passesAt}
-use Rattle.rules.specs.Plan.{Plan, AllowedFor}
+use Rattle.order.specs.Order.{Proper}
+use Rattle.base.specs.LeastFigure.{NoLarger, LeastFigure, same-least}
+use Rattle.rules.specs.Mosaic.{batchAt, MosaicUnder, MosaicLawful, mosaicFigure}
+use Rattle.rules.specs.Sorting.{jobAt, SortingUnder, SortingLawful, sortingFigure}
+use Rattle.rules.specs.Flight.{passesAt, FlightUnder, FlightLawful, Keeps, OrderAllowed, flightFigure}
+use Rattle.rules.specs.declared.Batch.{Batch}
+use Rattle.rules.specs.declared.Job.{Job}
+use Rattle.rules.specs.declared.Passes.{Passes}
+use Rattle.rules.specs.Plan.{Plan, PlanUnder, AllowedFor}
 use Rattle.plan_format.specs.ByteLaws.{AreBytes}
 use Rattle.rules_laws.specs.Determined.{plan-most, plan-determined}
 use Rattle.judge.specs.Judged.{turnedBack, found, judged}
@@ -30,6 +38,9 @@ use Rattle.judge_laws.specs.Fault.{Fault}
 use Rattle.judge_laws.specs.Theorems.{FiguresTrue, FiguresGiven, judge-allows, allowed-judged, allowed-found, judged-figures, figures-given, fault-judged}
 use Rattle.judge_laws.specs.Theorems.{judged-fault}
 use Rattle.mosaic.specs.Plan.{lasts}
+use Rattle.mosaic.specs.Theorems.{mosaic-ceiling}
+use Rattle.sorting.specs.Theorems.{sorting-ceiling}
+use Rattle.flight.specs.Theorems.{flight-ceiling}
 use Rattle.planner.specs.Call.{chosenPlan, answer, clearedTo, tableAfter, Called}
 use Rattle.planner.specs.Outcomes.{Large, Accepted, written, call-accepted, call-refused, call-small, call-cleared, ourBytes}
 use Rattle.planner.specs.TurnedBack.{TurnedBack, turned-back, turned-back-only, eleven-only, else-accepted}
@@ -168,25 +179,30 @@ module _ (sheet plan table planAfter tableEnd : List ℕ) (r : Answer) (call : C
       plan-determined (readSheet sheet) (read-sound sheet (accepted .sound)) (ours .allowed .plan) (chosenPlan (readSheet sheet)) (ours .allowed .lawful)
       (chosen .allowed .lawful) (sym (ours .allowed .layout) ∙ chosen .allowed .layout)
 
+  -- No plan that obeys the rules under any ceiling has a smaller figure in any section (Req 01) ..
+  pub no-smaller-figure-at-all : (ours : AllowedFor sheet (written r planAfter)) (c : ℕ) (q : Plan) → PlanUnder c (readSheet sheet) q
+      → NoneLarger (readSheet sheet) (ours .allowed .plan) q
+  unfolding Least
+  no-smaller-figure-at-all ours c q law =
+      rw (ours-chosen ours)
+      (record {
+        mosaic = plan-least-mosaic sheet (accepted .sound) c q law;
+        sorting = plan-least-sorting sheet (accepted .sound) c q law;
+        flight = plan-least-flight sheet (accepted .sound) c q law;
+      })
+
   module _ (ours : AllowedFor sheet (written r planAfter)) (q : List ℕ) (a : AllowedFor sheet q) where
-    -- "no allowed plan of the sheet has a smaller figure in any section;"
+    -- .. and so "no allowed plan of the sheet has a smaller figure in any section;"
     pub no-smaller-figure : NoneLarger (readSheet sheet) (ours .allowed .plan) (a .allowed .plan)
-    unfolding Least
-    no-smaller-figure =
-        rw (ours-chosen ours)
-        (record {
-          mosaic = plan-least-mosaic sheet (a .sound) (a .allowed .plan) (a .allowed .lawful);
-          sorting = plan-least-sorting sheet (a .sound) (a .allowed .plan) (a .allowed .lawful);
-          flight = plan-least-flight sheet (a .sound) (a .allowed .plan) (a .allowed .lawful);
-        })
+    no-smaller-figure = no-smaller-figure-at-all ours ceiling (a .allowed .plan) (a .allowed .lawful)
 
     best-exactly : (figure : Sheet → Plan → ℕ) → Least figure (readSheet sheet) (chosenPlan (readSheet sheet))
         → BestExactly figure sheet (written r planAfter) q ours a
     unfolding Least IsLeast
     best-exactly figure least =
         record {
-          equal-best = λ e other b. at-most _ _ _ e (below (b .allowed .plan) (b .allowed .lawful));
-          best-equal = λ h. same _ _ (h (written r planAfter) ours) (below (a .allowed .plan) (a .allowed .lawful));
+          equal-best = λ e other b. at-most _ _ _ e (below ceiling (b .allowed .plan) (b .allowed .lawful));
+          best-equal = λ h. same _ _ (h (written r planAfter) ours) (below ceiling (a .allowed .plan) (a .allowed .lawful));
         }
       where
         below : Least figure (readSheet sheet) (ours .allowed .plan)
@@ -253,3 +269,74 @@ pub from-c : (sheet plan planAfter : List ℕ) (r : Answer) → Viewed sheet pla
     → Called sheet plan (zeros tableLength) planAfter (tableAfter (length plan) (zeros tableLength)) r
 from-c sheet plan planAfter r v =
     record { answer = rw (length-zeros tableLength) (v .answer); buffer = rw (length-zeros tableLength) (v .buffer); table = refl }
+
+-- THE CHANGE REQUESTS (02).
+
+-- REQ 01. "The plan's ceiling of 10,000,000 remains enough: for each section's timetable that would pass it there is one within it of no larger figure".
+-- A timetable that obeys every rule of its section but the ceiling obeys the rules under some ceiling c, as high as it needs; one that obeys them under the
+-- ceiling of 10,000,000 is called lawful.
+pub record ButCeiling {T : Type 0} (Under : ℕ → T → Type 0) (t : T) : Type 0 where
+  pub c : ℕ
+  pub under : Under c t
+
+-- passes that keep an order which the sheet allows
+pub record FlightKept (f : FlightSection) (c : ℕ) (ps : List Passes) : Type 0 where
+  pub order : ℕ
+  pub allowed : OrderAllowed f order
+  pub lawful : FlightUnder c f ps
+  pub kept : Keeps f order ps
+
+-- v is the least figure without any ceiling exactly where it is the least within the ceiling of 10,000,000
+abbrev pub SameLeast : {T : Type 0} → (ℕ → T → Type 0) → (T → ℕ) → ℕ → Type 0
+SameLeast Under figure v =
+    (LeastFigure (Under ceiling) figure v → LeastFigure (ButCeiling Under) figure v) × (LeastFigure (ButCeiling Under) figure v → LeastFigure (Under ceiling) figure v)
+
+same-under : {T : Type 0} (Under : ℕ → T → Type 0) (figure : T → ℕ) → ((c : ℕ) (t : T) → Under c t → NoLarger (Under ceiling) figure t)
+    → (v : ℕ) → SameLeast Under figure v
+same-under Under figure enough v =
+    same-least (Under ceiling) (ButCeiling Under) figure (λ t u. record { c = ceiling; under = u }) (λ t b. enough (b .c) t (b .under)) v
+
+module _ (sheet : List ℕ) (sound : readSheet sheet .number ≡ 0) where
+  whole : SheetSound (readSheet sheet)
+  whole = read-sound sheet sound
+
+  pub ceiling-enough-mosaic : (c : ℕ) (bs : List Batch) → MosaicUnder c (readSheet sheet .mosaic) bs
+      → NoLarger (MosaicLawful (readSheet sheet .mosaic)) (mosaicFigure (readSheet sheet .mosaic)) bs
+  ceiling-enough-mosaic c bs law = mosaic-ceiling (readSheet sheet .mosaic) (whole .mosaic) bs law
+
+  pub ceiling-enough-sorting : (c : ℕ) (js : List Job) → SortingUnder c (readSheet sheet .sorting) js
+      → NoLarger (SortingLawful (readSheet sheet .sorting)) (sortingFigure (readSheet sheet .sorting)) js
+  ceiling-enough-sorting c js law = sorting-ceiling (readSheet sheet .sorting) (whole .sorting) js law
+
+  -- in flight one that keeps the same proper order
+  pub ceiling-enough-flight : (c w : ℕ) (ps : List Passes) → FlightUnder c (readSheet sheet .flight) ps → Keeps (readSheet sheet .flight) w ps
+      → Proper (readSheet sheet .flight .blocks) w
+      → NoLarger (λ qs. FlightLawful (readSheet sheet .flight) qs × Keeps (readSheet sheet .flight) w qs) (flightFigure (readSheet sheet .flight)) ps
+  ceiling-enough-flight c w ps law kept proper = flight-ceiling (readSheet sheet .flight) (whole .flight) w ps law kept proper
+
+  -- So the least figure without any ceiling is the least within it, in each section ..
+  pub same-least-mosaic : (v : ℕ) → SameLeast (λ c. MosaicUnder c (readSheet sheet .mosaic)) (mosaicFigure (readSheet sheet .mosaic)) v
+  same-least-mosaic = same-under (λ c. MosaicUnder c (readSheet sheet .mosaic)) (mosaicFigure (readSheet sheet .mosaic)) ceiling-enough-mosaic
+
+  pub same-least-sorting : (v : ℕ) → SameLeast (λ c. SortingUnder c (readSheet sheet .sorting)) (sortingFigure (readSheet sheet .sorting)) v
+  same-least-sorting = same-under (λ c. SortingUnder c (readSheet sheet .sorting)) (sortingFigure (readSheet sheet .sorting)) ceiling-enough-sorting
+
+  pub same-least-flight : (v : ℕ) → SameLeast (FlightKept (readSheet sheet .flight)) (flightFigure (readSheet sheet .flight)) v
+  same-least-flight = same-under (FlightKept (readSheet sheet .flight)) (flightFigure (readSheet sheet .flight)) enough
+    where
+      enough : (c : ℕ) (ps : List Passes) → FlightKept (readSheet sheet .flight) c ps
+          → NoLarger (FlightKept (readSheet sheet .flight) ceiling) (flightFigure (readSheet sheet .flight)) ps
+      enough c ps k =
+          let w = ceiling-enough-flight c (k .order) ps (k .lawful) (k .kept) (k .allowed .proper) in
+          record {
+            timetable = w .timetable;
+            obeys = record { order = k .order; allowed = k .allowed; lawful = w .obeys .0; kept = w .obeys .1 };
+            no-larger = w .no-larger;
+          }
+
+  -- .. and an order that no timetable keeps within the ceiling is kept by none without it: 11 is never given because of the ceiling.
+  pub impossible-at-all : Impossible (readSheet sheet) → (c : ℕ) (ps : List Passes) → FlightUnder c (readSheet sheet .flight) ps
+      → Keeps (readSheet sheet .flight) (readSheet sheet .flight .order) ps → ⊥
+  impossible-at-all none c ps law kept =
+      let w = ceiling-enough-flight c (readSheet sheet .flight .order) ps law kept (whole .flight .given (none .given)) in
+      none .none (w .timetable) (w .obeys .0) (w .obeys .1)

@@ -7,9 +7,13 @@ use Prim.Native.Nat.{ℕ, _+_, _-_, _*_, _≤_, _<_}
 use native.Mathlib.Omega.{arith}
 use Rattle.sheet.specs.Sound.{FlightSound}
 use Rattle.sheet.specs.declared.FlightSection.{FlightSection}
-use Rattle.rules.specs.Flight.{passesAt, passEnd, FlightLawful, Keeps, OrderAllowed, flightFigure}
+use Rattle.rules.specs.Flight.{passesAt, passEnd, FlightUnder, FlightLawful, Keeps, OrderAllowed, flightFigure}
 use Rattle.rules.specs.declared.Passes.{Passes}
+use Rattle.base.specs.LeastFigure.{NoLarger}
+use Rattle.order.specs.Order.{Proper}
 use Rattle.rules_laws.specs.FlightRunning.{start-first, second-start}
+use Rattle.flight_order.specs.Ceiling.{latestEnd}
+use Rattle.flight_order.specs.Timetable.{leastPasses}
 use Rattle.flight_order.specs.Planned.{possible-lawful, possible-keeps, kept-possible, least-earliest, least-figure, figure-below, least-ends}
 use Rattle.flight.specs.Choice.{chosenOrder, isPossible, leastFigure, chosenPasses}
 use Rattle.flight.specs.Chosen.{chosen-proper, chosen-allowed, chosen-least, allowed-possible, free-possible}
@@ -29,14 +33,26 @@ module _ (f : FlightSection) (sound : FlightSound f) where
   unfolding isPossible chosenPasses leastFigure
   flight-figure e = least-figure f (chosenOrder f) sound (chosen-proper f sound) e
 
-  -- No timetable that keeps an allowed order has a smaller figure.
-  pub flight-least : (w : ℕ) (ps : List Passes) → FlightLawful f ps → Keeps f w ps → OrderAllowed f w → leastFigure f ≤ flightFigure f ps
+  -- No timetable that keeps an allowed order has a smaller figure, under any ceiling.
+  pub flight-least : {c : ℕ} (w : ℕ) (ps : List Passes) → FlightUnder c f ps → Keeps f w ps → OrderAllowed f w → leastFigure f ≤ flightFigure f ps
   flight-least w ps law keeps allowed =
       omega (
         arith,
         chosen-least f sound w allowed (kept-possible f w sound (allowed .proper) ps law keeps),
         figure-below f w sound (allowed .proper) ps law keeps,
       )
+
+  -- 02, Req 01: "for each section's timetable that would pass it there is one within it of no larger figure": for each that obeys the rules under any ceiling
+  -- and keeps a proper order there is one that keeps the same order
+  pub flight-ceiling : {c : ℕ} (w : ℕ) (ps : List Passes) → FlightUnder c f ps → Keeps f w ps → Proper (f .blocks) w
+      → NoLarger (λ qs. FlightLawful f qs × Keeps f w qs) (flightFigure f) ps
+  flight-ceiling w ps law keeps proper =
+      let possible = kept-possible f w sound proper ps law keeps in
+      record {
+        timetable = leastPasses f w;
+        obeys = (possible-lawful f w sound proper possible, possible-keeps f w sound proper possible);
+        no-larger = omega (arith, least-figure f w sound proper possible, figure-below f w sound proper ps law keeps);
+      }
 
   -- No pass starts earlier in any timetable that keeps the chosen order; where an order is given, in any allowed plan.
   pub flight-earliest : (ps : List Passes) → FlightLawful f ps → Keeps f (chosenOrder f) ps → (i : ℕ) → i < f .blocks
@@ -49,11 +65,11 @@ module _ (f : FlightSection) (sound : FlightSound f) where
         at (least-earliest f (chosenOrder f) sound (chosen-proper f sound) ps law keeps (f .blocks + i) (omega arith)),
   )
 
-  -- The plan is not possible exactly where no timetable keeps an allowed order.
-  pub flight-impossible : (isPossible f ≡ false → (w : ℕ) (ps : List Passes) → FlightLawful f ps → Keeps f w ps → OrderAllowed f w → ⊥)
+  -- The plan is not possible exactly where no timetable keeps an allowed order; then none does under any ceiling.
+  pub flight-impossible : (isPossible f ≡ false → (c w : ℕ) (ps : List Passes) → FlightUnder c f ps → Keeps f w ps → OrderAllowed f w → ⊥)
       × (((w : ℕ) (ps : List Passes) → FlightLawful f ps → Keeps f w ps → OrderAllowed f w → ⊥) → isPossible f ≡ false)
   flight-impossible = (
-    λ e w ps law keeps allowed. true≢false (sym (allowed-possible f sound w allowed (kept-possible f w sound (allowed .proper) ps law keeps)) ∙ e),
+    λ e c w ps law keeps allowed. true≢false (sym (allowed-possible f sound w allowed (kept-possible f w sound (allowed .proper) ps law keeps)) ∙ e),
     λ none. go none (isPossible f) refl,
   )
     where
@@ -65,7 +81,7 @@ module _ (f : FlightSection) (sound : FlightSound f) where
   pub flight-free : f .ordered ≡ false → isPossible f ≡ true
   flight-free = free-possible f sound
 
-  -- The ceiling of 10,000,000 is never met: every pass of the plan ends by 960,000.
-  pub flight-ends : isPossible f ≡ true → (p : ℕ) → p < 2 * f .blocks → passEnd f (chosenPasses f) p ≤ 960000
+  -- The ceiling is never met: every pass of the plan ends by `latestEnd`, 32 times both passes and the delay of a block.
+  pub flight-ends : isPossible f ≡ true → (p : ℕ) → p < 2 * f .blocks → passEnd f (chosenPasses f) p ≤ latestEnd
   unfolding isPossible chosenPasses
   flight-ends e p l = least-ends f (chosenOrder f) sound (chosen-proper f sound) e p l

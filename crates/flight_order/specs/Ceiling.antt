@@ -1,5 +1,4 @@
--- The least starts never reach the ceiling: a first pass with its delay takes at most 20,000, a second pass at most 10,000, and the last end
--- is at most the sum of these over 32 blocks, 960,000.
+-- The least starts never reach the ceiling: the last pass ends no later than all passes and delays of all blocks take, one after the other.
 use mathlib.Core.Path.{_≡_}
 use mathlib.Core.Bool.{cond, true}
 use Prim.Native.Nat.{ℕ, zero, suc, _+_, _-_, _*_, _≤_, _<_}
@@ -15,6 +14,7 @@ use Rattle.order.specs.Passes.{passAt}
 use Rattle.difference.specs.System.{value}
 use Rattle.difference.specs.Least.{solvable-solves, least-below}
 use Rattle.difference.specs.Span.{span}
+use Rattle.sheet.specs.Limits.{mostTime, mostBlocks}
 use Rattle.sheet.specs.Sound.{FlightSound}
 use Rattle.sheet.specs.declared.FlightSection.{FlightSection}
 use Rattle.rules.specs.Flight.{passTime}
@@ -40,6 +40,10 @@ sound-good f w s some proper = record {
   least-low = λ i. omega (arith, s .most-delay i);
   most-low = λ i. omega (arith, s .most-delay i);
 }
+
+-- No least pass ends later: both passes and the delay of every block.
+abbrev pub latestEnd : ℕ
+latestEnd = mostBlocks * (3 * mostTime)
 
 -- What a pass may hold up: a first pass its delay too.
 reach : FlightSection → ℕ → ℕ
@@ -73,25 +77,25 @@ module _ (f : FlightSection) where
           p = passAt (f .blocks) w (k - 2 * f .blocks)
 
   module _ (s : FlightSound f) where
-    firsts-sum : (m : ℕ) → m ≤ f .blocks → sumOver m (reach f) ≤ 20000 * m
+    firsts-sum : (m : ℕ) → m ≤ f .blocks → sumOver m (reach f) ≤ m * (2 * mostTime)
     unfolding sumOver
     firsts-sum zero l = omega arith
     firsts-sum (suc m) l = omega (arith, firsts-sum m (omega arith), reach-first m l, s .most-first m, s .most-delay m)
 
-    all-sum : (m : ℕ) → sumOver (f .blocks + m) (reach f) ≤ 20000 * f .blocks + 10000 * m
+    all-sum : (m : ℕ) → sumOver (f .blocks + m) (reach f) ≤ f .blocks * (2 * mostTime) + m * mostTime
     unfolding sumOver
     all-sum zero = rw (add-zero (f .blocks)) (omega (arith, firsts-sum (f .blocks) (omega arith)))
     all-sum (suc m) =
         rw (add-suc (f .blocks) m) (omega (arith, all-sum m, reach-second (f .blocks + m) (omega arith), s .most-second (f .blocks + m - f .blocks)))
 
-    reach-sum : sumOver (2 * f .blocks) (reach f) ≤ 960000
+    reach-sum : sumOver (2 * f .blocks) (reach f) ≤ latestEnd
     reach-sum = rw e (omega (arith, all-sum (f .blocks), s .most-blocks))
       where
         e : 2 * f .blocks ≡ f .blocks + f .blocks
         e = omega arith
 
     pub least-end : (w : ℕ) → 0 < f .blocks → Proper (f .blocks) w → possibleIn f w ≡ true → (p : ℕ) → p < 2 * f .blocks
-        → value (leastStarts f w) p + passTime f p ≤ 960000
+        → value (leastStarts f w) p + passTime f p ≤ latestEnd
     unfolding leastStarts possibleIn
     least-end w some proper e p l =
         omega (

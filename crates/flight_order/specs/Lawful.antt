@@ -9,10 +9,9 @@ use lib.ListN.{getD}
 use Rattle.order.specs.Order.{Proper}
 use Rattle.order.specs.Passes.{passAt, timeOf}
 use Rattle.order.specs.PassLaws.{pass-known, position, last-pass}
-use Rattle.sheet.specs.Limits.{ceiling}
 use Rattle.sheet.specs.Sound.{FlightSound}
 use Rattle.sheet.specs.declared.FlightSection.{FlightSection}
-use Rattle.rules.specs.Flight.{passStart, passTime, passEnd, secondDue, clearAt, Clear, FlightLawful, Keeps, flightFigure}
+use Rattle.rules.specs.Flight.{passStart, passTime, passEnd, secondDue, clearAt, Clear, FlightUnder, Keeps, flightFigure}
 use Rattle.rules.specs.declared.Passes.{Passes}
 use Rattle.base.specs.SumLaws.{greatest-most, greatest-part}
 use Rattle.rules_laws.specs.FlightRunning.{start-first, second-start, end-is, clear-end, next-apart, before-later, all-apart, order-kept}
@@ -22,7 +21,7 @@ use Rattle.flight_order.specs.Timetable.{passesWithStarts, passes-length
 
 module _ (f : FlightSection) (w : ℕ) (proper : Proper (f .blocks) w) where
   -- From the rules to the constraints.
-  pub lawful-schedule : (ps : List Passes) → FlightLawful f ps → Keeps f w ps → Schedule (exactFlight f w) (passStart f ps)
+  pub lawful-schedule : {c : ℕ} (ps : List Passes) → FlightUnder c f ps → Keeps f w ps → Schedule (exactFlight f w) (passStart f ps)
   unfolding passEnd clearAt secondDue
   lawful-schedule ps law keeps = record { at-least = λ i l. omega (arith, delay i l); at-most = λ i l. omega (arith, delay i l); in-order = order }
     where
@@ -55,7 +54,7 @@ module _ (f : FlightSection) (w : ℕ) (proper : Proper (f .blocks) w) where
     pub schedule-keeps : FlightSound f → Keeps f w (passesWithStarts (f .blocks) y)
     schedule-keeps sound = order-kept f (passesWithStarts (f .blocks) y) w proper next sound
 
-    pub schedule-lawful : ((p : ℕ) → p < 2 * f .blocks → y p + passTime f p ≤ ceiling) → FlightLawful f (passesWithStarts (f .blocks) y)
+    pub schedule-lawful : {c : ℕ} → ((p : ℕ) → p < 2 * f .blocks → y p + passTime f p ≤ c) → FlightUnder c f (passesWithStarts (f .blocks) y)
     unfolding passEnd secondDue
     schedule-lawful low = record {
       every-block = passes-length (f .blocks) y;
@@ -66,7 +65,7 @@ module _ (f : FlightSection) (w : ℕ) (proper : Proper (f .blocks) w) where
       within = λ p l. rw (start-from f y p l) (low p l);
     }
 
-  module _ (some : 0 < f .blocks) (ps : List Passes) (law : FlightLawful f ps) (keeps : Keeps f w ps) where
+  module _ {c : ℕ} (some : 0 < f .blocks) (ps : List Passes) (law : FlightUnder c f ps) (keeps : Keeps f w ps) where
     -- No pass ends after the last one.
     last-ends : (p : ℕ) → p < 2 * f .blocks → passEnd f ps p ≤ passEnd f ps (2 * f .blocks - 1)
     last-ends p l = go (position proper p l)

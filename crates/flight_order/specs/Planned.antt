@@ -1,5 +1,5 @@
--- What the least starts of a proper order are by the rules: a lawful timetable that keeps the order, if there is one, in which no pass could
--- start earlier, and whose figure no other has below it.
+-- What the least starts of a proper order are by the rules: a lawful timetable that keeps the order, if there is one under any ceiling, in which no pass
+-- could start earlier, and whose figure no other has below it.
 use mathlib.Core.Path.{_≡_, sym, ap, _∙_}
 use mathlib.Core.Bool.{true}
 use mathlib.Core.List.{List}
@@ -13,7 +13,7 @@ use Rattle.difference.specs.System.{value, holds, leastValues, solvable}
 use Rattle.difference.specs.Least.{solvable-solves, least-below, solution-solvable}
 use Rattle.sheet.specs.Sound.{FlightSound}
 use Rattle.sheet.specs.declared.FlightSection.{FlightSection}
-use Rattle.rules.specs.Flight.{passStart, passTime, passEnd, FlightLawful, Keeps, flightFigure}
+use Rattle.rules.specs.Flight.{passStart, passTime, passEnd, FlightUnder, FlightLawful, Keeps, flightFigure}
 use Rattle.rules.specs.declared.Passes.{Passes}
 use Rattle.base.specs.SumLaws.{greatest-most}
 use Rattle.rules_laws.specs.FlightRunning.{time-second}
@@ -22,7 +22,7 @@ use Rattle.flight_order.specs.Schedule.{Schedule, schedule-solves, solve
 use Rattle.flight_order.specs.Good.{inside}
 use Rattle.flight_order.specs.Timetable.{passesWithStarts, leastPasses, passes-length, start-from}
 use Rattle.flight_order.specs.Lawful.{lawful-schedule, schedule-keeps, schedule-lawful, figure-last}
-use Rattle.flight_order.specs.Ceiling.{sound-good, least-end}
+use Rattle.flight_order.specs.Ceiling.{latestEnd, sound-good, least-end}
 
 module _ (f : FlightSection) (w : ℕ) (sound : FlightSound f) (proper : Proper (f .blocks) w) where
   -- A schedule shows that the order is possible.
@@ -38,7 +38,7 @@ module _ (f : FlightSection) (w : ℕ) (sound : FlightSound f) (proper : Proper 
       e : 4 * f .blocks - 1 ≡ 0
       e = omega (arith, none)
 
-  pub kept-possible : (ps : List Passes) → FlightLawful f ps → Keeps f w ps → possibleIn f w ≡ true
+  pub kept-possible : {c : ℕ} (ps : List Passes) → FlightUnder c f ps → Keeps f w ps → possibleIn f w ≡ true
   kept-possible ps law keeps = go (decLt 0 (f .blocks))
     where
       go : Dec (0 < f .blocks) → possibleIn f w ≡ true
@@ -78,14 +78,14 @@ module _ (f : FlightSection) (w : ℕ) (sound : FlightSound f) (proper : Proper 
         within = λ p l. absurd (omega (arith, none));
       }
 
-  starts-below : 0 < f .blocks → (ps : List Passes) → FlightLawful f ps → Keeps f w ps → (p : ℕ) → value (leastStarts f w) p ≤ passStart f ps p
+  starts-below : {c : ℕ} → 0 < f .blocks → (ps : List Passes) → FlightUnder c f ps → Keeps f w ps → (p : ℕ) → value (leastStarts f w) p ≤ passStart f ps p
   unfolding leastStarts
   starts-below some ps law keeps p =
       least-below (systemFor (exactFlight f w)) (inside (exactFlight f w) (sound-good f w sound some proper)) (passStart f ps)
       (schedule-solves (exactFlight f w) (passStart f ps) (lawful-schedule f w proper ps law keeps)) p
 
   -- No pass starts earlier in any timetable that keeps the order.
-  pub least-earliest : (ps : List Passes) → FlightLawful f ps → Keeps f w ps → (p : ℕ) → p < 2 * f .blocks
+  pub least-earliest : {c : ℕ} (ps : List Passes) → FlightUnder c f ps → Keeps f w ps → (p : ℕ) → p < 2 * f .blocks
       → passStart f (leastPasses f w) p ≤ passStart f ps p
   least-earliest ps law keeps p l = rw (start-least p l) (starts-below (omega arith) ps law keeps p)
 
@@ -118,7 +118,7 @@ module _ (f : FlightSection) (w : ℕ) (sound : FlightSound f) (proper : Proper 
           ∙ omega (arith, start-least (2 * f .blocks - 1) (omega arith), last-time some, figure-some some)
       go (no none) = empty-figure none (leastPasses f w) ∙ sym (figure-none none)
 
-  pub figure-below : (ps : List Passes) → FlightLawful f ps → Keeps f w ps → orderFigure f w ≤ flightFigure f ps
+  pub figure-below : {c : ℕ} (ps : List Passes) → FlightUnder c f ps → Keeps f w ps → orderFigure f w ≤ flightFigure f ps
   unfolding passEnd
   figure-below ps law keeps = go (decLt 0 (f .blocks))
     where
@@ -133,7 +133,6 @@ module _ (f : FlightSection) (w : ℕ) (sound : FlightSound f) (proper : Proper 
           )
       go (no none) = omega (arith, figure-none none)
 
-  -- Every pass ends by 960,000.
-  pub least-ends : possibleIn f w ≡ true → (p : ℕ) → p < 2 * f .blocks → passEnd f (leastPasses f w) p ≤ 960000
+  pub least-ends : possibleIn f w ≡ true → (p : ℕ) → p < 2 * f .blocks → passEnd f (leastPasses f w) p ≤ latestEnd
   unfolding passEnd
   least-ends e p l = rw (start-least p l) (least-end f sound w (omega arith) proper e p l)

@@ -1,15 +1,16 @@
--- The theorems of the mosaic planner, for every sound section m: the batching taken is lawful, has the least figure of all lawful timetables
--- (any batching, any idle time), starts each mount as early as its batches allow, and finishes below the ceiling.
+-- The theorems of the mosaic planner, for every sound section m: the batching taken is lawful, has the least figure of all timetables (any batching, any idle
+-- time, any ceiling), starts each mount as early as its batches allow, and finishes below the ceiling.
 use mathlib.Core.Path.{_≡_, refl, _∙_}
 use mathlib.Core.List.{List, []}
 use Prim.Native.Nat.{ℕ, _*_, _-_, _≤_, _<_}
 use native.Mathlib.Omega.{arith}
+use Rattle.base.specs.LeastFigure.{NoLarger}
 use lib.ListN.{length}
 use Rattle.sheet.specs.Limits.{mostStrips}
 use Rattle.sheet.specs.Sound.{MosaicSound}
 use Rattle.sheet.specs.declared.MosaicSection.{MosaicSection}
 use Rattle.rules.specs.declared.Batch.{Batch}
-use Rattle.rules.specs.Mosaic.{noBatch, batchAt, MosaicLawful, mosaicFigure}
+use Rattle.rules.specs.Mosaic.{noBatch, batchAt, MosaicUnder, MosaicLawful, mosaicFigure}
 use Rattle.running.specs.Running.{MosaicRuns}
 use Rattle.batching.specs.Least.{leastFrom}
 use Rattle.mosaic.specs.Least.{leastFigure}
@@ -35,9 +36,13 @@ module _ (m : MosaicSection) (S : MosaicSound m) where
   unfolding noBatch
   mosaic-figure = running.mosaic-figure m (chosenBatches m) chosen-runs ∙ attained m S .figure-is noBatch refl
 
-  pub mosaic-least : (bs : List Batch) → MosaicLawful m bs → leastFigure m ≤ mosaicFigure m bs
+  pub mosaic-least : {c : ℕ} (bs : List Batch) → MosaicUnder c m bs → leastFigure m ≤ mosaicFigure m bs
   unfolding noBatch
   mosaic-least bs L = rw (least-is m, running.mosaic-figure m bs (running.mosaic-runs m bs L)) (lower-after m bs noBatch (running.mosaic-runs m bs L))
+
+  -- 02, Req 01: "for each section's timetable that would pass it there is one within it of no larger figure": for each that obeys the rules under any ceiling
+  pub mosaic-ceiling : {c : ℕ} (bs : List Batch) → MosaicUnder c m bs → NoLarger (MosaicLawful m) (mosaicFigure m) bs
+  mosaic-ceiling bs U = record { timetable = chosenBatches m; obeys = mosaic-lawful; no-larger = omega (arith, mosaic-figure, mosaic-least bs U) }
 
   pub mosaic-earliest : (bs : List Batch) → MosaicLawful m bs → lasts bs ≡ lasts (chosenBatches m)
       → (i : ℕ) → i < length bs → batchAt (chosenBatches m) i .start ≤ batchAt bs i .start
@@ -45,12 +50,12 @@ module _ (m : MosaicSection) (S : MosaicSound m) where
   mosaic-earliest bs L e =
       earliest m (chosenBatches m) bs noBatch noBatch (attained m S .early) chosen-runs (running.mosaic-runs m bs L) refl (omega arith) e
 
-  -- 1,200,000 at most, below the ceiling of 10,000,000
+  -- the ceiling is never met: ready times, mounts and bench times of 40 strips at most
   pub mosaic-finishes : (i : ℕ) → i < length (chosenBatches m) → batchAt (chosenBatches m) i .finish ≤ latest mostStrips
   unfolding batchAt
   mosaic-finishes i h = omega (arith, finish-at (latest (m .strips)) (chosenBatches m) (attained m S .finishes) i h, S .most-strips)
 
-  -- 48,000,000 at most, which four bytes hold
+  -- four bytes hold it
   pub mosaic-figure-most : leastFigure m ≤ mostStrips * latest mostStrips
   mosaic-figure-most = rw (least-is m) (figure-most S)
 

@@ -1,5 +1,5 @@
--- What holds of the plan that the program takes for a sheet, for every row of bytes as a sheet: it is lawful, no lawful plan has a smaller figure, it starts as
--- early as any, and the flight is called impossible exactly where no timetable keeps the given order. `readSheet` is what reading gives (crate sheet),
+-- What holds of the plan that the program takes for a sheet, for every row of bytes as a sheet: it is lawful, no plan has a smaller figure, it starts as early
+-- as any, and the flight is called impossible exactly where no timetable keeps the given order. `readSheet` is what reading gives (crate sheet),
 -- `PlanLawful` and `AllowedFor` are the rules' (crate rules), `chosenPlan` is Call.antt's. What that means for a call is said in crate demands.
 use Prim.Native.Nat.{ℕ, _≤_, _<_}
 use mathlib.Core.Path.{_≡_, refl, sym, subst, _∙_}
@@ -7,6 +7,7 @@ use mathlib.Core.Bool.{Bool, true, false, true≢false}
 use mathlib.Core.List.{List}
 use lib.ListN.{length}
 use native.Mathlib.Omega.{arith}
+use Rattle.sheet.specs.Limits.{ceiling}
 use Rattle.sheet.specs.Read.{readSheet}
 use Rattle.sheet.specs.Sound.{SheetSound}
 use Rattle.sheet.specs.Theorems.{read-sound}
@@ -14,7 +15,7 @@ use Rattle.sheet.specs.declared.Sheet.{Sheet}
 use Rattle.rules.specs.Mosaic.{batchAt, mosaicFigure}
 use Rattle.rules.specs.Sorting.{jobAt, sortingFigure}
 use Rattle.rules.specs.Flight.{passesAt, FlightLawful, Keeps, OrderAllowed, flightFigure}
-use Rattle.rules.specs.Plan.{Plan, PlanLawful, AllowedFor}
+use Rattle.rules.specs.Plan.{Plan, PlanUnder, PlanLawful, AllowedFor}
 use Rattle.rules.specs.declared.Passes.{Passes}
 use Rattle.mosaic.specs.Plan.{lasts}
 use Rattle.mosaic.specs.Theorems.{mosaic-lawful, mosaic-figure, mosaic-least, mosaic-earliest}
@@ -34,9 +35,9 @@ figureOfSorting s p = sortingFigure (s .sorting) (p .jobs)
 unfoldable pub figureOfFlight : Sheet → Plan → ℕ
 figureOfFlight s p = flightFigure (s .flight) (p .passes)
 
--- No lawful plan of the sheet has a smaller figure.
+-- No plan that obeys the rules under any ceiling has a smaller figure.
 unfoldable pub Least : (Sheet → Plan → ℕ) → Sheet → Plan → Type 0
-Least figure s q = (other : Plan) → PlanLawful s other → figure s q ≤ figure s other
+Least figure s q = (c : ℕ) (other : Plan) → PlanUnder c s other → figure s q ≤ figure s other
 
 -- "no timetable keeps the given order": an order is given, and no passes are a timetable that keeps it.
 pub record Impossible (s : Sheet) : Type 0 where
@@ -51,7 +52,11 @@ module _ (sheet : List ℕ) (sound : readSheet sheet .number ≡ 0) where
   pub impossible-exactly : (isPossible (readSheet sheet .flight) ≡ false → Impossible (readSheet sheet))
       × (Impossible (readSheet sheet) → isPossible (readSheet sheet .flight) ≡ false)
   impossible-exactly = (
-    λ e. record { given = given e _ refl; none = λ ps law keeps. flight-impossible (readSheet sheet .flight) (whole .flight) .0 e (readSheet sheet .flight .order) ps law keeps (as-given (given e _ refl)) },
+    λ e. record {
+      given = given e _ refl;
+      none = λ ps law keeps.
+          flight-impossible (readSheet sheet .flight) (whole .flight) .0 e ceiling (readSheet sheet .flight .order) ps law keeps (as-given (given e _ refl));
+    },
     λ none. flight-impossible (readSheet sheet .flight) (whole .flight) .1 (λ w ps law keeps allowed. none .none ps law (subst (λ (v : ℕ). Keeps (readSheet sheet .flight) v ps) (allowed .as-given (none .given)) keeps)),
   )
     where
@@ -62,13 +67,13 @@ module _ (sheet : List ℕ) (sound : readSheet sheet .number ≡ 0) where
       as-given : readSheet sheet .flight .ordered ≡ true → OrderAllowed (readSheet sheet .flight) (readSheet sheet .flight .order)
       as-given o = record { proper = whole .flight .given o; as-given = λ _. refl }
 
-  -- .. and so a sheet that has a lawful plan is possible.
-  pub lawful-possible : (q : Plan) → PlanLawful (readSheet sheet) q → isPossible (readSheet sheet .flight) ≡ true
+  -- .. and so a sheet that has a plan under any ceiling is possible.
+  pub lawful-possible : {c : ℕ} (q : Plan) → PlanUnder c (readSheet sheet) q → isPossible (readSheet sheet .flight) ≡ true
   lawful-possible q l = go (isPossible (readSheet sheet .flight)) refl
     where
       go : (b : Bool) → isPossible (readSheet sheet .flight) ≡ b → b ≡ true
       go true e = refl
-      go false e = absurd (flight-impossible (readSheet sheet .flight) (whole .flight) .0 e (q .order) (q .passes) (l .flight) (l .kept) (l .order))
+      go false e = absurd (flight-impossible (readSheet sheet .flight) (whole .flight) .0 e _ (q .order) (q .passes) (l .flight) (l .kept) (l .order))
 
   -- The plan of a sound and possible sheet is lawful.
   pub plan-lawful : isPossible (readSheet sheet .flight) ≡ true → PlanLawful (readSheet sheet) (chosenPlan (readSheet sheet))
@@ -83,20 +88,20 @@ module _ (sheet : List ℕ) (sound : readSheet sheet .number ≡ 0) where
         order = h .2;
       }
 
-  -- No lawful plan of the sheet has a smaller figure in any section.
+  -- No plan of the sheet has a smaller figure in any section, under any ceiling.
   pub plan-least-mosaic : Least figureOfMosaic (readSheet sheet) (chosenPlan (readSheet sheet))
   unfolding Least figureOfMosaic chosenPlan
-  plan-least-mosaic q l =
+  plan-least-mosaic c q l =
       omega (arith, mosaic-figure (readSheet sheet .mosaic) (whole .mosaic), mosaic-least (readSheet sheet .mosaic) (whole .mosaic) (q .batches) (l .mosaic))
 
   pub plan-least-sorting : Least figureOfSorting (readSheet sheet) (chosenPlan (readSheet sheet))
   unfolding Least figureOfSorting chosenPlan
-  plan-least-sorting q l =
+  plan-least-sorting c q l =
       omega (arith, sorting-figure (readSheet sheet .sorting) (whole .sorting), sorting-least (readSheet sheet .sorting) (whole .sorting) (q .jobs) (l .sorting))
 
   pub plan-least-flight : Least figureOfFlight (readSheet sheet) (chosenPlan (readSheet sheet))
   unfolding Least figureOfFlight chosenPlan
-  plan-least-flight q l =
+  plan-least-flight c q l =
       omega (
         arith,
         flight-figure (readSheet sheet .flight) (whole .flight) (lawful-possible q l),

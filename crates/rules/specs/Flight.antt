@@ -46,13 +46,17 @@ clearAt f ps p = passEnd f ps p
 abbrev pub Clear : FlightSection → List Passes → ℕ → ℕ → Type 0
 Clear f ps p q = clearAt f ps p ≤ passStart f ps q
 
--- a timetable of the flight
-pub record FlightLawful (f : FlightSection) (ps : List Passes) : Type 0 where
+-- a timetable of the flight under the ceiling c
+pub record FlightUnder (c : ℕ) (f : FlightSection) (ps : List Passes) : Type 0 where
   pub every-block : length ps ≡ f .blocks
   pub delay-kept : (i : ℕ) → i < f .blocks → DelayKept f i (passesAt ps i)
   pub apart : (p q : ℕ) → p < 2 * f .blocks → q < 2 * f .blocks → (p ≡ q → ⊥) → Clear f ps p q ⊎ Clear f ps q p
-  -- "all starts and finishes are whole numbers from 0 to 10,000,000"
-  pub within : (p : ℕ) → p < 2 * f .blocks → passEnd f ps p ≤ ceiling
+  -- "all starts and finishes are whole numbers from 0" to the ceiling
+  pub within : (p : ℕ) → p < 2 * f .blocks → passEnd f ps p ≤ c
+
+-- "In an allowed plan all starts and finishes are whole numbers from 0 to 10,000,000": the same under that ceiling
+abbrev pub FlightLawful : FlightSection → List Passes → Type 0
+FlightLawful f ps = FlightUnder ceiling f ps
 
 -- "a flight timetable keeps an order where its passes, taken by start, come in that order"
 pub record Keeps (f : FlightSection) (order : ℕ) (ps : List Passes) : Type 0 where

@@ -43,22 +43,29 @@ setupTime m = m .mount
 unfoldable pub finishDue : MosaicSection → Batch → Batch → ℕ
 finishDue m before b = b .start + setupTime m + benchSum m (before .last) (b .last - before .last)
 
--- what the rules ask of a batch and the batch before it
-pub record BatchLawful (m : MosaicSection) (before b : Batch) : Type 0 where
+-- what the rules ask of a batch and the batch before it, under the ceiling c
+pub record BatchUnder (c : ℕ) (m : MosaicSection) (before b : Batch) : Type 0 where
   -- "Batches are runs of neighbouring strips that cover all in order."
   pub rises : before .last < b .last
   -- "A mount starts no earlier than the last strip of its batch is ready and the batch before has finished."
   pub waits-strip : ready m (b .last) ≤ b .start
   pub waits-batch : before .finish ≤ b .start
   pub finishes : b .finish ≡ finishDue m before b
-  -- "all starts and finishes are whole numbers from 0 to 10,000,000"; no start is above its finish
-  pub within : b .finish ≤ ceiling
+  -- "all starts and finishes are whole numbers from 0" to the ceiling; no start is above its finish
+  pub within : b .finish ≤ c
 
--- a timetable of the mosaic
-pub record MosaicLawful (m : MosaicSection) (bs : List Batch) : Type 0 where
-  pub each : (i : ℕ) → i < length bs → BatchLawful m (batchBefore bs i) (batchAt bs i)
+-- a timetable of the mosaic under the ceiling c
+pub record MosaicUnder (c : ℕ) (m : MosaicSection) (bs : List Batch) : Type 0 where
+  pub each : (i : ℕ) → i < length bs → BatchUnder c m (batchBefore bs i) (batchAt bs i)
   -- ".. that cover all in order"
   pub covers : batchBefore bs (length bs) .last ≡ m .strips
+
+-- "In an allowed plan all starts and finishes are whole numbers from 0 to 10,000,000": the same under that ceiling
+abbrev pub BatchLawful : MosaicSection → Batch → Batch → Type 0
+BatchLawful m before b = BatchUnder ceiling m before b
+
+abbrev pub MosaicLawful : MosaicSection → List Batch → Type 0
+MosaicLawful m bs = MosaicUnder ceiling m bs
 
 -- "A strip is complete when its batch finishes": strip j is of the first batch whose last strip is not before it
 unfoldable pub completion : List Batch → ℕ → ℕ

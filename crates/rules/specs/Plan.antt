@@ -5,12 +5,13 @@ use mathlib.Core.Bool.{cond}
 use mathlib.Core.List.{List, [], _∷_, _++_}
 use lib.Dec.{ltb}
 use Rattle.plan_format.specs.Format.{formBytes, mosaicHeadForm, batchForm, sortingHeadForm, jobForm, flightHeadForm, passesForm, refusalForm}
+use Rattle.sheet.specs.Limits.{ceiling}
 use Rattle.sheet.specs.Read.{readSheet}
 use Rattle.sheet.specs.Sound.{stripsInAll}
 use Rattle.sheet.specs.declared.Sheet.{Sheet}
-use Rattle.rules.specs.Mosaic.{MosaicLawful, mosaicFigure}
-use Rattle.rules.specs.Sorting.{SortingLawful, sortingFigure}
-use Rattle.rules.specs.Flight.{FlightLawful, Keeps, OrderAllowed, flightFigure}
+use Rattle.rules.specs.Mosaic.{MosaicUnder, mosaicFigure}
+use Rattle.rules.specs.Sorting.{SortingUnder, sortingFigure}
+use Rattle.rules.specs.Flight.{FlightUnder, Keeps, OrderAllowed, flightFigure}
 use Rattle.rules.specs.declared.Batch.{Batch}
 use Rattle.rules.specs.declared.Job.{Job}
 use Rattle.rules.specs.declared.Passes.{Passes}
@@ -73,13 +74,17 @@ planBytes s p =
     ++ ifPresent (stripsInAll (s .sorting)) (sortingBytes (sortingFigure (s .sorting) (p .jobs)) (p .jobs))
     ++ ifPresent (s .flight .blocks) (flightBytes (flightFigure (s .flight) (p .passes)) (p .order) (p .passes))
 
--- a plan "gives a timetable of each" section, "in flight with the number of the order kept"
-pub record PlanLawful (s : Sheet) (p : Plan) : Type 0 where
-  pub mosaic : MosaicLawful (s .mosaic) (p .batches)
-  pub sorting : SortingLawful (s .sorting) (p .jobs)
-  pub flight : FlightLawful (s .flight) (p .passes)
+-- a plan "gives a timetable of each" section, "in flight with the number of the order kept", under the ceiling c
+pub record PlanUnder (c : ℕ) (s : Sheet) (p : Plan) : Type 0 where
+  pub mosaic : MosaicUnder c (s .mosaic) (p .batches)
+  pub sorting : SortingUnder c (s .sorting) (p .jobs)
+  pub flight : FlightUnder c (s .flight) (p .passes)
   pub kept : Keeps (s .flight) (p .order) (p .passes)
   pub order : OrderAllowed (s .flight) (p .order)
+
+-- the same under the ceiling of 10,000,000
+abbrev pub PlanLawful : Sheet → Plan → Type 0
+PlanLawful s p = PlanUnder ceiling s p
 
 -- "A plan is allowed for an otherwise sound sheet exactly when it is laid out as below with the sheet's sections, gives a timetable of each, .."
 pub record Allowed (s : Sheet) (bytes : List ℕ) : Type 0 where

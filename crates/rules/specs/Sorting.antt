@@ -42,24 +42,31 @@ jobAt js i = getD js i noJob
 unfoldable pub jobsOf : List Job → ℕ → ℕ → ℕ
 jobsOf js desk n = sumOver n (λ i. cond (eqb (jobAt js i .desk) desk) 1 0)
 
--- what the rules ask of a job by itself
-pub record JobLawful (s : SortingSection) (j : Job) : Type 0 where
+-- what the rules ask of a job by itself, under the ceiling c
+pub record JobUnder (c : ℕ) (s : SortingSection) (j : Job) : Type 0 where
   pub least-desk : 1 ≤ j .desk
   pub most-desk : j .desk ≤ s .desks
   -- "A desk takes its strips .. each after its scan."
   pub after-scan : scanEnd s j ≤ j .start
-  -- "all starts and finishes are whole numbers from 0 to 10,000,000"; no other start or finish of a strip is above its desk's finish
-  pub within : deskFinish s j ≤ ceiling
+  -- "all starts and finishes are whole numbers from 0" to the ceiling; no other start or finish of a strip is above its desk's finish
+  pub within : deskFinish s j ≤ c
 
--- a timetable of the sorting
-pub record SortingLawful (s : SortingSection) (js : List Job) : Type 0 where
-  pub each : (i : ℕ) → i < length js → JobLawful s (jobAt js i)
+-- a timetable of the sorting under the ceiling c
+pub record SortingUnder (c : ℕ) (s : SortingSection) (js : List Job) : Type 0 where
+  pub each : (i : ℕ) → i < length js → JobUnder c s (jobAt js i)
   -- "One scanner takes one strip at a time, in any interleaving that keeps each desk's order": each job is its desk's next strip, and every strip has its job
   pub in-turn : (i : ℕ) → i < length js → jobAt js i .number ≡ jobsOf js (jobAt js i .desk) i + 1
   pub all-strips : (desk : ℕ) → 1 ≤ desk → desk ≤ s .desks → jobsOf js desk (length js) ≡ stripsOf s desk
   pub one-scan : (i j : ℕ) → i < j → j < length js → scanEnd s (jobAt js i) ≤ jobAt js j .scan
   -- "A desk takes its strips in order, one at a time"
   pub one-job : (i j : ℕ) → i < j → j < length js → jobAt js i .desk ≡ jobAt js j .desk → deskFinish s (jobAt js i) ≤ jobAt js j .start
+
+-- "In an allowed plan all starts and finishes are whole numbers from 0 to 10,000,000": the same under that ceiling
+abbrev pub JobLawful : SortingSection → Job → Type 0
+JobLawful s j = JobUnder ceiling s j
+
+abbrev pub SortingLawful : SortingSection → List Job → Type 0
+SortingLawful s js = SortingUnder ceiling s js
 
 -- "Figure: the sum of desk finishing times over strips." (in the literature: the sum of completion times)
 unfoldable pub sortingFigure : SortingSection → List Job → ℕ

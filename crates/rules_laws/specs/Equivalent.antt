@@ -1,4 +1,4 @@
--- The rules by index and the rules as they run over the members in order say the same, both ways; and so do the figures.
+-- The rules by index and the rules as they run over the members in order say the same, both ways, the mosaic's under every ceiling; and so do the figures.
 use mathlib.Core.Path.{_≡_}
 use mathlib.Core.List.{List}
 use Prim.Native.Nat.{ℕ}
@@ -6,10 +6,10 @@ use Rattle.sheet.specs.Sound.{SortingSound, FlightSound}
 use Rattle.sheet.specs.declared.MosaicSection.{MosaicSection}
 use Rattle.sheet.specs.declared.SortingSection.{SortingSection}
 use Rattle.sheet.specs.declared.FlightSection.{FlightSection}
-use Rattle.rules.specs.Mosaic.{noBatch, MosaicLawful, mosaicFigure}
+use Rattle.rules.specs.Mosaic.{noBatch, MosaicUnder, mosaicFigure}
 use Rattle.rules.specs.Sorting.{SortingLawful, sortingFigure}
 use Rattle.rules.specs.Flight.{FlightLawful, Keeps, OrderAllowed}
-use Rattle.running.specs.Running.{MosaicRuns, freeDesks, SortingRuns, FlightRuns}
+use Rattle.running.specs.Running.{MosaicRunsUnder, freeDesks, SortingRuns, FlightRuns}
 use Rattle.rules.specs.declared.Batch.{Batch}
 use Rattle.rules.specs.declared.Job.{Job}
 use Rattle.rules.specs.declared.Passes.{Passes}
@@ -17,15 +17,15 @@ use Rattle.rules_laws.specs.MosaicRunning as mosaic
 use Rattle.rules_laws.specs.SortingRunning as sorting
 use Rattle.rules_laws.specs.FlightRunning as flight
 
-module _ (m : MosaicSection) (bs : List Batch) where
-  pub mosaic-runs : MosaicLawful m bs → MosaicRuns m noBatch bs
+module _ {c : ℕ} (m : MosaicSection) (bs : List Batch) where
+  pub mosaic-runs : MosaicUnder c m bs → MosaicRunsUnder c m noBatch bs
   mosaic-runs L = mosaic.lawful-runs m bs L
 
-  pub runs-mosaic : MosaicRuns m noBatch bs → MosaicLawful m bs
+  pub runs-mosaic : MosaicRunsUnder c m noBatch bs → MosaicUnder c m bs
   runs-mosaic R = mosaic.runs-lawful m bs R
 
   -- the sum of completions is the sum, over the batches, of the count of a batch's strips times its finish
-  pub mosaic-figure : MosaicRuns m noBatch bs → mosaicFigure m bs ≡ mosaic.runningFigure noBatch bs
+  pub mosaic-figure : MosaicRunsUnder c m noBatch bs → mosaicFigure m bs ≡ mosaic.runningFigure noBatch bs
   mosaic-figure R = mosaic.figure-running m bs R
 
 module _ (s : SortingSection) (js : List Job) where

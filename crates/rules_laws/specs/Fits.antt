@@ -43,7 +43,7 @@ completion-most (b ∷ bs) j h = go (leb j (b .last)) (h 0 (omega arith)) (compl
     go false p q = q
 
 module _ (m : MosaicSection) (bs : List Batch) (sound : MosaicSound m) (L : MosaicLawful m bs) where
-  pub mosaic-figure-most : mosaicFigure m bs ≤ 40 * ceiling
+  pub mosaic-figure-most : mosaicFigure m bs ≤ mostStrips * ceiling
   unfolding mosaicFigure batchAt
   mosaic-figure-most =
       omega (arith, sum-most (m .strips) ceiling (λ j. completion bs (j + 1)) (λ j l. completion-most bs (j + 1) (λ i k. L .each i k .within)), sound .most-strips)
@@ -129,11 +129,11 @@ module _ (s : SortingSection) (js : List Job) (sound : SortingSound s) (L : Sort
   unfolding stripsInAll stripsOf
   jobs-all = omega (arith, jobs-count (length js) (omega arith), desk-jobs 1 (omega arith), desk-jobs 2 (omega arith), desk-jobs 3 (omega arith))
 
-  pub jobs-most : length js ≤ 18
+  pub jobs-most : length js ≤ mostDesks * mostStripsOfDesk
   unfolding stripsInAll
   jobs-most = omega (arith, jobs-all, sound .most-strips 0, sound .most-strips 1, sound .most-strips 2)
 
-  pub sorting-figure-most : sortingFigure s js ≤ 18 * ceiling
+  pub sorting-figure-most : sortingFigure s js ≤ mostDesks * mostStripsOfDesk * ceiling
   unfolding sortingFigure
   sorting-figure-most = omega (arith, sum-most (length js) ceiling (λ i. deskFinish s (jobAt js i)) (λ i l. L .each i l .within), jobs-most)
 
@@ -149,7 +149,7 @@ module _ (s : SortingSection) (js : List Job) (sound : SortingSound s) (L : Sort
   unfolding sortingFigure
   sorting-figure-least h = omega (arith, sum-least (length js) (λ i. deskFinish s (jobAt js i)) job-some, jobs-all)
 
-  pub job-desk : (i : ℕ) → i < length js → jobAt js i .desk ≤ 3
+  pub job-desk : (i : ℕ) → i < length js → jobAt js i .desk ≤ mostDesks
   job-desk i l = desk-known i l
 
   pub job-number : (i : ℕ) → i < length js → jobAt js i .number ≤ mostStripsOfDesk

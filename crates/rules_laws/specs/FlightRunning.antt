@@ -16,7 +16,7 @@ use Rattle.order.specs.PassLaws as passes
 use Rattle.sheet.specs.Limits.{ceiling}
 use Rattle.sheet.specs.Sound.{FlightSound}
 use Rattle.sheet.specs.declared.FlightSection.{FlightSection}
-use Rattle.rules.specs.Flight.{passesAt, passStart, passTime, passEnd, secondDue, DelayKept, clearAt, Clear, FlightLawful, Keeps, OrderAllowed}
+use Rattle.rules.specs.Flight.{passesAt, passStart, passTime, passEnd, secondDue, DelayKept, clearAt, Clear, FlightUnder, FlightLawful, Keeps, OrderAllowed}
 use Rattle.running.specs.Running.{BlockFollows, FlightRuns}
 use Rattle.rules.specs.declared.Passes.{Passes}
 
@@ -73,7 +73,7 @@ module _ (f : FlightSection) (ps : List Passes) where
   clear-end p = omega arith
 
   -- From the rules to the run.
-  pub next-apart : (w : ℕ) → FlightLawful f ps → Keeps f w ps → Proper (f .blocks) w
+  pub next-apart : {c : ℕ} (w : ℕ) → FlightUnder c f ps → Keeps f w ps → Proper (f .blocks) w
       → (k : ℕ) → k + 1 < 2 * f .blocks → Clear f ps (passAt (f .blocks) w k) (passAt (f .blocks) w (k + 1))
   next-apart w law keeps proper k l =
       ⊎-elim (λ h. h) (λ h. absurd (omega (arith, h, later, clear-end (passAt (f .blocks) w (k + 1)), end-is (passAt (f .blocks) w (k + 1)))))

@@ -8,52 +8,53 @@ use lib.ListN.{length, getD}
 use borrow.Author.Tests.{le-leb, lt-leb}
 use Rattle.sheet.specs.declared.MosaicSection.{MosaicSection}
 use Rattle.base.specs.Sums.{sumOver}
-use Rattle.rules.specs.Mosaic.{noBatch, batchAt, batchBefore, BatchLawful, MosaicLawful, completion, mosaicFigure}
-use Rattle.running.specs.Running.{BatchFollows, MosaicRuns, none, more}
+use Rattle.rules.specs.Mosaic.{noBatch, batchAt, batchBefore, BatchUnder, MosaicUnder, completion, mosaicFigure}
+use Rattle.running.specs.Running.{BatchFollowsUnder, MosaicRunsUnder, none, more}
 use Rattle.rules.specs.declared.Batch.{Batch}
 use Rattle.base.specs.SumLaws.{sum-split, sum-same, sum-const}
 
 -- the last strip of every batch is one of the section's
-pub last-within : (m : MosaicSection) (b : Batch) (bs : List Batch) → MosaicRuns m b bs → b .last ≤ m .strips
+pub last-within : {c : ℕ} (m : MosaicSection) (b : Batch) (bs : List Batch) → MosaicRunsUnder c m b bs → b .last ≤ m .strips
 last-within m b [] (none e) = omega arith
-last-within m b (c ∷ bs) (more f r) = omega (arith, f .lawful .rises, f .known)
+last-within m b (d ∷ bs) (more f r) = omega (arith, f .lawful .rises, f .known)
 
 -- no more batches than strips
-pub count-within : (m : MosaicSection) (b : Batch) (bs : List Batch) → MosaicRuns m b bs → b .last + length bs ≤ m .strips
+pub count-within : {c : ℕ} (m : MosaicSection) (b : Batch) (bs : List Batch) → MosaicRunsUnder c m b bs → b .last + length bs ≤ m .strips
 count-within m b [] (none e) = omega arith
-count-within m b (c ∷ bs) (more f r) = omega (arith, count-within m c bs r, f .lawful .rises)
+count-within m b (d ∷ bs) (more f r) = omega (arith, count-within m d bs r, f .lawful .rises)
 
-module _ (m : MosaicSection) where
-  collect : (bs : List Batch) (b : Batch) → ((i : ℕ) → i < length bs → BatchLawful m (getD (b ∷ bs) i noBatch) (getD bs i noBatch))
-      → getD (b ∷ bs) (length bs) noBatch .last ≡ m .strips → MosaicRuns m b bs
+before-is : (bs : List Batch) (i : ℕ) → batchBefore bs i ≡ getD (noBatch ∷ bs) i noBatch
+unfolding batchBefore batchAt
+before-is bs zero = refl
+before-is bs (suc i) = refl
+
+module _ {c : ℕ} (m : MosaicSection) where
+  collect : (bs : List Batch) (b : Batch) → ((i : ℕ) → i < length bs → BatchUnder c m (getD (b ∷ bs) i noBatch) (getD bs i noBatch))
+      → getD (b ∷ bs) (length bs) noBatch .last ≡ m .strips → MosaicRunsUnder c m b bs
   collect [] b h e = none e
-  collect (c ∷ bs) b h e =
-      let r : MosaicRuns m c bs = collect bs c (λ i k. h (suc i) (omega arith)) e in
-      more (record { lawful = h 0 (omega arith); known = last-within m c bs r }) r
+  collect (d ∷ bs) b h e =
+      let r : MosaicRunsUnder c m d bs = collect bs d (λ i k. h (suc i) (omega arith)) e in
+      more (record { lawful = h 0 (omega arith); known = last-within m d bs r }) r
 
-  each : (bs : List Batch) (b : Batch) → MosaicRuns m b bs → (i : ℕ) → i < length bs → BatchFollows m (getD (b ∷ bs) i noBatch) (getD bs i noBatch)
+  each : (bs : List Batch) (b : Batch) → MosaicRunsUnder c m b bs
+      → (i : ℕ) → i < length bs → BatchFollowsUnder c m (getD (b ∷ bs) i noBatch) (getD bs i noBatch)
   each [] b (none e) i h = absurd (omega arith)
-  each (c ∷ bs) b (more f r) zero h = f
-  each (c ∷ bs) b (more f r) (suc i) h = each bs c r i (omega arith)
+  each (d ∷ bs) b (more f r) zero h = f
+  each (d ∷ bs) b (more f r) (suc i) h = each bs d r i (omega arith)
 
-  end : (bs : List Batch) (b : Batch) → MosaicRuns m b bs → getD (b ∷ bs) (length bs) noBatch .last ≡ m .strips
+  end : (bs : List Batch) (b : Batch) → MosaicRunsUnder c m b bs → getD (b ∷ bs) (length bs) noBatch .last ≡ m .strips
   end [] b (none e) = e
-  end (c ∷ bs) b (more f r) = end bs c r
+  end (d ∷ bs) b (more f r) = end bs d r
 
-  before-is : (bs : List Batch) (i : ℕ) → batchBefore bs i ≡ getD (noBatch ∷ bs) i noBatch
-  unfolding batchBefore batchAt
-  before-is bs zero = refl
-  before-is bs (suc i) = refl
-
-  pub lawful-runs : (bs : List Batch) → MosaicLawful m bs → MosaicRuns m noBatch bs
+  pub lawful-runs : (bs : List Batch) → MosaicUnder c m bs → MosaicRunsUnder c m noBatch bs
   unfolding batchAt
   lawful-runs bs L = collect bs noBatch (λ i h. rw (← before-is bs i) (L .each i h)) (rw (← before-is bs (length bs)) (L .covers))
 
-  pub follows-at : (bs : List Batch) → MosaicRuns m noBatch bs → (i : ℕ) → i < length bs → BatchFollows m (batchBefore bs i) (batchAt bs i)
+  pub follows-at : (bs : List Batch) → MosaicRunsUnder c m noBatch bs → (i : ℕ) → i < length bs → BatchFollowsUnder c m (batchBefore bs i) (batchAt bs i)
   unfolding batchAt
   follows-at bs R i h = rw (before-is bs i) (each bs noBatch R i h)
 
-  pub runs-lawful : (bs : List Batch) → MosaicRuns m noBatch bs → MosaicLawful m bs
+  pub runs-lawful : (bs : List Batch) → MosaicRunsUnder c m noBatch bs → MosaicUnder c m bs
   runs-lawful bs R = record { each = λ i h. follows-at bs R i h .lawful; covers = rw (before-is bs (length bs)) (end bs noBatch R) }
 
 -- the figure, batch by batch: each batch's strips times its finish
@@ -99,13 +100,14 @@ rest-cons m i b bs h k =
     rw z (later b bs (b .last + n + 1) (omega arith))) in
     rw e (omega (arith, sum-split (b .last - i) (m .strips - b .last) f, first, rest))
 
-rest-running : (m : MosaicSection) (before : Batch) (bs : List Batch) → MosaicRuns m before bs → restFigure m (before .last) bs ≡ runningFigure before bs
+rest-running : {c : ℕ} (m : MosaicSection) (before : Batch) (bs : List Batch) → MosaicRunsUnder c m before bs
+    → restFigure m (before .last) bs ≡ runningFigure before bs
 unfolding runningFigure
 rest-running m before [] (none e) = rest-end m (before .last) [] (omega arith)
 rest-running m before (b ∷ bs) (more f r) =
     rest-cons m (before .last) b bs (omega (arith, f .lawful .rises)) (f .known)
     ∙ ap (λ (n : ℕ). (b .last - before .last) * b .finish + n) (rest-running m b bs r)
 
-pub figure-running : (m : MosaicSection) (bs : List Batch) → MosaicRuns m noBatch bs → mosaicFigure m bs ≡ runningFigure noBatch bs
+pub figure-running : {c : ℕ} (m : MosaicSection) (bs : List Batch) → MosaicRunsUnder c m noBatch bs → mosaicFigure m bs ≡ runningFigure noBatch bs
 unfolding noBatch
 figure-running m bs R = rest-whole m bs ∙ rest-running m noBatch bs R

@@ -8,7 +8,7 @@ use Rattle.sheet.specs.Limits.{ceiling}
 use Rattle.sheet.specs.declared.MosaicSection.{MosaicSection}
 use Rattle.sheet.specs.declared.SortingSection.{SortingSection}
 use Rattle.sheet.specs.declared.FlightSection.{FlightSection}
-use Rattle.rules.specs.Mosaic.{BatchLawful}
+use Rattle.rules.specs.Mosaic.{BatchUnder}
 use Rattle.rules.specs.Sorting.{stripsOf, scanEnd, deskFinish, JobLawful}
 use Rattle.rules.specs.Flight.{passesAt, DelayKept, Clear, OrderAllowed}
 use Rattle.rules.specs.declared.Batch.{Batch}
@@ -16,14 +16,21 @@ use Rattle.rules.specs.declared.Job.{Job}
 use Rattle.rules.specs.declared.Passes.{Passes}
 use Rattle.running.specs.declared.Desks.{Desks}
 
--- A batch may follow the batch before it (noBatch before the first).
-pub record BatchFollows (m : MosaicSection) (before b : Batch) : Type 0 where
-  pub lawful : BatchLawful m before b
+-- A batch may follow the batch before it (noBatch before the first), under the ceiling c.
+pub record BatchFollowsUnder (c : ℕ) (m : MosaicSection) (before b : Batch) : Type 0 where
+  pub lawful : BatchUnder c m before b
   pub known : b .last ≤ m .strips
 
-pub data MosaicRuns (m : MosaicSection) : Batch → List Batch → Type 0 where
-  none : {before : Batch} → before .last ≡ m .strips → MosaicRuns m before []
-  more : {before b : Batch} {bs : List Batch} → BatchFollows m before b → MosaicRuns m b bs → MosaicRuns m before (b ∷ bs)
+pub data MosaicRunsUnder (c : ℕ) (m : MosaicSection) : Batch → List Batch → Type 0 where
+  none : {before : Batch} → before .last ≡ m .strips → MosaicRunsUnder c m before []
+  more : {before b : Batch} {bs : List Batch} → BatchFollowsUnder c m before b → MosaicRunsUnder c m b bs → MosaicRunsUnder c m before (b ∷ bs)
+
+-- The same under the ceiling of 10,000,000.
+abbrev pub BatchFollows : MosaicSection → Batch → Batch → Type 0
+BatchFollows m before b = BatchFollowsUnder ceiling m before b
+
+abbrev pub MosaicRuns : MosaicSection → Batch → List Batch → Type 0
+MosaicRuns m before bs = MosaicRunsUnder ceiling m before bs
 
 -- A job may follow. `d` says how many strips each desk has had, and from when on each desk and the scanner are free.
 pub record JobFollows (s : SortingSection) (d : Desks) (j : Job) : Type 0 where

@@ -6,6 +6,7 @@ use native.Mathlib.Decide.{decLt, ℕ-discrete}
 use native.Mathlib.Omega.{arith}
 use lib.ListN.{length, getD, set, length-set, length-append, List·getD-append, List·getD-eq-default, replicate, length-replicate, getD-replicate}
 use lib.Seq.{getD-append-add, getD-set-same, getD-set-other, ext-getD}
+use Rattle.sheet.specs.Limits.{mostTime}
 use Rattle.sheet.specs.declared.SortingSection.{SortingSection}
 use Rattle.sheet.specs.Sound.{SortingSound}
 use Rattle.interleaving.specs.Instance.{Instance, scanOf, deskOf, weightOf, weightCap, instanceLength}
@@ -54,16 +55,16 @@ module _ (s : SortingSection) (h : SortingSound s) where
       omega (arith, length-append (s .counts) (s .scan ++ (s .desk ++ replicate 18 1)), length-append (s .scan) (s .desk ++ replicate 18 1), length-append (s .desk) (replicate 18 1), length-replicate {A = ℕ} 18 1, h .counts-length, h .scan-length, h .desk-length)
 
   -- every number behind the counts is a scan time, a desk time, a weight or none
-  behind-counts : (k : ℕ) → getD (instanceOf s) (3 + k) 0 ≤ 10000
+  behind-counts : (k : ℕ) → getD (instanceOf s) (3 + k) 0 ≤ mostTime
   behind-counts k = go (decLt k 18) (decLt k 36)
     where
-      go : Dec (k < 18) → Dec (k < 36) → getD (instanceOf s) (3 + k) 0 ≤ 10000
+      go : Dec (k < 18) → Dec (k < 36) → getD (instanceOf s) (3 + k) 0 ≤ mostTime
       go (yes l) m = rw (scan-at k l) (h .most-scan k)
-      go (no l) (yes m) = subst (λ (x : ℕ). getD (instanceOf s) (3 + x) 0 ≤ 10000) there (rw (desk-at (k - 18) (omega arith)) (h .most-desk (k - 18)))
+      go (no l) (yes m) = subst (λ (x : ℕ). getD (instanceOf s) (3 + x) 0 ≤ mostTime) there (rw (desk-at (k - 18) (omega arith)) (h .most-desk (k - 18)))
         where
           there : 18 + (k - 18) ≡ k
           there = omega arith
-      go (no l) (no m) = subst (λ (x : ℕ). getD (instanceOf s) (3 + x) 0 ≤ 10000) there (rw (after-desks (k - 36)) (omega (arith, one-or-none (k - 36))))
+      go (no l) (no m) = subst (λ (x : ℕ). getD (instanceOf s) (3 + x) 0 ≤ mostTime) there (rw (after-desks (k - 36)) (omega (arith, one-or-none (k - 36))))
         where
           there : 18 + (18 + (k - 36)) ≡ k
           there = omega arith

@@ -6,6 +6,7 @@ use native.Mathlib.Nat.{le-refl}
 use native.Mathlib.Decide.{decLt, ℕ-discrete}
 use native.Mathlib.Omega.{arith}
 use lib.ListN.{length, getD}
+use Rattle.sheet.specs.Limits.{mostTime, mostDesks, mostStripsOfDesk}
 use Rattle.sheet.specs.declared.SortingSection.{SortingSection}
 use Rattle.sheet.specs.Sound.{SortingSound}
 use Rattle.rules.specs.declared.Job.{Job}
@@ -22,6 +23,10 @@ use Rattle.sorting.specs.Instance.{instance-sound, scan-of, desk-of, wei
 use Rattle.sorting.specs.Route.{rises, reached-consistent, reached-left, reached-lengths, step-time, step-cost, free-same, free-other, taken-is}
 use Rattle.sorting.specs.Chosen.{chosenDesk, chosenState, Chosen, chosen}
 use Rattle.sorting.specs.Times.{scan-time, desk-time, strips-of, no-strips, start-taken, start-free, start-time, start-cost}
+
+-- no job of the chosen list finishes later: scan and desk time of every strip
+abbrev pub latestFinish : ℕ
+latestFinish = mostDesks * mostStripsOfDesk * (2 * mostTime)
 
 -- a job starts once its scan ends and its desk is free, and no later
 module _ (J : List ℕ) (s : State) (d : ℕ) where
@@ -133,14 +138,14 @@ module _ (s : SortingSection) (h : SortingSound s) where
   unfolding reached
   free-after i l = free-same J (S i) (F i) (omega (arith, lengths i, desk-low i l))
 
-  -- no time passes what 18 strips can take
+  -- no time passes what the strips so far can take
   record Early (x : State) (i : ℕ) : Type 0 where
-    pub time : x .time ≤ i * 10000
-    pub free : (d : ℕ) → getD (x .free) d 0 ≤ i * 20000
+    pub time : x .time ≤ i * mostTime
+    pub free : (d : ℕ) → getD (x .free) d 0 ≤ i * (2 * mostTime)
 
-  finish-early : (i : ℕ) → i < N → Early (S i) i → finish J (S i) (F i) ≤ suc i * 20000
+  finish-early : (i : ℕ) → i < N → Early (S i) i → finish J (S i) (F i) ≤ suc i * (2 * mostTime)
   finish-early i l e =
-      omega (arith, max-least (getD (S i .free) (F i) 0) (scanned J (S i) (F i)) (i * 20000 + 10000) (omega (arith, e .free (F i))) (omega (arith, e .time, scan-of s h (F i) (getD (S i .taken) (F i) 0) (in-slot i l), h .most-scan (F i * 6 + getD (S i .taken) (F i) 0))), desk-of s h (F i) (getD (S i .taken) (F i) 0) (in-slot i l), h .most-desk (F i * 6 + getD (S i .taken) (F i) 0))
+      omega (arith, max-least (getD (S i .free) (F i) 0) (scanned J (S i) (F i)) (i * (2 * mostTime) + mostTime) (omega (arith, e .free (F i))) (omega (arith, e .time, scan-of s h (F i) (getD (S i .taken) (F i) 0) (in-slot i l), h .most-scan (F i * 6 + getD (S i .taken) (F i) 0))), desk-of s h (F i) (getD (S i .taken) (F i) 0) (in-slot i l), h .most-desk (F i * 6 + getD (S i .taken) (F i) 0))
 
   early : (i : ℕ) → i ≤ N → Early (S i) i
   unfolding reached
@@ -154,16 +159,16 @@ module _ (s : SortingSection) (h : SortingSound s) where
         free = λ d. at d (ℕ-discrete d (F i));
       }
         where
-          at : (d : ℕ) → Dec (d ≡ F i) → getD (stepOf J (S i) (F i) .free) d 0 ≤ suc i * 20000
+          at : (d : ℕ) → Dec (d ≡ F i) → getD (stepOf J (S i) (F i) .free) d 0 ≤ suc i * (2 * mostTime)
           at d (yes q) =
-              subst (λ (x : ℕ). getD (stepOf J (S i) (F i) .free) x 0 ≤ suc i * 20000) (sym q)
+              subst (λ (x : ℕ). getD (stepOf J (S i) (F i) .free) x 0 ≤ suc i * (2 * mostTime)) (sym q)
               (omega (arith, free-same J (S i) (F i) (omega (arith, lengths i, desk-low i m)), finish-early i m e))
           at d (no q) = omega (arith, free-other J (S i) (F i) d q, e .free d)
 
-  few-strips : N ≤ 18
+  few-strips : N ≤ mostDesks * mostStripsOfDesk
   few-strips = consistent-start J j .fits .left
 
-  pub chosen-early : (i : ℕ) → i < N → deskFinish s (jobAt (chosenJobs s) i) ≤ 360000
+  pub chosen-early : (i : ℕ) → i < N → deskFinish s (jobAt (chosenJobs s) i) ≤ latestFinish
   chosen-early i l = omega (arith, finish-is i l, finish-early i l (early i (omega arith)), few-strips)
 
   taken : (i : ℕ) → i ≤ N → (d : ℕ) → d < 3 → getD (S i .taken) d 0 ≡ jobsOf (chosenJobs s) (d + 1) i

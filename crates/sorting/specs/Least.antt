@@ -1,5 +1,5 @@
--- No lawful timetable has a smaller figure, none with the same scanner list starts anything sooner, and of those with the least figure the chosen one has the
--- first list.
+-- No timetable has a smaller figure, under any ceiling; none with the same scanner list starts anything sooner, and of those with the least figure the chosen
+-- one has the first list.
 -- The search's states along a timetable's own list are never later than the timetable.
 use mathlib.Core.Path.{_≡_, sym, ap, subst, _∙_}
 use mathlib.Core.List.{List}
@@ -12,7 +12,7 @@ use Rattle.sheet.specs.declared.SortingSection.{SortingSection}
 use Rattle.sheet.specs.Sound.{SortingSound}
 use Rattle.rules.specs.declared.Job.{Job}
 use Rattle.base.specs.Sums.{sumOver}
-use Rattle.rules.specs.Sorting.{jobAt, jobsOf, scanEnd, deskFinish, SortingLawful, sortingFigure}
+use Rattle.rules.specs.Sorting.{jobAt, jobsOf, scanEnd, deskFinish, SortingUnder, sortingFigure}
 use Rattle.rules_laws.specs.SortingRunning.{jobs-same, jobs-mono}
 use Rattle.interleaving.specs.declared.State.{State}
 use Rattle.interleaving.specs.Instance.{Instance, scanOf, deskOf}
@@ -34,7 +34,7 @@ none-over J s g h = omega (arith, g .left, h 0 (omega arith), h 1 (omega arith),
 div-mono : (a b k : ℕ) → 0 < k → a ≤ b → a / k ≤ b / k
 div-mono a b k p l = le-div-iff-mul-le p .1 (le-trans (div-mul-le-self a k) l)
 
-module _ (s : SortingSection) (h : SortingSound s) (js : List Job) (law : SortingLawful s js) where
+module _ {c : ℕ} (s : SortingSection) (h : SortingSound s) (js : List Job) (law : SortingUnder c s js) where
   abbrev J : List ℕ
   J = instanceOf s
 

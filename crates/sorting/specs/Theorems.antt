@@ -1,19 +1,21 @@
 -- What the planner's choice is, against the rules of the sorting (crate rules), for every sound section.
 use mathlib.Core.Path.{_≡_, refl, sym, ap, _∙_}
 use mathlib.Core.List.{List, [], _∷_}
-use Prim.Native.Nat.{ℕ, _≤_, _<_}
+use Prim.Native.Nat.{ℕ, _*_, _≤_, _<_}
 use native.Mathlib.Omega.{arith}
 use lib.ListN.{length, getD}
+use Rattle.sheet.specs.Limits.{mostDesks, mostStripsOfDesk}
 use Rattle.sheet.specs.declared.SortingSection.{SortingSection}
 use Rattle.sheet.specs.Sound.{SortingSound}
 use Rattle.rules.specs.declared.Job.{Job}
 use Rattle.base.specs.Sums.{sumOver}
-use Rattle.rules.specs.Sorting.{jobAt, deskFinish, SortingLawful, sortingFigure}
+use Rattle.base.specs.LeastFigure.{NoLarger}
+use Rattle.rules.specs.Sorting.{jobAt, deskFinish, SortingUnder, SortingLawful, sortingFigure}
 use Rattle.interleaving.specs.Search.{startState}
 use Rattle.interleaving.specs.Consistent.{consistent-start}
 use Rattle.sorting.specs.Plan.{instanceOf, leastFigure, chosenJobs}
 use Rattle.sorting.specs.Instance.{instance-sound, count-at}
-use Rattle.sorting.specs.Lawful.{chosen-length, chosen-early, chosen-lawful, chosen-figure}
+use Rattle.sorting.specs.Lawful.{latestFinish, chosen-length, chosen-early, chosen-lawful, chosen-figure}
 use Rattle.sorting.specs.Least.{lawful-least, lawful-length, lawful-later, lawful-first}
 
 -- The chosen jobs are a timetable of the section.
@@ -24,9 +26,18 @@ sorting-lawful s sound = chosen-lawful s sound
 pub sorting-figure : (s : SortingSection) → SortingSound s → sortingFigure s (chosenJobs s) ≡ leastFigure s
 sorting-figure s sound = chosen-figure s sound
 
--- No timetable has a smaller one, with any interleaving and any idle time of scanner and desks.
-pub sorting-least : (s : SortingSection) → SortingSound s → (js : List Job) → SortingLawful s js → leastFigure s ≤ sortingFigure s js
+-- No timetable has a smaller one, with any interleaving, any idle time of scanner and desks and any ceiling.
+pub sorting-least : {c : ℕ} (s : SortingSection) → SortingSound s → (js : List Job) → SortingUnder c s js → leastFigure s ≤ sortingFigure s js
 sorting-least s sound js law = lawful-least s sound js law
+
+-- 02, Req 01: "for each section's timetable that would pass it there is one within it of no larger figure": for each that obeys the rules under any ceiling
+pub sorting-ceiling : {c : ℕ} (s : SortingSection) → SortingSound s → (js : List Job) → SortingUnder c s js
+    → NoLarger (SortingLawful s) (sortingFigure s) js
+sorting-ceiling s sound js law = record {
+  timetable = chosenJobs s;
+  obeys = sorting-lawful s sound;
+  no-larger = omega (arith, sorting-figure s sound, sorting-least s sound js law);
+}
 
 -- Each scan and each desk job starts as early as the scanner list allows: no sooner in any timetable with the same desk at each place.
 pub sorting-earliest : (s : SortingSection) → SortingSound s → (js : List Job) → SortingLawful s js
@@ -42,15 +53,15 @@ pub sorting-first : (s : SortingSection) → SortingSound s → (js : List Job) 
     → jobAt (chosenJobs s) i .desk < jobAt js i .desk
 sorting-first s sound js law least i l same parts = omega (arith, lawful-first s sound js law least i l same)
 
--- Every timetable has as many jobs, one for each strip, at most 18.
+-- Every timetable has as many jobs, one for each strip.
 pub sorting-length : (s : SortingSection) → SortingSound s → (js : List Job) → SortingLawful s js → length js ≡ length (chosenJobs s)
 sorting-length s sound js law = lawful-length s sound js law ∙ sym (chosen-length s sound)
 
-pub sorting-count : (s : SortingSection) → SortingSound s → length (chosenJobs s) ≤ 18
+pub sorting-count : (s : SortingSection) → SortingSound s → length (chosenJobs s) ≤ mostDesks * mostStripsOfDesk
 sorting-count s sound = omega (arith, chosen-length s sound, consistent-start (instanceOf s) (instance-sound s sound) .fits .left)
 
--- The ceiling is never near: no desk job ends after 360,000.
-pub sorting-early : (s : SortingSection) → SortingSound s → (i : ℕ) → i < length (chosenJobs s) → deskFinish s (jobAt (chosenJobs s) i) ≤ 360_000
+-- The ceiling is never met: no desk job ends later than 18 scans and 18 desk jobs take.
+pub sorting-early : (s : SortingSection) → SortingSound s → (i : ℕ) → i < length (chosenJobs s) → deskFinish s (jobAt (chosenJobs s) i) ≤ latestFinish
 sorting-early s sound i l = chosen-early s sound i (omega (arith, chosen-length s sound))
 
 -- A section without strips has figure 0 and no job.

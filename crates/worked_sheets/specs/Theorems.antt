@@ -6,7 +6,7 @@ use mathlib.Core.Bool.{Bool, true, false, _&&_}
 use mathlib.Core.List.{List, [], _∷_}
 use lib.ListN.{length}
 use Rattle.base.specs.Branch.{both}
-use Rattle.sheet.specs.Limits.{tableLength, planLength}
+use Rattle.sheet.specs.Limits.{ceiling, tableLength, planLength}
 use Rattle.sheet.specs.Refusals.{orderImpossible}
 use Rattle.sheet.specs.Read.{readSheet}
 use Rattle.sheet.specs.Computes.{sheetComputes}
@@ -62,9 +62,9 @@ is-allowed sheet p figures e f z =
 none-below : (sheet : List ℕ) (figures : Figures) → figuresOf (readSheet sheet) (chosenPlan (readSheet sheet)) ≡ figures → NoneBelow sheet figures
 unfolding figuresOf Least
 none-below sheet figures e = subst (NoneBelow sheet) e (record {
-  mosaic = λ q a. plan-least-mosaic sheet (a .sound) (a .allowed .plan) (a .allowed .lawful);
-  sorting = λ q a. plan-least-sorting sheet (a .sound) (a .allowed .plan) (a .allowed .lawful);
-  flight = λ q a. plan-least-flight sheet (a .sound) (a .allowed .plan) (a .allowed .lawful);
+  mosaic = λ q a. plan-least-mosaic sheet (a .sound) ceiling (a .allowed .plan) (a .allowed .lawful);
+  sorting = λ q a. plan-least-sorting sheet (a .sound) ceiling (a .allowed .plan) (a .allowed .lawful);
+  flight = λ q a. plan-least-flight sheet (a .sound) ceiling (a .allowed .plan) (a .allowed .lawful);
 })
 
 ours-allowed : (sheet : List ℕ) (p : Plan) (figures : Figures) → isPossible (readSheet sheet .flight) ≡ true → chosenPlan (readSheet sheet) ≡ p

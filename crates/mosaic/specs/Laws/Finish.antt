@@ -3,20 +3,19 @@
 use mathlib.Core.Path.{_≡_, refl}
 use Prim.Native.Nat.{ℕ, _≤_, _<_}
 use native.Mathlib.Omega.{arith}
-use Rattle.sheet.specs.Limits.{ceiling}
 use Rattle.sheet.specs.declared.MosaicSection.{MosaicSection}
-use Rattle.rules.specs.Mosaic.{finishDue, BatchLawful}
+use Rattle.rules.specs.Mosaic.{finishDue, BatchUnder}
 use Rattle.rules.specs.declared.Batch.{Batch}
 use Rattle.batching.specs.Least.{mountStart, benchStart, finishOf}
 use Rattle.batching.specs.Chosen.{batchOf}
 use Rattle.mosaic.specs.Least.{instanceOf}
 
-pub finish-least : (m : MosaicSection) (p b : Batch) → BatchLawful m p b → finishOf (instanceOf m) (p .finish) (p .last) (b .last) ≤ b .finish
+pub finish-least : {c : ℕ} (m : MosaicSection) (p b : Batch) → BatchUnder c m p b → finishOf (instanceOf m) (p .finish) (p .last) (b .last) ≤ b .finish
 unfolding instanceOf finishOf benchStart mountStart finishDue
 finish-least m p b B = omega (arith, B .waits-strip, B .waits-batch, B .finishes)
 
-module _ (m : MosaicSection) (i q free : ℕ) (h : i < q) (l : finishOf (instanceOf m) free i q ≤ ceiling) where
-  pub earliest-lawful : (p : Batch) → p .last ≡ i → p .finish ≡ free → BatchLawful m p (batchOf (instanceOf m) free i q)
+module _ {c : ℕ} (m : MosaicSection) (i q free : ℕ) (h : i < q) (l : finishOf (instanceOf m) free i q ≤ c) where
+  pub earliest-lawful : (p : Batch) → p .last ≡ i → p .finish ≡ free → BatchUnder c m p (batchOf (instanceOf m) free i q)
   unfolding batchOf instanceOf finishOf benchStart mountStart finishDue
   earliest-lawful p e f = record {
     rises = omega arith;

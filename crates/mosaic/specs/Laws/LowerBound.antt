@@ -1,4 +1,5 @@
--- No lawful timetable has a smaller figure: to close the open batch where the timetable closes it is one of the choices, and a later free time costs no less.
+-- No timetable has a smaller figure, under any ceiling: to close the open batch where the timetable closes it is one of the choices, and a later free time
+-- costs no less.
 use mathlib.Core.Path.{_≡_}
 use mathlib.Core.List.{List, [], _∷_}
 use Prim.Native.Nat.{ℕ, zero, suc, _+_, _*_, _-_, _≤_, _<_}
@@ -7,7 +8,7 @@ use native.Mathlib.Decide.{decLt}
 use native.Mathlib.Omega.{arith}
 use Rattle.sheet.specs.declared.MosaicSection.{MosaicSection}
 use Rattle.rules.specs.declared.Batch.{Batch}
-use Rattle.running.specs.Running.{BatchFollows, MosaicRuns, none, more}
+use Rattle.running.specs.Running.{BatchFollowsUnder, MosaicRunsUnder, none, more}
 use Rattle.rules_laws.specs.MosaicRunning.{runningFigure}
 use Rattle.batching.specs.Least.{Instance, benchStart, finishOf}
 use Rattle.mosaic.specs.Least.{instanceOf}
@@ -41,15 +42,15 @@ module _ (x : Instance) where
       let e : i + 1 + (q - (i + 1)) ≡ q = omega arith in
       rw (least-open x i t (omega arith)) (rw e at (close-after (q - (i + 1)) i (i + 1) t F (omega arith) (rw e f)))
 
-module _ (m : MosaicSection) where
-  batch-cost : (p b : Batch) → BatchFollows m p b
+module _ {c : ℕ} (m : MosaicSection) where
+  batch-cost : (p b : Batch) → BatchFollowsUnder c m p b
       → leastAt (instanceOf m) (p .last) (p .finish) ≤ (b .last - p .last) * b .finish + leastAt (instanceOf m) (b .last) (b .finish)
   unfolding instanceOf
   batch-cost p b B =
-      let c = close-at (instanceOf m) (p .last) (b .last) (p .finish) (b .finish) (B .lawful .rises) (B .known) (finish-least m p b (B .lawful)) in
-      rw (weight-count m (p .last) (b .last - p .last)) at c
+      rw (weight-count m (p .last) (b .last - p .last))
+      at (close-at (instanceOf m) (p .last) (b .last) (p .finish) (b .finish) (B .lawful .rises) (B .known) (finish-least m p b (B .lawful)))
 
-  pub lower-after : (bs : List Batch) (p : Batch) → MosaicRuns m p bs → leastAt (instanceOf m) (p .last) (p .finish) ≤ runningFigure p bs
+  pub lower-after : (bs : List Batch) (p : Batch) → MosaicRunsUnder c m p bs → leastAt (instanceOf m) (p .last) (p .finish) ≤ runningFigure p bs
   unfolding runningFigure instanceOf
   lower-after [] p (none e) = omega (arith, least-end (instanceOf m) (p .last) (p .finish) (omega arith))
   lower-after (b ∷ bs) p (more f r) = omega (arith, batch-cost p b f, lower-after bs b r)
