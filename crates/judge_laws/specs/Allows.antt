@@ -22,7 +22,7 @@ use Rattle.rules.specs.Sorting.{stripsOf, sortingFigure}
 use Rattle.rules.specs.Flight.{flightFigure}
 use Rattle.rules.specs.Plan.{membersBytes, batchBytes, mosaicBytes, jobBytes, sortingBytes, passesBytes, flightBytes, ifPresent, Plan, planBytes, Allowed}
 use Rattle.plan_read.specs.PlanRead.{figureFrom, orderFrom, batchFrom, jobFrom, passesFrom, membersFrom, batchesFrom, jobsFrom, blocksFrom}
-use Rattle.running.specs.Running.{MosaicRuns, freeDesks, AllDone, SortingRuns, FlightRuns}
+use Rattle.running.specs.Running.{MosaicRunsUnder, MosaicRuns, freeDesks, AllDone, SortingRuns, FlightRuns}
 use Rattle.rules.specs.declared.Batch.{Batch}
 use Rattle.rules.specs.declared.Job.{Job}
 use Rattle.rules.specs.declared.Passes.{Passes}
@@ -65,7 +65,7 @@ none-read read size plan at (suc n) e = absurd (omega arith)
 
 no-batches : (m : MosaicSection) → ltb 0 (m .strips) ≡ false → MosaicRuns m noBatch []
 unfolding noBatch
-no-batches m h = MosaicRuns.none {before = noBatch} (omega (arith, ltb-false 0 (m .strips) h))
+no-batches m h = MosaicRunsUnder.none {before = noBatch} (omega (arith, ltb-false 0 (m .strips) h))
 
 module _ (s : Sheet) (plan : List ℕ) where
   -- the mosaic

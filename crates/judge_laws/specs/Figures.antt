@@ -12,7 +12,7 @@ use Rattle.rules.specs.Mosaic.{noBatch, mosaicFigure}
 use Rattle.rules.specs.Sorting.{sortingFigure}
 use Rattle.plan_format.specs.Format.{sizeOf}
 use Rattle.plan_read.specs.PlanRead.{batchFrom, jobFrom, membersFrom, batchesFrom, jobsFrom}
-use Rattle.running.specs.Running.{MosaicRuns}
+use Rattle.running.specs.Running.{MosaicRunsUnder, MosaicRuns}
 use Rattle.rules.specs.declared.Batch.{Batch}
 use Rattle.rules.specs.declared.Job.{Job}
 use Rattle.rules_laws.specs.MosaicRunning.{runningFigure}
@@ -80,14 +80,14 @@ module _ (s : Sheet) (plan : List ℕ) (part : Part) where
       → MosaicRuns (s .mosaic) (st .before) (batchesFrom plan (memberPlace 1 (part .head) k) n)
       × (advanced s plan 1 (part .head) n k st .figure ≡ st .figure + runningFigure (st .before) (batchesFrom plan (memberPlace 1 (part .head) k) n))
   unfolding advanced AllFollow MemberFollows afterMember afterBatch membersFrom runningFigure
-  mosaic-runs zero k st a e = (MosaicRuns.none e, omega arith)
+  mosaic-runs zero k st a e = (MosaicRunsUnder.none e, omega arith)
   mosaic-runs (suc n) k st a e =
       let b = batchFrom plan (memberPlace 1 (part .head) k) in
       let r = mosaic-runs n (k + 1) (afterBatch st b) (a .1) e in
       subst
       (λ (bs : List Batch). MosaicRuns (s .mosaic) (st .before) bs × (advanced s plan 1 (part .head) n (k + 1) (afterBatch st b) .figure ≡ st .figure + runningFigure (st .before) bs))
       (sym (batches-more s plan part n k))
-      (MosaicRuns.more (a .0) (r .0), r .1 ∙ regroup _ _ _)
+      (MosaicRunsUnder.more (a .0) (r .0), r .1 ∙ regroup _ _ _)
 
   sorting-sum : (n k : ℕ) (st : Progress)
       → advanced s plan 2 (part .head) n k st .figure ≡ st .figure + runningFinishes (s .sorting) (jobsFrom plan (memberPlace 2 (part .head) k) n)

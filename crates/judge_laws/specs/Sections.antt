@@ -17,7 +17,7 @@ use Rattle.rules.specs.Flight.{noPasses, passesAt, flightFigure}
 use Rattle.plan_format.specs.Format.{sizeOf, mosaicHeadForm, sortingHeadForm, flightHeadForm, passesForm}
 use Rattle.plan_read.specs.PlanRead.{figureFrom, orderFrom, batchFrom, jobFrom, passesFrom, membersFrom, batchesFrom, jobsFrom, blocksFrom}
 use Rattle.plan_read.specs.Laws.{member-at, length-from}
-use Rattle.running.specs.Running.{BatchFollows, MosaicRuns, JobFollows, AllDone, SortingRuns, afterJob, BlockFollows, FlightRuns}
+use Rattle.running.specs.Running.{BatchFollows, MosaicRunsUnder, MosaicRuns, JobFollows, AllDone, SortingRuns, afterJob, BlockFollows, FlightRuns}
 use Rattle.rules.specs.declared.Batch.{Batch}
 use Rattle.rules.specs.declared.Job.{Job}
 use Rattle.running.specs.declared.Desks.{Desks}
@@ -35,10 +35,10 @@ use Rattle.judge_laws.specs.Tests.{true-batch, batch-true, true-job, job
 
 -- what the first member and the others keep
 first-batch : {m : MosaicSection} {before b : Batch} {bs : List Batch} → MosaicRuns m before (b ∷ bs) → BatchFollows m before b × MosaicRuns m b bs
-first-batch (MosaicRuns.more f r) = (f, r)
+first-batch (MosaicRunsUnder.more f r) = (f, r)
 
 no-batch : {m : MosaicSection} {before : Batch} → MosaicRuns m before [] → before .last ≡ m .strips
-no-batch (MosaicRuns.none e) = e
+no-batch (MosaicRunsUnder.none e) = e
 
 first-job : {s : SortingSection} {d : Desks} {j : Job} {js : List Job} → SortingRuns s d (j ∷ js) → JobFollows s d j × SortingRuns s (afterJob s d j) js
 first-job (SortingRuns.more f r) = (f, r)
@@ -110,13 +110,13 @@ module _ (s : Sheet) (plan : List ℕ) (part : Part) where
   unfolding membersFrom runningFigure headForm headFollows figureOf memberFollows afterMember afterBatch
   mosaic-judged zero k st e =
       let h = head-judged s plan 1 part k st e in
-      record { runs = MosaicRuns.none (eqb-true _ _ (h .0)); figure = h .1 ∙ omega arith }
+      record { runs = MosaicRunsUnder.none (eqb-true _ _ (h .0)); figure = h .1 ∙ omega arith }
   mosaic-judged (suc n) k st e =
       let h = member-judged s plan 1 part n k st e in
       let b = batchFrom plan (memberPlace 1 (part .head) k) in
       let r = mosaic-judged n (k + 1) (afterBatch st b) (h .1) in
       subst (MosaicTrue st) (sym (batches-more n k))
-      (record { runs = MosaicRuns.more (true-batch (s .mosaic) (st .before) b (h .0)) (r .runs); figure = r .figure ∙ regroup _ _ _ })
+      (record { runs = MosaicRunsUnder.more (true-batch (s .mosaic) (st .before) b (h .0)) (r .runs); figure = r .figure ∙ regroup _ _ _ })
 
   pub judged-mosaic : (n k : ℕ) (st : Progress) → MosaicTrue st (batchesFrom plan (memberPlace 1 (part .head) k) n)
       → sectionFrom n s plan 1 part k st .number ≡ 0
