@@ -7,13 +7,13 @@ import pathlib
 import random
 import sys
 
-from sheet_cases import alternate, block, flight, job, mosaic, order, sorting, strip
+from sheet_cases import MOST_TIME, alternate, block, flight, job, mosaic, order, sorting, strip
 
 rng = random.Random(1)
 
 
 def time(least):
-    return rng.randint(least, 10_000)
+    return rng.randint(least, MOST_TIME)
 
 
 def full(blocks):
