@@ -6,7 +6,7 @@ Sheets that are planned:
 - flights of 32 blocks: block after block, in pairs, both mixed, in orders that are impossible, and with the longest delays, all first passes first, these
   as long as the delays let them be and one second longer;
 - each of them with one time one less, at every place in turn; of the flights of 32 blocks those in two of the orders;
-- all three sections together, with each of these flights.
+- all three sections together, with several of these flights and with one time one less in each section.
 
 Plans that are judged, of mosaics batch by batch, in pairs and in one batch, of sortings, and of flights that are possible:
 - with the earliest starts, with idle time before every start, and a mosaic whose first mount waits until the last strip is ready;
@@ -89,12 +89,22 @@ def ordered_flights():
         yield from (sheets.flight(less, order) for less in one_less(blocks))
 
 
+def ends_less(rows):
+    """Rows of times with the first time, and with the last time, one less."""
+    less = list(one_less(rows))
+    return less[0], less[-1]
+
+
 def all_three():
-    """With a free flight, and with one in each order that is possible."""
-    before = mosaic(longest(40, 5)) + sorting(QUEUES[-1], longest(18, 2))
-    yield before + sheets.flight(longest(8, 3))
-    yield from (before + sheets.flight(longest(32, 3), order) for order in POSSIBLE)
-    yield before + firsts_first()[0]
+    """With a free flight, with one in each order that is possible, and with one time of one section one less."""
+    strips, jobs, blocks, desks = longest(40, 5), longest(18, 2), longest(32, 3), QUEUES[-1]
+    before = mosaic(strips) + sorting(desks, jobs)
+    yield before + sheets.flight(blocks[:8])
+    yield from (before + sheets.flight(blocks, order) for order in POSSIBLE)
+    yield from (before + flight for flight in firsts_first())
+    yield from (mosaic(less) + sorting(desks, jobs) + sheets.flight(blocks, IN_PAIRS) for less in ends_less(strips))
+    yield from (mosaic(strips) + sorting(desks, less) + sheets.flight(blocks, IN_PAIRS) for less in ends_less(jobs))
+    yield from (before + sheets.flight(less, IN_PAIRS) for less in ends_less(blocks))
 
 
 def planned():
