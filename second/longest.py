@@ -144,7 +144,8 @@ def flight_plans():
     for n, order in [(8, int("10" * 8, 2)), (8, int("1100" * 4, 2)), *((32, order) for order in POSSIBLE)]:
         blocks = longest(n, 3)
         far = distances.in_order(blocks, order)
-        for sheet in [sheets.flight(blocks, order)] + [sheets.flight(blocks)] * (n == 8):
+        for given in (order, None) if n == 8 else (order,):
+            sheet = sheets.flight(blocks, given)
             for gap in (0, 4 * MOST_TIME):
                 yield sheet, timetable.plan_of(reader.read(sheet), [], [], order, distances.least(far, [i * gap for i in range(n)]))
 
