@@ -11,6 +11,9 @@
 
 typedef uint64_t u64;
 
+/* The greatest time of a sheet. */
+enum { MOST_TIME = 60000 };
+
 static u64 seed = 1;
 
 /* A random number from low to high. */

@@ -33,11 +33,11 @@ static bool equal(struct answer a, struct answer b) {
     return a.possible == b.possible && (!a.possible || (a.figure == b.figure && a.order == b.order));
 }
 
-static void measure(const char *name, enum flight_family family) {
+static void measure(const char *name, enum flight_family family, const struct flight_times *limits) {
     struct times t = {0};
     int possible = 0;
     for (int i = 0; i < INSTANCES; i++) {
-        struct instance x = {.flight = random_flight(family)};
+        struct instance x = {.flight = random_flight(family, limits)};
         add_instance(&t, ours, plain, &x);
         require_equal(equal(x.ours, x.plain), name, i);
         possible += x.ours.possible;
@@ -47,15 +47,21 @@ static void measure(const char *name, enum flight_family family) {
     printf("\n");
 }
 
+static void measure_all(const char *title, const struct flight_times *limits) {
+    printf("%s\n", title);
+    measure("8 free, random", FREE_RANDOM, limits);
+    measure("8 free, many impossible orders", FREE_MANY_IMPOSSIBLE, limits);
+    measure("8 free, all equal", FREE_EQUAL, limits);
+    measure("32, one block after another", ONE_BY_ONE, limits);
+    measure("32, random orders", RANDOM_ORDER, limits);
+    measure("32, all first passes first", FIRSTS_FIRST, limits);
+}
+
 int main(void) {
     printf("%-32s %9s %9s ", "blocks", "instances", "possible");
     print_times_head();
     printf("\n");
-    measure("8 free, random", FREE_RANDOM);
-    measure("8 free, many impossible orders", FREE_MANY_IMPOSSIBLE);
-    measure("8 free, all equal", FREE_EQUAL);
-    measure("32, one block after another", ONE_BY_ONE);
-    measure("32, random orders", RANDOM_ORDER);
-    measure("32, all first passes first", FIRSTS_FIRST);
+    measure_all("short times", short_times);
+    measure_all("times up to 60,000", long_times);
     return 0;
 }

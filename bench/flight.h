@@ -113,17 +113,26 @@ static inline u64 random_order(size_t n) {
 enum flight_family { FREE_RANDOM, FREE_MANY_IMPOSSIBLE, FREE_EQUAL, ONE_BY_ONE, RANDOM_ORDER, FIRSTS_FIRST };
 
 /* The limits of a family: passes and delays. */
-static const struct { u64 pass_low, pass_high, delay_low, delay_high; } flight_times[] = {
-    {1, 100, 0, 300}, {50, 100, 0, 60}, {5, 5, 20, 20}, {1, 100, 0, 10000}, {1, 100, 0, 300}, {10, 10, 320, 320},
+struct flight_times {
+    u64 pass_low, pass_high, delay_low, delay_high;
 };
 
-static inline struct flight random_flight(enum flight_family family) {
+/* Of each family, with short times and with times up to the greatest. */
+static const struct flight_times short_times[] = {
+    {1, 100, 0, 300}, {50, 100, 0, 60}, {5, 5, 20, 20}, {1, 100, 0, 10000}, {1, 100, 0, 300}, {10, 10, 320, 320},
+};
+static const struct flight_times long_times[] = {
+    {1, MOST_TIME / 3, 0, MOST_TIME}, {MOST_TIME / 2, MOST_TIME, 0, MOST_TIME / 5 * 3}, {MOST_TIME / 4, MOST_TIME / 4, MOST_TIME, MOST_TIME},
+    {1, MOST_TIME, 0, MOST_TIME}, {1, MOST_TIME / 3, 0, MOST_TIME}, {MOST_TIME / 32, MOST_TIME / 32, MOST_TIME, MOST_TIME},
+};
+
+static inline struct flight random_flight(enum flight_family family, const struct flight_times *times) {
     struct flight f = {.ordered = family >= ONE_BY_ONE};
     f.blocks = f.ordered ? 32 : 8;
     for (size_t i = 0; i < f.blocks; i++) {
-        f.first[i] = any(flight_times[family].pass_low, flight_times[family].pass_high);
-        f.second[i] = any(flight_times[family].pass_low, flight_times[family].pass_high);
-        f.delay[i] = any(flight_times[family].delay_low, flight_times[family].delay_high);
+        f.first[i] = any(times[family].pass_low, times[family].pass_high);
+        f.second[i] = any(times[family].pass_low, times[family].pass_high);
+        f.delay[i] = any(times[family].delay_low, times[family].delay_high);
     }
     if (family == ONE_BY_ONE)
         f.order = 0xAAAAAAAAAAAAAAAAu;

@@ -45,6 +45,7 @@ int main(void) {
     printf("%-10s %6s %9s ", "times", "strips", "instances");
     print_times_head();
     printf("\n");
+    measure_all("to 60,000", MOST_TIME);
     measure_all("to 10,000", 10000);
     measure_all("to 10", 10);
     return 0;

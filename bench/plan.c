@@ -19,27 +19,28 @@ struct family {
     u64 mosaic_low, mosaic_high;
     enum sorting_family sorting;
     enum flight_family flight;
+    const struct flight_times *flight_times;
 };
 
 static const struct family families[] = {
-    {"random, 8 free blocks", 0, NONE, 0, 10000, RANDOM, FREE_RANDOM},
-    {"random, 32 blocks in order", 0, NONE, 0, 10000, RANDOM, ONE_BY_ONE},
-    {"random small times", 0, NONE, 0, 10, RANDOM_SMALL, FREE_RANDOM},
-    {"all times equal", 0, NONE, 100, 100, EQUAL, FREE_EQUAL},
-    {"scan-heavy", 0, NONE, 0, 10000, SCAN_HEAVY, FREE_RANDOM},
-    {"desk-heavy", 0, NONE, 0, 10000, DESK_HEAVY, FREE_RANDOM},
-    {"three identical desks", 0, NONE, 0, 10000, IDENTICAL_DESKS, FREE_RANDOM},
-    {"many impossible free orders", 0, NONE, 0, 10000, RANDOM, FREE_MANY_IMPOSSIBLE},
-    {"32 blocks, first passes first", 0, NONE, 0, 10000, RANDOM, FIRSTS_FIRST},
-    {"one member in each section", 0, ONE_MEMBER_EACH, 0, 10000, RANDOM, FREE_RANDOM},
-    {"2: buffer too small", SEVULAMON_BUFFER_TOO_SMALL, SMALL_BUFFER, 0, 10000, RANDOM, ONE_BY_ONE},
-    {"3: last field cut", SEVULAMON_FIELD_CUT, CUT, 0, 10000, RANDOM, ONE_BY_ONE},
-    {"6: first time out of range", SEVULAMON_OUT_OF_RANGE, EARLY_RANGE, 0, 10000, RANDOM, ONE_BY_ONE},
-    {"6: last time out of range", SEVULAMON_OUT_OF_RANGE, LATE_RANGE, 0, 10000, RANDOM, ONE_BY_ONE},
-    {"8: empty sheet", SEVULAMON_NO_MEMBERS, EMPTY, 0, 10000, RANDOM, ONE_BY_ONE},
-    {"9: order not proper", SEVULAMON_ORDER_NOT_PROPER, NOT_PROPER, 0, 10000, RANDOM, ONE_BY_ONE},
-    {"10: 32 blocks, no order", SEVULAMON_ORDER_MISSING, NO_ORDER, 0, 10000, RANDOM, ONE_BY_ONE},
-    {"11: impossible order", SEVULAMON_ORDER_IMPOSSIBLE, NONE, 0, 10000, RANDOM, RANDOM_ORDER},
+    {"random, 8 free blocks", 0, NONE, 0, MOST_TIME, RANDOM, FREE_RANDOM, long_times},
+    {"random, 32 blocks in order", 0, NONE, 0, MOST_TIME, RANDOM, ONE_BY_ONE, long_times},
+    {"random small times", 0, NONE, 0, 10, RANDOM_SMALL, FREE_RANDOM, short_times},
+    {"all times equal", 0, NONE, MOST_TIME, MOST_TIME, EQUAL, FREE_EQUAL, long_times},
+    {"scan-heavy", 0, NONE, 0, MOST_TIME, SCAN_HEAVY, FREE_RANDOM, long_times},
+    {"desk-heavy", 0, NONE, 0, MOST_TIME, DESK_HEAVY, FREE_RANDOM, long_times},
+    {"three identical desks", 0, NONE, 0, MOST_TIME, IDENTICAL_DESKS, FREE_RANDOM, long_times},
+    {"many impossible free orders", 0, NONE, 0, MOST_TIME, RANDOM, FREE_MANY_IMPOSSIBLE, long_times},
+    {"32 blocks, first passes first", 0, NONE, 0, MOST_TIME, RANDOM, FIRSTS_FIRST, long_times},
+    {"one member in each section", 0, ONE_MEMBER_EACH, 0, MOST_TIME, RANDOM, FREE_RANDOM, long_times},
+    {"2: buffer too small", SEVULAMON_BUFFER_TOO_SMALL, SMALL_BUFFER, 0, MOST_TIME, RANDOM, ONE_BY_ONE, long_times},
+    {"3: last field cut", SEVULAMON_FIELD_CUT, CUT, 0, MOST_TIME, RANDOM, ONE_BY_ONE, long_times},
+    {"6: first time out of range", SEVULAMON_OUT_OF_RANGE, EARLY_RANGE, 0, MOST_TIME, RANDOM, ONE_BY_ONE, long_times},
+    {"6: last time out of range", SEVULAMON_OUT_OF_RANGE, LATE_RANGE, 0, MOST_TIME, RANDOM, ONE_BY_ONE, long_times},
+    {"8: empty sheet", SEVULAMON_NO_MEMBERS, EMPTY, 0, MOST_TIME, RANDOM, ONE_BY_ONE, long_times},
+    {"9: order not proper", SEVULAMON_ORDER_NOT_PROPER, NOT_PROPER, 0, MOST_TIME, RANDOM, ONE_BY_ONE, long_times},
+    {"10: 32 blocks, no order", SEVULAMON_ORDER_MISSING, NO_ORDER, 0, MOST_TIME, RANDOM, ONE_BY_ONE, long_times},
+    {"11: impossible order", SEVULAMON_ORDER_IMPOSSIBLE, NONE, 0, MOST_TIME, RANDOM, RANDOM_ORDER, long_times},
 };
 
 struct call {
@@ -103,8 +104,8 @@ static void change_bytes(struct call *x, enum change change) {
 static void make_call(struct call *x, const struct family *f) {
     struct sheet *s = &x->sections;
     s->mosaic = random_mosaic(4, 40, f->mosaic_low, f->mosaic_high);
-    s->sorting = random_sorting(f->sorting);
-    s->flight = random_flight(f->flight);
+    s->sorting = random_sorting(f->sorting, MOST_TIME);
+    s->flight = random_flight(f->flight, f->flight_times);
     change_sections(s, f->change);
     x->length = (size_t)(put_flight(put_sorting(put_mosaic(x->sheet, &s->mosaic), &s->sorting), &s->flight) - x->sheet);
     x->plan_length = SEVULAMON_PLAN_LENGTH;

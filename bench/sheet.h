@@ -11,8 +11,6 @@ enum sheet_tag { MOSAIC_HEAD = 0x10, MOSAIC_STRIP = 0x11, SORTING_HEAD = 0x20, S
 
 enum section { NO_SECTION, IN_MOSAIC, IN_SORTING, IN_FLIGHT, AFTER_ORDER };
 
-enum { MOST_TIME = 10000 };
-
 /* A section without members is absent. */
 struct sheet {
     struct mosaic mosaic;

@@ -1,7 +1,7 @@
 /* Times the search of the sorting planner against plain C: the same search with the same cuts, and plain enumeration of all interleavings.
    Full sections of 6 + 6 + 6 strips, in families; all three must give the same figure and the same list.
    rt staticlib sorting_bench && gcc -O2 -Wall -Wextra -Werror -o target/bench_sorting bench/sorting.c target/staticlib/libsorting_bench.a && target/bench_sorting
-   Argument: instances to a family, at most 100. */
+   Arguments: instances to a family, at most 100; the greatest time, 60,000 where none is given. */
 #include "sorting.h"
 
 extern struct incumbent sorting_best(const u64 *jobs, size_t jobs_length, u64 *table, size_t table_length);
@@ -31,12 +31,12 @@ static bool equal(struct incumbent a, struct incumbent b) {
     return a.figure == b.figure && a.path == b.path;
 }
 
-static void measure(enum sorting_family family, int count) {
+static void measure(enum sorting_family family, u64 most, int count) {
     static struct instance x;
     struct times t = {0};
     double nodes[MOST_INSTANCES], part[MOST_INSTANCES];
     for (int i = 0; i < count; i++) {
-        struct sorting s = random_sorting(family);
+        struct sorting s = random_sorting(family, most);
         jobs_of(&s, x.jobs);
         add_instance(&t, ours, plain, &x);
         part[i] = t.ours[i] / time_of(enumeration, &x, 1);
@@ -53,11 +53,14 @@ static void measure(enum sorting_family family, int count) {
 int main(int argc, char **argv) {
     int count = argc > 1 ? atoi(argv[1]) : 5;
     count = count < 1 ? 1 : count > MOST_INSTANCES ? MOST_INSTANCES : count;
+    int most = argc > 2 ? atoi(argv[2]) : MOST_TIME;
+    most = most < 10 ? 10 : most > MOST_TIME ? MOST_TIME : most;
+    printf("times up to %d\n", most);
     printf("ratio: to C with the same cuts. C nodes: of that C, in the median and at most; all nodes: of plain enumeration in C. part: of the time of plain enumeration, in the median and at most.\n");
     printf("%-24s %9s ", "family (6 + 6 + 6)", "instances");
     print_times_head();
     printf(" | %9s %9s %11s | %8s %8s\n", "C nodes", "greatest", "all nodes", "part", "greatest");
     for (int family = 0; family < SORTING_FAMILIES; family++)
-        measure(family, count);
+        measure(family, (u64)most, count);
     return 0;
 }

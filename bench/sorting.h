@@ -240,20 +240,21 @@ static inline struct sorting_plan sorting_in_c(const struct sorting *section, u6
 enum sorting_family { EQUAL, RANDOM, RANDOM_SMALL, EXTREME, SCAN_HEAVY, DESK_HEAVY, RISING_SCANS, IDENTICAL_DESKS, PROPORTIONAL, SORTING_FAMILIES };
 
 static const char *const sorting_names[] = {
-    "all times equal", "random 1..10,000", "random 1..5", "times 1 or 10,000", "scan-heavy", "desk-heavy", "rising scans per desk", "three identical desks", "desk up to 3 times scan",
+    "all times equal", "random from 1 on", "random 1..5", "times 1 or the greatest", "scan-heavy", "desk-heavy", "rising scans per desk",
+    "three identical desks", "desk up to 3 times scan",
 };
 
-/* The times of strip i, as they stand in the arrays. */
-static inline void random_strip(struct sorting *s, enum sorting_family family, int i) {
+/* The times of strip i, as they stand in the arrays, none above `most`: a desk's six rising scans rise by at most sixteen hundredths of it each. */
+static inline void random_strip(struct sorting *s, enum sorting_family family, u64 most, int i) {
     u64 *scan = s->scan + i, *desk = s->desk + i;
-    *scan = any(1, family == SCAN_HEAVY ? 10000 : family == DESK_HEAVY ? 1000 : family == RANDOM_SMALL ? 5 : family == PROPORTIONAL ? 3333 : 10000);
-    *desk = any(1, family == SCAN_HEAVY ? 1000 : family == RANDOM_SMALL ? 5 : family == PROPORTIONAL ? 3 * *scan : 10000);
+    *scan = any(1, family == DESK_HEAVY ? most / 10 : family == RANDOM_SMALL ? 5 : family == PROPORTIONAL ? most / 3 : most);
+    *desk = any(1, family == SCAN_HEAVY ? most / 10 : family == RANDOM_SMALL ? 5 : family == PROPORTIONAL ? 3 * *scan : most);
     if (family == EXTREME) {
-        *scan = *scan <= 5000 ? 1 : 10000;
-        *desk = *desk <= 5000 ? 1 : 10000;
+        *scan = *scan <= most / 2 ? 1 : most;
+        *desk = *desk <= most / 2 ? 1 : most;
     }
     if (family == RISING_SCANS)
-        *scan = (i % 6 > 0 ? scan[-1] : 0) + any(1, 1600);
+        *scan = (i % 6 > 0 ? scan[-1] : 0) + any(1, most * 16 / 100);
     if ((family == IDENTICAL_DESKS && i >= 6) || (family == EQUAL && i > 0)) {
         int from = family == EQUAL ? 0 : i - 6;
         *scan = s->scan[from];
@@ -261,11 +262,11 @@ static inline void random_strip(struct sorting *s, enum sorting_family family, i
     }
 }
 
-/* A full section: 6 strips at each of 3 desks. */
-static inline struct sorting random_sorting(enum sorting_family family) {
+/* A full section: 6 strips at each of 3 desks, with times up to `most`. */
+static inline struct sorting random_sorting(enum sorting_family family, u64 most) {
     struct sorting s = {.desks = 3, .counts = {6, 6, 6}};
     for (int i = 0; i < 18; i++)
-        random_strip(&s, family, i);
+        random_strip(&s, family, most, i);
     return s;
 }
 

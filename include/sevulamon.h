@@ -6,16 +6,16 @@
  * The sheet: one to three sections in this order, each with one member or more.
  *
  *   tag  length  field            content, with the bytes of each number
- *   10   3       mosaic head      stations m (1), 1 to 4; mount time (2), 0 to 10,000
- *   11   2 m + 2 strip, up to 40  m station times (2 each), 0 to 10,000; bench time (2)
+ *   10   3       mosaic head      stations m (1), 1 to 4; mount time (2), 0 to 60,000
+ *   11   2 m + 2 strip, up to 40  m station times (2 each), 0 to 60,000; bench time (2)
  *   20   1       sorting head     desks m (1), 1 to 3
  *   21   5       strip, up to 6   desk (1), 1 to m; scan time (2); desk time (2)
  *                of each desk
  *   30   0       flight head      -
- *   31   6       block, up to 32  first pass (2); delay (2), 0 to 10,000; second pass (2)
+ *   31   6       block, up to 32  first pass (2); delay (2), 0 to 60,000; second pass (2)
  *   32   8       pass order       order number (8); ends the sheet; due over 8 blocks
  *
- * Tags are hexadecimal. A time without a range here is 1 to 10,000. Times are minutes in the first
+ * Tags are hexadecimal. A time without a range here is 1 to 60,000. Times are minutes in the first
  * two sections and seconds in the flight.
  *
  * The plan: the sections of the sheet, in its order.

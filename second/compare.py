@@ -113,6 +113,20 @@ class AllowedCase(JudgeCase):
         return verdict
 
 
+class BrokenCase(JudgeCase):
+    """A plan that must be turned back with 13 at this place."""
+
+    def __init__(self, sheet, plan, place):
+        super().__init__(sheet, plan)
+        self.place = place
+
+    @functools.cached_property
+    def due(self):
+        verdict = judge.judge(self.sheet, self.plan)
+        assert verdict[:2] == (13, self.place), "the second program judges its own plan otherwise: %s\n%s" % (verdict, self.shown())
+        return verdict
+
+
 def answers(program, cases):
     """What the program answers to each case. Where it does not end well, its last answer is cut and those it did not come to are empty."""
     done = subprocess.run([program], input=b"".join(case.request() for case in cases), stdout=subprocess.PIPE)

@@ -4,11 +4,12 @@ import random
 
 import best
 import brute
+import longest
 import plans
 import reader
 import sheets
 import tiny
-from compare import AllowedCase, JudgeCase, PlanCase, ROOM
+from compare import AllowedCase, BrokenCase, JudgeCase, PlanCase, ROOM
 from reader import field
 
 CHUNK = 250
@@ -54,6 +55,12 @@ def long_plans():
             yield JudgeCase(tiny.ONES[section], plan + tail)
 
 
+def longest_judged():
+    """What each plan must get is known from how it was made."""
+    for sheet, plan, place in longest.judged():
+        yield AllowedCase(sheet, plan.bytes()) if place is None else BrokenCase(sheet, plan.bytes(), place)
+
+
 def fixed():
     """Name and cases of the kinds that are the same for every seed."""
     yield "every tiny mosaic", (PlanCase(sheet, least=of_timetables) for sheet in tiny.mosaics())
@@ -71,6 +78,8 @@ def fixed():
     yield "every beginning of a plan", (JudgeCase(tiny.SMALL, plan) for plan in tiny.beginnings(tiny.small_plan()))
     yield "sheets of more than 65,536 bytes", long_sheets()
     yield "plans of more than 65,536 bytes", long_plans()
+    yield "the longest sections", map(PlanCase, longest.planned())
+    yield "plans of the longest sections, up to the ceiling", longest_judged()
 
 
 def share(count, part):

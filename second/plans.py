@@ -6,6 +6,7 @@ import copy
 
 import distances
 import timetable
+from reader import MOST_TIME
 from timetable import CEILING
 
 
@@ -55,7 +56,7 @@ def first_fit(blocks, firsts, start):
 
 def random_firsts(rng, blocks):
     """Starts of the first passes of a lawful timetable in some order, with or without idle time."""
-    most, firsts = rng.choice((0, 0, 3, 30, 20000)), []
+    most, firsts = rng.choice((0, 0, 3, 30, MOST_TIME)), []
     for _ in blocks:
         firsts.append(first_fit(blocks, firsts, (firsts[-1] if firsts else 0) + rng.randint(0, most)))
     return firsts
@@ -63,7 +64,7 @@ def random_firsts(rng, blocks):
 
 def waiting_firsts(rng, blocks, order):
     """Starts that keep an order, some blocks made to wait, or None where the order is impossible."""
-    far, most = distances.in_order(blocks, order), rng.choice((0, 3, 100, 20000))
+    far, most = distances.in_order(blocks, order), rng.choice((0, 3, 100, MOST_TIME))
     return far and distances.least(far, [rng.choice((0, rng.randint(0, most))) for _ in blocks])
 
 
@@ -79,7 +80,7 @@ def random_flight(rng, sheet):
 
 def idle_plan(rng, sheet):
     """A plan with idle time that is lawful unless the given order is impossible: then its flight keeps another order."""
-    most = rng.choice((0, 1, 20, 5000))
+    most = rng.choice((0, 1, 20, 5000, MOST_TIME))
 
     def wait():
         return rng.choice((0, rng.randint(0, most)))

@@ -1,7 +1,7 @@
 """The reader of sheets: the checks of each field in the order in which they are due, and what a sound sheet says."""
 import struct
 
-MOST_TIME = 10_000
+MOST_TIME = 60_000
 HEADS = (0x10, 0x20, 0x30)
 MEMBER_OF = {0x11: 0x10, 0x21: 0x20, 0x31: 0x30}
 

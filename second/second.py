@@ -12,6 +12,7 @@ difference ends the run with status 1 and is printed with the seed and the case.
     brute.py       the least figures of small sections, by trying everything
     judge.py       the judge
     tiny.py        every tiny sheet and plan of bounded kinds
+    longest.py     the longest sections, and their plans up to the ceiling
     sheets.py      sheets that are drawn; plans.py: plans with idle time, and with faults
     kinds.py       all cases
     compare.py     what is due in each case, and whether an answer is that

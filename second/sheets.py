@@ -6,7 +6,7 @@ import struct
 
 import distances
 import plans
-from reader import field
+from reader import MOST_TIME, field
 
 
 def mosaic_head(stations, mount):
@@ -48,14 +48,20 @@ def either(*values):
     return lambda rng: rng.choice(values)
 
 
+# Times about the upper end, and about 10,000, which once was it.
+NEAR_ENDS = (9_999, 10_000, 10_001, MOST_TIME - 1, MOST_TIME)
+
 # Mount, station and bench times.
 MOSAICS = {
     "equal times": (span(7, 7), span(7, 7), span(7, 7)),
     "small times": (span(0, 5), span(0, 5), span(1, 5)),
-    "large times": (span(0, 10000), span(0, 10000), span(1, 10000)),
-    "long stations": (span(0, 1000), span(0, 10000), span(1, 1000)),
-    "long bench": (span(0, 1000), span(0, 1000), span(1, 10000)),
-    "long mounts": (span(9000, 10000), span(0, 500), span(1, 500)),
+    "large times": (span(0, MOST_TIME), span(0, MOST_TIME), span(1, MOST_TIME)),
+    "times to 10,000": (span(0, 10_000), span(0, 10_000), span(1, 10_000)),
+    "near the ends": (either(*NEAR_ENDS), either(*NEAR_ENDS), either(*NEAR_ENDS)),
+    "longest times": (span(MOST_TIME, MOST_TIME), span(MOST_TIME, MOST_TIME), span(MOST_TIME, MOST_TIME)),
+    "long stations": (span(0, 1000), span(0, MOST_TIME), span(1, 1000)),
+    "long bench": (span(0, 1000), span(0, 1000), span(1, MOST_TIME)),
+    "long mounts": (span(MOST_TIME - 1000, MOST_TIME), span(0, 500), span(1, 500)),
     "no mounts": (span(0, 0), span(0, 100), span(1, 100)),
     "cameras off": (span(1, 60), either(0, 0, 0, 50), span(1, 20)),
     "all ready at 0": (span(1, 300), span(0, 0), span(1, 30)),
@@ -65,19 +71,25 @@ MOSAICS = {
 SORTINGS = {
     "equal times": (span(4, 4), span(9, 9)),
     "small times": (span(1, 5), span(1, 5)),
-    "large times": (span(1, 10000), span(1, 10000)),
-    "long scans": (span(1, 10000), span(1, 1000)),
-    "long desks": (span(1, 1000), span(1, 10000)),
-    "three desks busy": (span(1, 3333), span(1, 10000)),
-    "1 or 10,000": (either(1, 10000), either(1, 10000)),
+    "large times": (span(1, MOST_TIME), span(1, MOST_TIME)),
+    "times to 10,000": (span(1, 10_000), span(1, 10_000)),
+    "near the ends": (either(*NEAR_ENDS), either(*NEAR_ENDS)),
+    "longest times": (span(MOST_TIME, MOST_TIME), span(MOST_TIME, MOST_TIME)),
+    "long scans": (span(1, MOST_TIME), span(1, 1000)),
+    "long desks": (span(1, 1000), span(1, MOST_TIME)),
+    "three desks busy": (span(1, MOST_TIME // 3), span(1, MOST_TIME)),
+    "1 or 60,000": (either(1, MOST_TIME), either(1, MOST_TIME)),
 }
 
 # First pass, delay, second pass.
 FLIGHTS = {
     "equal times": (span(5, 5), span(20, 20), span(5, 5)),
     "small times": (span(1, 4), span(0, 9), span(1, 4)),
-    "large times": (span(1, 10000), span(0, 10000), span(1, 10000)),
-    "long delays": (span(1, 100), span(0, 10000), span(1, 100)),
+    "large times": (span(1, MOST_TIME), span(0, MOST_TIME), span(1, MOST_TIME)),
+    "times to 10,000": (span(1, 10_000), span(0, 10_000), span(1, 10_000)),
+    "near the ends": (either(*NEAR_ENDS), either(*NEAR_ENDS), either(*NEAR_ENDS)),
+    "longest times": (span(MOST_TIME, MOST_TIME), span(MOST_TIME, MOST_TIME), span(MOST_TIME, MOST_TIME)),
+    "long delays": (span(1, 100), span(0, MOST_TIME), span(1, 100)),
     "short delays": (span(50, 100), span(0, 60), span(50, 100)),
 }
 
@@ -110,7 +122,7 @@ def with_other_delay(rng, blocks):
     """One delay is one shorter or longer."""
     i = rng.randrange(len(blocks))
     first, delay, second = blocks[i]
-    return blocks[:i] + [(first, min(10000, max(0, delay + rng.choice((-1, 1)))), second)] + blocks[i + 1:]
+    return blocks[:i] + [(first, min(MOST_TIME, max(0, delay + rng.choice((-1, 1)))), second)] + blocks[i + 1:]
 
 
 def ordered_flight(rng, family, n):

@@ -12,7 +12,7 @@ Sheets whose refusals, where they have one, are compared:
 - every row of none to four fields of a list of good and bad ones;
 - every row of none to five bytes of a list;
 - every change of one byte of a sheet with all three sections, and every beginning of it;
-- 0, 1, 9,999, 10,000, 10,001 and 65,535 at every place of that sheet;
+- 0, 1, 9,999, 10,000, 10,001, 59,999, 60,000, 60,001 and 65,535 at every place of that sheet, and of a mosaic of four stations;
 - every number of members up to two past its limit, the last one good and bad, with and without an order;
 - that sheet, an empty one and a cut one with every plan buffer of 0 to 1,100 bytes.
 
@@ -25,8 +25,8 @@ import struct
 
 import reader
 import timetable
-from reader import field
-from sheets import block, flight, job, mosaic_head, order, sorting_head, strip
+from reader import MOST_TIME, field
+from sheets import NEAR_ENDS, block, flight, job, mosaic_head, order, sorting_head, strip
 
 
 def rows(values, least, most):
@@ -113,9 +113,10 @@ def beginnings(data):
 
 
 def bounds():
-    """The numbers about the bounds of times, at every place of the small sheet."""
-    for at, number in itertools.product(range(len(SMALL) - 1), (0, 1, 9999, 10000, 10001, 65535)):
-        yield SMALL[:at] + struct.pack("<H", number) + SMALL[at + 2:]
+    """The numbers about the bounds of times, at every place of the small sheet and of a mosaic of four stations."""
+    for sheet in (SMALL, mosaic_head(4, 1) + strip([4, 3, 2, 1, 5]) * 2):
+        for at, number in itertools.product(range(len(sheet) - 1), (0, 1, *NEAR_ENDS, MOST_TIME + 1, 65535)):
+            yield sheet[:at] + struct.pack("<H", number) + sheet[at + 2:]
 
 
 def buffers():

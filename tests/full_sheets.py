@@ -1,5 +1,6 @@
 #!/usr/bin/env python3
-"""Writes two full sheets into a folder: 40 strips of four stations, six strips of each of three desks, and 8 blocks without order or 32 with one.
+"""Writes full sheets into a folder: 40 strips of four stations, six strips of each of three desks, and 8 blocks without order or 32 with one; the times are
+drawn, or all of them are the greatest.
 
     full_sheets.py FOLDER
 """
@@ -7,13 +8,13 @@ import pathlib
 import random
 import sys
 
-from sheet_cases import alternate, block, flight, job, mosaic, order, sorting, strip
+from sheet_cases import LONG, MOST_TIME, alternate, block, flight, job, mosaic, order, sorting, strip
 
 rng = random.Random(1)
 
 
 def time(least):
-    return rng.randint(least, 10_000)
+    return rng.randint(least, MOST_TIME)
 
 
 def full(blocks):
@@ -27,3 +28,4 @@ if __name__ == "__main__":
     folder = pathlib.Path(sys.argv[1])
     (folder / "full_free.sheet").write_bytes(full(8))
     (folder / "full_order.sheet").write_bytes(full(32) + order(alternate(32)))
+    (folder / "full_longest.sheet").write_bytes(LONG)

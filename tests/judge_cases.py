@@ -154,6 +154,41 @@ ONE = flight() + block(1, 0, 1)
 allowed("a pass that ends at the ceiling", ONE, passes(CEILING, 2, (CEILING - 2, CEILING - 1)), 0, 0, CEILING)
 refused("a pass that ends past the ceiling", ONE, passes(CEILING + 1, 2, (CEILING - 1, CEILING)), 13, 15)
 
+# The longest sections: full ones in which every time is 60,000. Without idle time, with the last member as late as it may be, and one later.
+TIME = sheets.MOST_TIME
+ALONE = [(k, (2 * k - 1) * TIME, (2 * k + 1) * TIME) for k in range(1, 41)]
+WAITING = [(k, (38 + 2 * k) * TIME, (40 + 2 * k) * TIME) for k in range(1, 41)]
+together = lambda members: sum(finish for _, _, finish in members)
+allowed("the longest mosaic", sheets.LONG_MOSAIC, batches(1680 * TIME, *ALONE), 1680 * TIME)
+allowed("the longest mosaic, every mount behind the last strip", sheets.LONG_MOSAIC, batches(3240 * TIME, *WAITING), 3240 * TIME)
+for name, members in [("the longest mosaic", ALONE), ("the longest mosaic, every mount behind the last strip", WAITING)]:
+    late = lambda over: [*members[:-1], (40, CEILING + over - 2 * TIME, CEILING + over)]
+    allowed(name + ", up to the ceiling", sheets.LONG_MOSAIC, batches(together(late(0)), *late(0)), together(late(0)))
+    refused(name + ", one past the ceiling", sheets.LONG_MOSAIC, batches(together(late(1)), *late(1)), 13, 7 + 12 * 39)
+
+IN_TURN = [(k % 3 + 1, k // 3 + 1, k * TIME, (k + 1) * TIME) for k in range(18)]
+allowed("the longest sorting", sheets.LONG_SORTING, jobs(189 * TIME, *IN_TURN), 0, 189 * TIME)
+late = lambda over: [*IN_TURN[:-1], (3, 6, 17 * TIME, CEILING + over - TIME)]
+allowed("the longest sorting, up to the ceiling", sheets.LONG_SORTING, jobs(170 * TIME + CEILING, *late(0)), 0, 170 * TIME + CEILING)
+refused("the longest sorting, one past the ceiling", sheets.LONG_SORTING, jobs(170 * TIME + CEILING + 1, *late(1)), 13, 7 + 13 * 17)
+
+LONG_FLIGHT = flight() + sheets.LONG_BLOCK * 32
+BY_ONE, BY_TWO = sheets.alternate(32), int("1100" * 16, 2)
+ONE_BY_ONE = [(3 * k * TIME, (3 * k + 2) * TIME) for k in range(32)]
+TWO_BY_TWO = [((4 * (k // 2) + k % 2) * TIME, (4 * (k // 2) + k % 2 + 2) * TIME) for k in range(32)]
+allowed("the longest flight, block after block", LONG_FLIGHT + order(BY_ONE), passes(96 * TIME, BY_ONE, *ONE_BY_ONE), 0, 0, 96 * TIME)
+allowed("the longest flight, two by two", LONG_FLIGHT + order(BY_TWO), passes(64 * TIME, BY_TWO, *TWO_BY_TWO), 0, 0, 64 * TIME)
+late = lambda over: [*ONE_BY_ONE[:-1], (CEILING + over - 3 * TIME, CEILING + over - TIME)]
+allowed("the longest flight, up to the ceiling", LONG_FLIGHT + order(BY_ONE), passes(CEILING, BY_ONE, *late(0)), 0, 0, CEILING)
+refused("the longest flight, one past the ceiling", LONG_FLIGHT + order(BY_ONE), passes(CEILING + 1, BY_ONE, *late(1)), 13, 15 + 11 * 31)
+late = lambda over: [(first + CEILING + over - 64 * TIME, second + CEILING + over - 64 * TIME) for first, second in TWO_BY_TWO]
+allowed("the longest flight, all of it up to the ceiling", LONG_FLIGHT + order(BY_TWO), passes(CEILING, BY_TWO, *late(0)), 0, 0, CEILING)
+refused("the longest flight, all of it one past the ceiling", LONG_FLIGHT + order(BY_TWO), passes(CEILING + 1, BY_TWO, *late(1)), 13, 15 + 11 * 31)
+refused("the longest flight, its delay one second short", LONG_FLIGHT + order(BY_ONE), passes(96 * TIME, BY_ONE, (0, 2 * TIME - 1), *ONE_BY_ONE[1:]), 13, 15)
+
+LONG_PLAN = batches(1680 * TIME, *ALONE) + jobs(189 * TIME, *IN_TURN) + passes(96 * TIME, BY_ONE, *ONE_BY_ONE)
+allowed("the longest sections", sheets.LONG, LONG_PLAN, 1680 * TIME, 189 * TIME, 96 * TIME)
+
 # Every kind of fault of a member, at each member of a section: first, middle and last.
 def faulty(kind, sheet, plan_of, members, index, member, place):
     changed = list(members)

@@ -4,6 +4,7 @@ Where a sheet has several best plans, 01 leaves the choice to the program: then 
 
     plan_cases.py PLANNER JUDGE
 """
+import functools
 import itertools
 import pathlib
 import subprocess
@@ -59,6 +60,18 @@ def least_end(blocks):
     return min(end for end in ends if end is not None)
 
 
+def least_sum(ready, mount, bench):
+    """The least sum of completions over all batchings, from the ready times and the bench times of the strips."""
+    n = len(ready)
+
+    @functools.cache
+    def rest(done, free):
+        ends = [(last, max(free, ready[last - 1]) + mount + sum(bench[done:last])) for last in range(done + 1, n + 1)]
+        return min(((last - done) * end + rest(last, end) for last, end in ends), default=0)
+
+    return rest(0, 0)
+
+
 # The worked sheets of 01 with their best plans.
 planned("the first worked sheet", judged.M, judged.BEST)
 planned("two desks", judged.S, jobs(10, (2, 1, 0, 1), (1, 1, 1, 3)))
@@ -80,13 +93,38 @@ planned("nine blocks with an order", flight() + block(1, 0, 1) * 9 + order(alter
 planned("eight blocks without order and without a gap", flight() + block(1, 7, 1) * 8, passes(16, 0xFF00, *[(i, i + 8) for i in range(8)]))
 best("000's eight blocks without order", judged.E, 0, 0, least_end(sheets.EIGHT))
 
-# Time 10,000 in every time: a strip of four stations, a strip of a desk and a block. Each is worked without a wait.
-T = 10_000
+# Time 60,000 in every time: a strip of four stations, a strip of a desk and a block. Each is worked without a wait.
+T = sheets.MOST_TIME
 planned(
-    "time 10,000 in every time",
+    "time 60,000 in every time",
     mosaic(4, T) + strip(T, T, T, T, T) + sorting(1) + job(1, T, T) + flight() + block(T, T, T),
     batches(3 * T, (1, T, 3 * T)) + jobs(2 * T, (1, 1, 0, T)) + passes(3 * T, 2, (0, 2 * T)),
 )
+
+# The longest sections: full ones in which every time is 60,000. The strips are ready at T, 2 T, .. 40 T, with any number of stations.
+# The k-th strip that is scanned is finished at (k + 1) T or later: 2 T + 3 T + .. + 19 T = 189 T at least, and so much with the desks in turn.
+SUM = least_sum([k * T for k in range(1, 41)], T, [T] * 40)
+for stations in (1, 2, 3, 4):
+    best("40 strips of %d stations, time 60,000 in every time" % stations, mosaic(stations, T) + strip(*[T] * (stations + 1)) * 40, SUM, 0, 0)
+best("40 strips, a mount of 59,999", mosaic(1, T - 1) + strip(T, T) * 40, least_sum([k * T for k in range(1, 41)], T - 1, [T] * 40), 0, 0)
+best("6 + 6 + 6 strips, time 60,000 in every time", sheets.LONG_SORTING, 0, 189 * T, 0)
+for number, figure, starts in [(judged.BY_ONE, 96 * T, judged.ONE_BY_ONE), (judged.BY_TWO, 64 * T, judged.TWO_BY_TWO)]:
+    planned("32 blocks, time 60,000 in every time, order %X" % number, judged.LONG_FLIGHT + order(number), passes(figure, number, *starts))
+# Two by two the passes leave no gap. Three blocks that are open at once need a delay for two passes.
+EIGHT_LONG = flight() + sheets.LONG_BLOCK * 8
+planned("8 free blocks, time 60,000 in every time", EIGHT_LONG, passes(16 * T, 0xCCCC, *judged.TWO_BY_TWO[:8]))
+refused("8 blocks, time 60,000 in every time, three open at once", EIGHT_LONG + order(0xCCF0), 11, len(EIGHT_LONG))
+# All first passes first: the delay of block 1 takes in 31 passes of 1,935 (59,985 in all), not of 1,936 (60,016).
+PASS = T // 31
+FIRSTS_FIRST = 0xFFFFFFFF00000000
+planned(
+    "32 blocks, delays of 60,000, all first passes first",
+    flight() + block(PASS, T, PASS) * 32 + order(FIRSTS_FIRST),
+    passes(33 * PASS + T, FIRSTS_FIRST, *[(k * PASS, (k + 1) * PASS + T) for k in range(32)]),
+)
+refused("the same with passes one second longer", flight() + block(PASS + 1, T, PASS + 1) * 32 + order(FIRSTS_FIRST), 11, 3 + 9 * 32)
+best("the longest sections", sheets.LONG, SUM, 189 * T, 96 * T)
+best("the longest sections, a free flight", sheets.LONG_MOSAIC + sheets.LONG_SORTING + EIGHT_LONG, SUM, 189 * T, 16 * T)
 
 # 11 at the order field, also where other sections could be planned.
 refused("order C cannot be kept", judged.A + order(0xC), 11, len(judged.A))

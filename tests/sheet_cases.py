@@ -11,6 +11,7 @@ import pathlib
 import struct
 import sys
 
+MOST_TIME = 60_000
 FOLDER = pathlib.Path(__file__).resolve().parent.parent / "crates" / "sheet_cases"
 
 
@@ -80,8 +81,9 @@ sound("the first worked sheet", FIRST, strips=4)
 refused("order 3 for two blocks", F + BLOCK * 2 + order(3), 9, 21)
 sound("eight blocks without order", F + BLOCK * 8, blocks=8)
 refused("nine blocks without order", F + BLOCK * 9, 10, 0)
-sound("time 10,000", F + block(10000, 10000, 10000), blocks=1)
-refused("time 10,001", F + block(10001, 0, 1), 6, 3)
+sound("time 60,000", F + block(MOST_TIME, MOST_TIME, MOST_TIME), blocks=1)
+refused("time 60,001", F + block(MOST_TIME + 1, MOST_TIME + 1, MOST_TIME + 1), 6, 3)
+sound("time 10,001", F + block(10001, 10001, 10001), blocks=1)
 EIGHT = [(3, 4, 1), (1, 7, 2), (1, 8, 1), (1, 10, 1), (2, 9, 1), (1, 4, 3), (1, 5, 2), (1, 6, 1)]
 sound("000's eight blocks", F + b"".join(block(*b) for b in EIGHT) + order(0xF2C4), blocks=8, order_number=0xF2C4)
 
@@ -160,29 +162,40 @@ refused("5 goes before 6", F + field(0x31, word(0, 0)), 5, 3)
 # 6: each range on both sides.
 refused("no station", mosaic(0) + STRIP, 6, 0)
 refused("five stations", mosaic(5) + STRIP, 6, 0)
-sound("mount time 10,000", mosaic(1, 10000) + STRIP, strips=1)
-refused("mount time 10,001", mosaic(1, 10001) + STRIP, 6, 0)
-sound("station time 10,000", M + strip(10000, 1), strips=1)
-refused("station time 10,001", M + strip(10001, 1), 6, 6)
-refused("last of four station times 10,001", mosaic(4) + strip(0, 0, 0, 10001, 1), 6, 6)
-sound("bench time 10,000", M + strip(0, 10000), strips=1)
+sound("mount and station time 0", mosaic(1, 0) + strip(0, 1), strips=1)
+sound("mount time 60,000", mosaic(1, MOST_TIME) + STRIP, strips=1)
+refused("mount time 60,001", mosaic(1, MOST_TIME + 1) + STRIP, 6, 0)
+sound("station time 60,000", M + strip(MOST_TIME, 1), strips=1)
+refused("station time 60,001", M + strip(MOST_TIME + 1, 1), 6, 6)
+for k in range(4):
+    times = [0] * 4 + [1]
+    times[k] = MOST_TIME
+    sound("station time %d of four 60,000" % (k + 1), mosaic(4) + strip(*times), strips=1)
+    times[k] = MOST_TIME + 1
+    refused("station time %d of four 60,001" % (k + 1), mosaic(4) + strip(*times), 6, 6)
+sound("bench time 60,000", M + strip(0, MOST_TIME), strips=1)
 refused("bench time 0", M + strip(0, 0), 6, 6)
-refused("bench time 10,001", M + strip(0, 10001), 6, 6)
+refused("bench time 60,001", M + strip(0, MOST_TIME + 1), 6, 6)
 refused("no desk", sorting(0) + JOB, 6, 0)
 sound("three desks", sorting(3) + job(3), desks=(0, 0, 1))
 refused("four desks", sorting(4) + JOB, 6, 0)
 refused("desk 0", sorting(3) + job(0), 6, 4)
 refused("desk past the last", sorting(2) + job(3), 6, 4)
-sound("scan and desk time 10,000", S + job(1, 10000, 10000), desks=(1, 0, 0))
+sound("scan time 60,000", S + job(1, MOST_TIME, 1), desks=(1, 0, 0))
 refused("scan time 0", S + job(1, 0, 1), 6, 4)
-refused("scan time 10,001", S + job(1, 10001, 1), 6, 4)
+refused("scan time 60,001", S + job(1, MOST_TIME + 1, 1), 6, 4)
+sound("desk time 60,000", S + job(1, 1, MOST_TIME), desks=(1, 0, 0))
 refused("desk time 0", S + job(1, 1, 0), 6, 4)
-refused("desk time 10,001", S + job(1, 1, 10001), 6, 4)
-sound("delay 0", F + block(1, 0, 1), blocks=1)
+refused("desk time 60,001", S + job(1, 1, MOST_TIME + 1), 6, 4)
+sound("first pass 60,000", F + block(MOST_TIME, 0, 1), blocks=1)
 refused("first pass 0", F + block(0, 0, 1), 6, 3)
-refused("delay 10,001", F + block(1, 10001, 1), 6, 3)
+refused("first pass 60,001", F + block(MOST_TIME + 1, 0, 1), 6, 3)
+sound("delay 0", F + block(1, 0, 1), blocks=1)
+sound("delay 60,000", F + block(1, MOST_TIME, 1), blocks=1)
+refused("delay 60,001", F + block(1, MOST_TIME + 1, 1), 6, 3)
+sound("second pass 60,000", F + block(1, 0, MOST_TIME), blocks=1)
 refused("second pass 0", F + block(1, 0, 0), 6, 3)
-refused("second pass 10,001", F + block(1, 0, 10001), 6, 3)
+refused("second pass 60,001", F + block(1, 0, MOST_TIME + 1), 6, 3)
 refused("the greatest two-byte time", F + block(65535, 0, 1), 6, 3)
 
 # 7: each count on both sides; 6 of the same field goes first.
@@ -219,6 +232,14 @@ sound("mosaic and sorting", M + STRIP + S + JOB, strips=1, desks=(1, 0, 0))
 sound("mosaic and flight", M + STRIP * 2 + F + BLOCK, strips=2, blocks=1)
 sound("sorting and flight", S + JOB + F + BLOCK * 3, desks=(1, 0, 0), blocks=3)
 sound("all three", FIRST + sorting(2) + job(1, 2, 5) + job(2) + F + BLOCK * 2 + order(0xC), strips=4, desks=(1, 1, 0), blocks=2, order_number=0xC)
+
+# The longest sections: full ones in which every time is 60,000.
+LONG_MOSAIC = mosaic(4, MOST_TIME) + strip(*[MOST_TIME] * 5) * 40
+LONG_SORTING = sorting(3) + b"".join(job(desk, MOST_TIME, MOST_TIME) for desk in (1, 2, 3)) * 6
+LONG_BLOCK = block(MOST_TIME, MOST_TIME, MOST_TIME)
+sound("the longest sections, a free flight", LONG_MOSAIC + LONG_SORTING + F + LONG_BLOCK * 8, strips=40, desks=(6, 6, 6), blocks=8)
+LONG = LONG_MOSAIC + LONG_SORTING + F + LONG_BLOCK * 32 + order(alternate(32))
+sound("the longest sections, a flight in order", LONG, strips=40, desks=(6, 6, 6), blocks=32, order_number=alternate(32))
 
 
 def files():

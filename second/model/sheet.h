@@ -8,7 +8,7 @@
 
 typedef uint64_t u64;
 
-enum { MOST_TIME = 10000, MOST_STRIPS = 40, MOST_DESKS = 3, MOST_OF_DESK = 6, MOST_BLOCKS = 32, FREE_BLOCKS = 8, MOST_STATIONS = 4 };
+enum { MOST_TIME = 60000, MOST_STRIPS = 40, MOST_DESKS = 3, MOST_OF_DESK = 6, MOST_BLOCKS = 32, FREE_BLOCKS = 8, MOST_STATIONS = 4 };
 
 struct mosaic {
     size_t stations, strips;
