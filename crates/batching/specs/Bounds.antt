@@ -1,5 +1,5 @@
 -- No least figure is large: one batch of all strips left is a choice, and it finishes early.
-use Prim.Native.Nat.{ℕ, _*_, _-_, _≤_}
+use Prim.Native.Nat.{ℕ, _-_, _≤_}
 use mathlib.Core.List.{List}
 use native.Mathlib.Nat.{mul-le-mul}
 use native.Mathlib.Decide.{decLt}
@@ -19,10 +19,7 @@ finish-most {rs} {sums} {s} {n} I i t h = omega (arith, start-max s t (getD rs (
 pub least-most : {rs sums : List ℕ} {s n : ℕ} → Input rs sums s n → (i t : ℕ) → t ≤ finishCap → leastAt (instanceIn rs sums s n) i t ≤ leastCap
 least-most {rs} {sums} {s} {n} I i t h = elim (decLt i n) [
   | yes k ↦
-      omega (
-        arith,
-        least-one (instanceIn rs sums s n) i t k,
-        mul-le-mul {n₁ = n - i} {m₁ = finishOf (instanceIn rs sums s n) t i n} {n₂ = mostStrips} {m₂ = endCap} (omega (arith, I .most-strips)) (finish-most I i t h),
-      )
+      let few : n - i ≤ mostStrips = omega (arith, I .most-strips) in
+      omega (arith, least-one (instanceIn rs sums s n) i t k, mul-le-mul few (finish-most I i t h))
   | no k ↦ omega (arith, least-end (instanceIn rs sums s n) i t (omega arith))
 ]
