@@ -6,6 +6,8 @@ use native.Mathlib.Nat.{mul-le-mul}
 use native.Mathlib.Omega.{arith}
 use lib.ListN.{length, getD, set, length-set}
 use lib.Seq.{getD-set-same, getD-set-other}
+use Rattle.sheet.specs.Limits.{mostStrips}
+use Rattle.batching.specs.Caps.{mountCap, mountsCap}
 use Rattle.batching.specs.Tables.{instanceIn, RowIs, FillRowPre, RowFilled, FillBlockPre}
 use Rattle.batching.specs.Recursion.{least-end}
 
@@ -21,8 +23,8 @@ pub record BlockSoFar (rs sums row₀ row : List ℕ) (s n begin i lo p at : ℕ
   pub to : p ≤ n
 
 module _ {rs sums late entry : List ℕ} {s n begin i lo : ℕ} (P : FillBlockPre rs sums late entry s n begin i lo) where
-  mounts-most : (p : ℕ) → p ≤ n → (p - lo) * s ≤ 2 ^ 38
-  mounts-most p h = omega (arith, mul-le-mul {n₁ = p - lo} {m₁ = s} {n₂ = 40} {m₂ = 2 ^ 32} (omega (arith, P .input .most-strips)) (P .input .most-mount))
+  mounts-most : (p : ℕ) → p ≤ n → (p - lo) * s ≤ mountsCap
+  mounts-most p h = mul-le-mul {n₂ = mostStrips} {m₂ = mountCap} (omega (arith, P .input .most-strips)) (P .input .most-mount)
 
   pub block-mounts : (n - lo) * s < 2 ^ 64
   block-mounts = omega (arith, mounts-most n (omega arith))

@@ -6,8 +6,10 @@ use Prim.Native.Nat.{ℕ, _+_, _*_, _-_, _≤_, _<_, _^_, min}
 use native.Mathlib.Nat.{mul-le-mul}
 use native.Mathlib.Omega.{arith}
 use lib.ListN.{getD}
+use Rattle.sheet.specs.Limits.{mostStrips}
 use Rattle.batching.specs.Least.{benchStart}
 use Rattle.batching.specs.Index.{leastAt, openAt, closedAt}
+use Rattle.batching.specs.Caps.{finishCap, batchCap}
 use Rattle.batching.specs.Tables.{width, instanceIn, InTime, ChooseBatchPre, CandidatePre}
 use Rattle.batching.specs.Recursion.{least-open, open-last, open-more}
 use Rattle.batching.specs.Bounds.{least-most}
@@ -16,14 +18,14 @@ module _ {rs sums late row : List ℕ} {s n free i q : ℕ} (P : CandidatePre rs
   pub candidate-sub : getD sums i 0 ≤ getD sums q 0
   candidate-sub = P .from .input .rise i q (omega arith) (P .last)
 
-  finish-max : free + s + (getD sums q 0 - getD sums i 0) ≤ 2 ^ 44
+  finish-max : free + s + (getD sums q 0 - getD sums i 0) ≤ finishCap
   finish-max = omega (arith, P .from .input .most-sum q (P .last), P .from .input .most-mount)
 
   pub candidate-finish : free + s + (getD sums q 0 - getD sums i 0) < 2 ^ 64
   candidate-finish = omega (arith, finish-max)
 
-  product-max : (q - i) * (free + s + (getD sums q 0 - getD sums i 0)) ≤ 40 * 2 ^ 44
-  product-max = mul-le-mul {n₂ = 40} {m₂ = 2 ^ 44} (omega (arith, P .from .input .most-strips)) finish-max
+  product-max : (q - i) * (free + s + (getD sums q 0 - getD sums i 0)) ≤ batchCap
+  product-max = mul-le-mul {n₂ = mostStrips} {m₂ = finishCap} (omega (arith, P .from .input .most-strips)) finish-max
 
   pub candidate-product : (q - i) * (free + s + (getD sums q 0 - getD sums i 0)) < 2 ^ 64
   candidate-product = omega (arith, product-max)

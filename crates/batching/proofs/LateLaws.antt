@@ -8,7 +8,9 @@ use native.Mathlib.Decide.{decLt}
 use native.Mathlib.Omega.{arith}
 use lib.ListN.{length, getD, set, length-set}
 use lib.Seq.{getD-set-same, getD-set-other}
+use Rattle.sheet.specs.Limits.{mostStrips}
 use Rattle.batching.specs.Index.{lateStart, leastAt, closedAt}
+use Rattle.batching.specs.Caps.{readyCap, mountCap, finishCap, batchCap}
 use Rattle.batching.specs.Tables.{width, instanceIn, RowFilled, LateFrom, FillBlockPre, FillLateAfterPre, LateAfter, FillLatePre, LateFilled}
 use Rattle.batching.specs.Recursion.{late-max}
 use Rattle.batching.specs.Bounds.{least-most}
@@ -41,7 +43,7 @@ module _ {rs sums late₀ row₀ : List ℕ} {s n i : ℕ} (P : FillLateAfterPre
     after-sub = P .input .rise i (q + 1) (omega (arith, M .from)) (omega arith)
 
     module _ {begin : ℕ} (b : begin ≡ lateStart s (getD rs (q + 1 - 1) 0)) where
-      begin-most : begin ≤ 2 ^ 40
+      begin-most : begin ≤ readyCap + mountCap
       begin-most = omega (arith, P .input .most-mount, P .input .most-ready (q + 1 - 1), late-max s (getD rs (q + 1 - 1) 0))
 
       -- the batches of the later strips are as they were
@@ -59,14 +61,14 @@ module _ {rs sums late₀ row₀ : List ℕ} {s n i : ℕ} (P : FillLateAfterPre
         most-begin = omega (arith, begin-most);
       }
 
-      finish-most : begin + (getD sums (q + 1) 0 - getD sums i 0) ≤ 2 ^ 42
+      finish-most : begin + (getD sums (q + 1) 0 - getD sums i 0) ≤ finishCap
       finish-most = omega (arith, P .input .most-sum (q + 1) (omega arith), begin-most)
 
       pub after-finish : begin + (getD sums (q + 1) 0 - getD sums i 0) < 2 ^ 64
       after-finish = omega (arith, finish-most)
 
-      product-most : (q + 1 - i) * (begin + (getD sums (q + 1) 0 - getD sums i 0)) ≤ 40 * 2 ^ 42
-      product-most = mul-le-mul {n₂ = 40} {m₂ = 2 ^ 42} (omega (arith, P .input .most-strips)) finish-most
+      product-most : (q + 1 - i) * (begin + (getD sums (q + 1) 0 - getD sums i 0)) ≤ batchCap
+      product-most = mul-le-mul {n₂ = mostStrips} {m₂ = finishCap} (omega (arith, P .input .most-strips)) finish-most
 
       pub after-product : (q + 1 - i) * (begin + (getD sums (q + 1) 0 - getD sums i 0)) < 2 ^ 64
       after-product = omega (arith, product-most)
@@ -77,7 +79,7 @@ module _ {rs sums late₀ row₀ : List ℕ} {s n i : ℕ} (P : FillLateAfterPre
 
         pub after-sum : (q + 1 - i) * (begin + (getD sums (q + 1) 0 - getD sums i 0)) + getD row₁ (q + 1) 0 < 2 ^ 64
         after-sum =
-            omega (arith, product-most, row-is, least-most (P .input) (q + 1) (begin + (getD sums (q + 1) 0 - getD sums i 0)) (omega (arith, finish-most)))
+            omega (arith, product-most, row-is, least-most (P .input) (q + 1) (begin + (getD sums (q + 1) 0 - getD sums i 0)) finish-most)
 
         new-is : (p : ℕ) → p ≡ q + 1
             → getD (set late (width * i + (q + 1)) ((q + 1 - i) * (begin + (getD sums (q + 1) 0 - getD sums i 0)) + getD row₁ (q + 1) 0)) (width * i + p) 0

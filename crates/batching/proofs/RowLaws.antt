@@ -8,6 +8,7 @@ use native.Mathlib.Omega.{arith}
 use lib.ListN.{length, getD, set, length-set}
 use lib.Seq.{getD-set-same, getD-set-other}
 use Rattle.batching.specs.Index.{leastAt}
+use Rattle.batching.specs.Caps.{freeCap}
 use Rattle.batching.specs.Tables.{instanceIn, ChooseBatchPre, First, FillRowPre, RowFilled}
 use Rattle.batching.specs.Recursion.{least-end}
 
@@ -35,7 +36,7 @@ module _ {rs sums late row₀ : List ℕ} {s n begin i lo : ℕ} (P : FillRowPre
     pub row-sub : getD sums i 0 ≤ getD sums p 0
     row-sub = P .input .rise i p (omega (arith, P .from, M .from)) (omega arith)
 
-    free-most : begin + (getD sums p 0 - getD sums i 0) ≤ 2 ^ 43
+    free-most : begin + (getD sums p 0 - getD sums i 0) ≤ freeCap
     free-most = omega (arith, P .input .most-sum p (omega arith), P .most-begin)
 
     pub row-free : begin + (getD sums p 0 - getD sums i 0) < 2 ^ 64

@@ -1,26 +1,25 @@
 -- No least figure is large: one batch of all strips left is a choice, and it finishes early.
-use Prim.Native.Nat.{ℕ, _*_, _-_, _≤_, _^_}
+use Prim.Native.Nat.{ℕ, _-_, _≤_}
 use mathlib.Core.List.{List}
 use native.Mathlib.Nat.{mul-le-mul}
 use native.Mathlib.Decide.{decLt}
 use native.Mathlib.Omega.{arith}
 use lib.ListN.{getD}
+use Rattle.sheet.specs.Limits.{mostStrips}
 use Rattle.batching.specs.Least.{finishOf}
 use Rattle.batching.specs.Index.{leastAt}
+use Rattle.batching.specs.Caps.{finishCap, endCap, leastCap}
 use Rattle.batching.specs.Tables.{instanceIn, Input}
 use Rattle.batching.specs.Recursion.{start-max, least-end, least-one}
 
-finish-most : {rs sums : List ℕ} {s n : ℕ} → Input rs sums s n → (i t : ℕ) → t ≤ 2 ^ 44 → finishOf (instanceIn rs sums s n) t i n ≤ 2 ^ 45
+finish-most : {rs sums : List ℕ} {s n : ℕ} → Input rs sums s n → (i t : ℕ) → t ≤ finishCap → finishOf (instanceIn rs sums s n) t i n ≤ endCap
 unfolding finishOf
 finish-most {rs} {sums} {s} {n} I i t h = omega (arith, start-max s t (getD rs (n - 1) 0), I .most-ready (n - 1), I .most-mount, I .most-sum n (omega arith))
 
-pub least-most : {rs sums : List ℕ} {s n : ℕ} → Input rs sums s n → (i t : ℕ) → t ≤ 2 ^ 44 → leastAt (instanceIn rs sums s n) i t ≤ 40 * 2 ^ 45
+pub least-most : {rs sums : List ℕ} {s n : ℕ} → Input rs sums s n → (i t : ℕ) → t ≤ finishCap → leastAt (instanceIn rs sums s n) i t ≤ leastCap
 least-most {rs} {sums} {s} {n} I i t h = elim (decLt i n) [
   | yes k ↦
-      omega (
-        arith,
-        least-one (instanceIn rs sums s n) i t k,
-        mul-le-mul {n₁ = n - i} {m₁ = finishOf (instanceIn rs sums s n) t i n} {n₂ = 40} {m₂ = 2 ^ 45} (omega (arith, I .most-strips)) (finish-most I i t h),
-      )
+      let few : n - i ≤ mostStrips = omega (arith, I .most-strips) in
+      omega (arith, least-one (instanceIn rs sums s n) i t k, mul-le-mul few (finish-most I i t h))
   | no k ↦ omega (arith, least-end (instanceIn rs sums s n) i t (omega arith))
 ]

@@ -4,12 +4,13 @@
 use mathlib.Core.Path.{_≡_}
 use mathlib.Core.Bool.{Bool, true, false}
 use mathlib.Core.List.{List, _∷_}
-use Prim.Native.Nat.{ℕ, _+_, _*_, _-_, _≤_, _<_, _^_}
+use Prim.Native.Nat.{ℕ, _+_, _*_, _-_, _≤_, _<_}
 use lib.ListN.{length, getD}
 use Rattle.sheet.specs.Limits.{mostStrips}
 use Rattle.batching.specs.Least.{Instance, benchStart, finishOf}
 use Rattle.batching.specs.Chosen.{batchOf}
 use Rattle.batching.specs.Index.{lateStart, leastAt, closedAt, chosenAt}
+use Rattle.batching.specs.Caps.{readyCap, mountCap, benchCap, beginCap, blockCap, freeCap}
 
 -- entries for the strips from 0 to 40; a row of them for each strip from 0 to 39
 abbrev pub width : ℕ
@@ -33,9 +34,9 @@ pub record Input (rs sums : List ℕ) (s n : ℕ) : Type 0 where
   pub most-strips : n ≤ mostStrips
   pub ready-long : n ≤ length rs
   pub sums-long : n < length sums
-  pub most-ready : (j : ℕ) → getD rs j 0 ≤ 2 ^ 39
-  pub most-mount : s ≤ 2 ^ 32
-  pub most-sum : (q : ℕ) → q ≤ n → getD sums q 0 ≤ 2 ^ 40
+  pub most-ready : (j : ℕ) → getD rs j 0 ≤ readyCap
+  pub most-mount : s ≤ mountCap
+  pub most-sum : (q : ℕ) → q ≤ n → getD sums q 0 ≤ benchCap
   pub rise : (i q : ℕ) → i ≤ q → q ≤ n → getD sums i 0 ≤ getD sums q 0
 
 -- the answer of the test whether a batch need not wait for its last strip
@@ -54,7 +55,7 @@ pub record ChooseBatchPre (rs sums late row : List ℕ) (s n free i : ℕ) : Typ
   pub ahead : Ahead rs sums late row s n free i
   pub late-long : lateLength ≤ length late
   pub row-long : n < length row
-  pub most-free : free ≤ 2 ^ 43
+  pub most-free : free ≤ freeCap
   pub inside : i < n
 
 -- what `candidate` asks
@@ -78,7 +79,7 @@ pub record FillRowPre (rs sums late row : List ℕ) (s n begin i lo : ℕ) : Typ
   pub next : RowIs rs sums row s n (begin + s) i (lo + 1)
   pub late-long : lateLength ≤ length late
   pub row-long : n < length row
-  pub most-begin : begin ≤ 2 ^ 42
+  pub most-begin : begin ≤ blockCap
   pub from : i ≤ lo
   pub inside : lo < n
 
@@ -97,7 +98,7 @@ pub record FillBlockPre (rs sums late row : List ℕ) (s n begin i lo : ℕ) : T
   pub row-long : n < length row
   pub from : i ≤ lo
   pub inside : lo ≤ n
-  pub most-begin : begin ≤ 2 ^ 41
+  pub most-begin : begin ≤ beginCap
 
 -- what `fill_late_after` asks, and does: the entries of the batches of the strips after i are written, the others are as they were
 pub record FillLateAfterPre (rs sums late row : List ℕ) (s n i : ℕ) : Type 0 where
@@ -126,7 +127,7 @@ pub record FirstBatchPre (rs sums late : List ℕ) (s n free i : ℕ) : Type 0 w
   pub input : Input rs sums s n
   pub later : LateFrom rs sums late s n i
   pub late-long : lateLength ≤ length late
-  pub most-free : free + s ≤ 2 ^ 41
+  pub most-free : free + s ≤ beginCap
   pub inside : i < n
 
 -- what `choose_batch` and `first_batch` find: the last strip q of the first batch of those taken after strip i, and the least figure

@@ -11,6 +11,7 @@ use borrow.Author.Tests.{le-leb, lt-leb}
 use lib.Dec.{leb}
 use lib.ListN.{length, set, replicate, length-set}
 use Rattle.difference.specs.System.{System, Solves, Inside, value, raised, relax, relaxed, rounds, holds, leastValues, solvable}
+use Rattle.difference.specs.Caps.{mostNumber, roundCap, valueCap}
 use Rattle.difference.specs.Round.{relax-still, relaxed-bound, relaxed-still, relaxed-length, rounds-length, rounds-bound, rounds-solve}
 use Rattle.difference.specs.Least.{holds-true, true-holds, false-holds, rounds-still}
 use Rattle.difference.specs.Rows.{systemOf, SolvePre, RoundPre, RoundDone, SolveDone, InRound, RoundTurn, InRounds}
@@ -66,10 +67,10 @@ round-end {S} {t₀} {t} {held} {k} inv h =
 pub record Row (rows t : List ℕ) (k : ℕ) : Type 0 where
   pub from-in : value rows (4 * k) < length t
   pub to-in : value rows (4 * k + 1) < length t
-  pub from-low : value t (value rows (4 * k)) ≤ 2 ^ 61
-  pub to-low : value t (value rows (4 * k + 1)) ≤ 2 ^ 61
-  pub up-low : value rows (4 * k + 2) ≤ 2 ^ 32
-  pub down-low : value rows (4 * k + 3) ≤ 2 ^ 32
+  pub from-low : value t (value rows (4 * k)) ≤ valueCap + roundCap
+  pub to-low : value t (value rows (4 * k + 1)) ≤ valueCap + roundCap
+  pub up-low : value rows (4 * k + 2) ≤ mostNumber
+  pub down-low : value rows (4 * k + 3) ≤ mostNumber
 
 pub row : {rows t₀ t : List ℕ} {held : Bool} {k : ℕ} → RoundPre t₀ rows → InRound (systemOf (length t₀) rows) t₀ t held k
     → k < length rows / 4 → Row rows t k
@@ -82,12 +83,12 @@ row {rows} {t₀} {t} {held} {k} ready inv l = record {
   down-low = ready .fit .down-low k l;
 }
   where
-    bound : (j : ℕ) → value (relaxed (systemOf (length t₀) rows) k t₀) j ≤ 2 ^ 61
+    bound : (j : ℕ) → value (relaxed (systemOf (length t₀) rows) k t₀) j ≤ valueCap + roundCap
     bound j =
         omega (
           arith,
           ready .fit .short,
-          relaxed-bound (systemOf (length t₀) rows) k t₀ (2 ^ 60) (2 ^ 32) (λ k′ l′. ready .fit .up-low k′ (omega arith)) (ready .low) j,
+          relaxed-bound (systemOf (length t₀) rows) k t₀ valueCap mostNumber (λ k′ l′. ready .fit .up-low k′ (omega arith)) (ready .low) j,
         )
 
 -- One round.
@@ -158,7 +159,7 @@ module _ {n : ℕ} {rows t : List ℕ} {r : ℕ} (fit : SolvePre n rows) (inv : 
   pub round-ready : RoundPre t rows
   round-ready = record { fit = rw rounds-same-length fit; low = low }
     where
-      low : (j : ℕ) → value t j ≤ 2 ^ 60
+      low : (j : ℕ) → value t j ≤ valueCap
       low j = rw (inv .values) (omega (arith, rounds-bound (systemOf n rows) (fit .short) (fit .up-low) r j, inv .within, fit .few))
 
   module _ {t′ : List ℕ} {held : Bool} (d : RoundDone (systemOf (length t) rows) t t′ held) where

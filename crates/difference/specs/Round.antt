@@ -9,6 +9,7 @@ use lib.ListN.{length, set, length-set, length-replicate}
 use lib.Seq.{getD-set-same, getD-set-other, set-getD, set-out}
 use Rattle.base.specs.Zeros.{zeros-at}
 use Rattle.difference.specs.System.{System, Solves, Inside, value, raised, relax, relaxed, rounds}
+use Rattle.difference.specs.Caps.{mostConstraints, mostNumber, roundCap}
 use Rattle.difference.specs.Gap.{gap}
 
 -- what a store does to a vector, at a place that may be out of it
@@ -114,8 +115,8 @@ module _ (S : System) where
   pub rounds-solve : Inside S → (y : ℕ → ℕ) → Solves S y → Solves S (value (rounds S (S .variables - 1)))
   rounds-solve i y s = gap S i (λ r j. value (rounds S r) j) rounds-rise rounds-below (rounds-push i) y s
 
-  pub rounds-bound : S .count ≤ 256 → ((k : ℕ) → k < S .count → S .up k ≤ 4294967296) → (r j : ℕ) → value (rounds S r) j ≤ r * 1099511627776
+  pub rounds-bound : S .count ≤ mostConstraints → ((k : ℕ) → k < S .count → S .up k ≤ mostNumber) → (r j : ℕ) → value (rounds S r) j ≤ r * roundCap
   unfolding rounds
   rounds-bound few u zero j = omega (arith, zeros-at (S .variables) j)
   rounds-bound few u (suc r) j =
-      omega (arith, relaxed-bound (S .count) (rounds S r) (r * 1099511627776) 4294967296 u (rounds-bound few u r) j)
+      omega (arith, relaxed-bound (S .count) (rounds S r) (r * roundCap) mostNumber u (rounds-bound few u r) j)

@@ -2,9 +2,10 @@
 use mathlib.Core.Path.{_≡_}
 use mathlib.Core.Bool.{Bool, false}
 use mathlib.Core.List.{List}
-use Prim.Native.Nat.{ℕ, _+_, _*_, _/_, _≤_, _<_, _^_}
+use Prim.Native.Nat.{ℕ, _+_, _*_, _/_, _≤_, _<_}
 use lib.ListN.{length}
 use Rattle.difference.specs.System.{System, value, relaxed, rounds, holds, leastValues, solvable}
+use Rattle.difference.specs.Caps.{mostVariables, mostConstraints, mostNumber, valueCap}
 
 abbrev pub systemOf : ℕ → List ℕ → System
 systemOf n rows = record {
@@ -19,16 +20,16 @@ systemOf n rows = record {
 -- What the code asks: few variables and constraints and small numbers, so that no sum passes 64 bits.
 pub record SolvePre (n : ℕ) (rows : List ℕ) : Type 0 where
   pub some : 0 < n
-  pub few : n ≤ 64
-  pub short : length rows / 4 ≤ 256
+  pub few : n ≤ mostVariables
+  pub short : length rows / 4 ≤ mostConstraints
   pub from-in : (k : ℕ) → k < length rows / 4 → value rows (4 * k) < n
   pub to-in : (k : ℕ) → k < length rows / 4 → value rows (4 * k + 1) < n
-  pub up-low : (k : ℕ) → k < length rows / 4 → value rows (4 * k + 2) ≤ 2 ^ 32
-  pub down-low : (k : ℕ) → k < length rows / 4 → value rows (4 * k + 3) ≤ 2 ^ 32
+  pub up-low : (k : ℕ) → k < length rows / 4 → value rows (4 * k + 2) ≤ mostNumber
+  pub down-low : (k : ℕ) → k < length rows / 4 → value rows (4 * k + 3) ≤ mostNumber
 
 pub record RoundPre (t rows : List ℕ) : Type 0 where
   pub fit : SolvePre (length t) rows
-  pub low : (j : ℕ) → value t j ≤ 2 ^ 60
+  pub low : (j : ℕ) → value t j ≤ valueCap
 
 -- One round: the values after it, and whether they were a solution before it.
 pub record RoundDone (S : System) (t t′ : List ℕ) (held : Bool) : Type 0 where

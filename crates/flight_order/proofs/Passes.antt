@@ -6,13 +6,14 @@ use native.Mathlib.Omega.{arith}
 use lib.ListN.{getD}
 use Rattle.order.specs.Passes.{passAt, timeOf}
 use Rattle.order.specs.PassLaws.{pass-known}
+use Rattle.sheet.specs.Limits.{mostTime}
 use Rattle.flight_order.specs.Constraints.{orderedFlight, constraintOf}
 use Rattle.flight_order.specs.Schedule.{constraint-least, constraint-most, constraint-order}
 use Rattle.flight_order.specs.Good.{Good, time-low}
 use Rattle.flight_order.specs.declared.Constraint.{Constraint}
 
--- Low times have low sums.
-pub times-fit : (s t : List ℕ) (i : ℕ) → ((k : ℕ) → getD s k 0 ≤ 2 ^ 31) → ((k : ℕ) → getD t k 0 ≤ 2 ^ 31) → getD s i 0 + getD t i 0 < 2 ^ 64
+-- Times within the limit of a sheet have sums within 64 bits.
+pub times-fit : (s t : List ℕ) (i : ℕ) → ((k : ℕ) → getD s k 0 ≤ mostTime) → ((k : ℕ) → getD t k 0 ≤ mostTime) → getD s i 0 + getD t i 0 < 2 ^ 64
 times-fit s t i a b = omega (arith, a i, b i)
 
 module _ (n w turn : ℕ) (first second least most : List ℕ) (good : Good (orderedFlight n w turn first second least most)) where
@@ -20,7 +21,7 @@ module _ (n w turn : ℕ) (first second least most : List ℕ) (good : Good (ord
       → p < 2 * n
   pass-below k p g l e = rw e (pass-known (good .proper) (k - 2 * n) (omega arith))
 
-  pub up-fits : (p time more : ℕ) → time ≡ timeOf n first second p → more ≤ 2 ^ 31 → time + more < 2 ^ 64
+  pub up-fits : (p time more : ℕ) → time ≡ timeOf n first second p → more ≤ mostTime → time + more < 2 ^ 64
   up-fits p time more e l = omega (arith, time-low (orderedFlight n w turn first second least most) good p)
 
   pub made-order : (k p q time : ℕ) → 2 * n ≤ k → p ≡ passAt n w (k - 2 * n) → q ≡ passAt n w (k - 2 * n + 1) → time ≡ timeOf n first second p

@@ -1,5 +1,5 @@
 -- What the code asks of a flight, and that each of its constraints is then about two of its passes and has small numbers.
-use Prim.Native.Nat.{ℕ, _+_, _-_, _*_, _^_, _≤_, _<_}
+use Prim.Native.Nat.{ℕ, _+_, _-_, _*_, _≤_, _<_}
 use native.Mathlib.Decide.{decLt}
 use native.Mathlib.Omega.{arith}
 use lib.ListN.{length, getD}
@@ -7,36 +7,38 @@ use Rattle.order.specs.Order.{Proper}
 use Rattle.order.specs.Passes.{passAt, timeOf}
 use Rattle.order.specs.PassLaws.{pass-known, first-time, second-time}
 use Rattle.difference.specs.System.{Inside, value, leastValues}
+use Rattle.difference.specs.Caps.{mostNumber, valueCap}
 use Rattle.difference.specs.Round.{rounds-bound}
+use Rattle.sheet.specs.Limits.{mostTime, mostBlocks}
 use Rattle.flight_order.specs.Constraints.{OrderedFlight, constraintOf, systemFor}
 use Rattle.flight_order.specs.Schedule.{constraint-least, constraint-most, constraint-order}
 use Rattle.flight_order.specs.declared.Constraint.{Constraint}
 
 pub record Good (F : OrderedFlight) : Type 0 where
   pub some : 0 < F .blocks
-  pub few : F .blocks ≤ 32
+  pub few : F .blocks ≤ mostBlocks
   pub proper : Proper (F .blocks) (F .order)
   pub first-long : F .blocks ≤ length (F .first)
   pub second-long : F .blocks ≤ length (F .second)
   pub least-long : F .blocks ≤ length (F .least)
   pub most-long : F .blocks ≤ length (F .most)
-  pub turn-low : F .turn ≤ 2 ^ 31
-  pub first-low : (i : ℕ) → getD (F .first) i 0 ≤ 2 ^ 31
-  pub second-low : (i : ℕ) → getD (F .second) i 0 ≤ 2 ^ 31
-  pub least-low : (i : ℕ) → getD (F .least) i 0 ≤ 2 ^ 31
-  pub most-low : (i : ℕ) → getD (F .most) i 0 ≤ 2 ^ 31
+  pub turn-low : F .turn ≤ mostTime
+  pub first-low : (i : ℕ) → getD (F .first) i 0 ≤ mostTime
+  pub second-low : (i : ℕ) → getD (F .second) i 0 ≤ mostTime
+  pub least-low : (i : ℕ) → getD (F .least) i 0 ≤ mostTime
+  pub most-low : (i : ℕ) → getD (F .most) i 0 ≤ mostTime
 
 pub record Small (n : ℕ) (c : Constraint) : Type 0 where
   pub from-in : c .from < 2 * n
   pub to-in : c .to < 2 * n
-  pub up-low : c .up ≤ 2 ^ 32
-  pub down-low : c .down ≤ 2 ^ 32
+  pub up-low : c .up ≤ mostNumber
+  pub down-low : c .down ≤ mostNumber
 
 module _ (F : OrderedFlight) (good : Good F) where
-  pub time-low : (p : ℕ) → timeOf (F .blocks) (F .first) (F .second) p ≤ 2 ^ 31
+  pub time-low : (p : ℕ) → timeOf (F .blocks) (F .first) (F .second) p ≤ mostTime
   time-low p = go (decLt p (F .blocks))
     where
-      go : Dec (p < F .blocks) → timeOf (F .blocks) (F .first) (F .second) p ≤ 2 ^ 31
+      go : Dec (p < F .blocks) → timeOf (F .blocks) (F .first) (F .second) p ≤ mostTime
       go (yes e) = omega (arith, first-time (F .blocks) (F .first) (F .second) p e, good .first-low p)
       go (no e) = omega (arith, second-time (F .blocks) (F .first) (F .second) p (omega arith), good .second-low (p - F .blocks))
 
@@ -70,8 +72,8 @@ module _ (F : OrderedFlight) (good : Good F) where
     to-in = λ k l. constraint-small k l .to-in;
   }
 
-  -- The least values stay far below 64 bits.
-  pub least-low : (p : ℕ) → value (leastValues (systemFor F)) p ≤ 2 ^ 60
+  -- The least values stay within 64 bits.
+  pub least-low : (p : ℕ) → value (leastValues (systemFor F)) p ≤ valueCap
   unfolding leastValues
   least-low p =
       omega (arith, rounds-bound (systemFor F) (omega (arith, good .few)) (λ k l. constraint-small k l .up-low) (2 * F .blocks) p, good .few)

@@ -1,21 +1,22 @@
 -- What the functions ask.
 use mathlib.Core.Path.{_≡_}
 use mathlib.Core.List.{List}
-use Prim.Native.Nat.{ℕ, _-_, _*_, _^_, _≤_, _<_}
+use Prim.Native.Nat.{ℕ, _-_, _*_, _≤_, _<_}
 use lib.ListN.{length, getD}
+use Rattle.sheet.specs.Limits.{mostTime, mostBlocks}
 use Rattle.order.specs.Order.{Proper}
 use Rattle.order.specs.Beginning.{Beginning}
 
--- One to 32 blocks with small times.
+-- At least one block; number and times within the limits of a sheet.
 pub record BlockTimes (n : ℕ) (first second delay : List ℕ) : Type 0 where
   pub some : 0 < n
-  pub few : n ≤ 32
+  pub few : n ≤ mostBlocks
   pub first-long : n ≤ length first
   pub second-long : n ≤ length second
   pub delay-long : n ≤ length delay
-  pub first-low : (i : ℕ) → getD first i 0 ≤ 2 ^ 31
-  pub second-low : (i : ℕ) → getD second i 0 ≤ 2 ^ 31
-  pub delay-low : (i : ℕ) → getD delay i 0 ≤ 2 ^ 31
+  pub first-low : (i : ℕ) → getD first i 0 ≤ mostTime
+  pub second-low : (i : ℕ) → getD second i 0 ≤ mostTime
+  pub delay-low : (i : ℕ) → getD delay i 0 ≤ mostTime
 
 -- Room for the constraints and starts of n blocks, and of 32.
 pub record SearchRoom (n : ℕ) (first second delay rows starts : List ℕ) : Type 0 where

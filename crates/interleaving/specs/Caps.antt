@@ -9,19 +9,19 @@ use lib.ListN.{length, getD, set, length-set}
 use lib.Seq.{getD-set-same, getD-set-other}
 use Rattle.interleaving.specs.declared.State.{State}
 use Rattle.interleaving.specs.Instance.{Instance, desk-capped, scanOf, deskOf, weightOf, instanceLength, timeCap, weightCap, scannerCap, stripSpan}
-use Rattle.interleaving.specs.Instance.{freeCap, stripCost, costCap, pathCap}
+use Rattle.interleaving.specs.Instance.{stripsCap, freeCap, stripCost, costCap, pathCap}
 use Rattle.interleaving.specs.Search.{StripLeft, scanned, finish, stepOf}
 use Rattle.interleaving.specs.SearchLaws.{max-least}
 
 -- what keeps the sums small
 pub record Capped (s : State) : Type 0 where
-  pub left : s .left ≤ 18
+  pub left : s .left ≤ stripsCap
   pub frees : length (s .free) ≡ 3
   pub takens : length (s .taken) ≡ 3
   pub time : s .time + s .left * timeCap ≤ scannerCap
   pub free : (d : ℕ) → getD (s .free) d 0 + s .left * stripSpan ≤ freeCap
   pub cost : s .cost + s .left * stripCost ≤ costCap
-  pub path : s .path < 4 ^ (18 - s .left)
+  pub path : s .path < 4 ^ (stripsCap - s .left)
 
 -- what the sums of a step come to
 pub record StepCapped (J : List ℕ) (s : State) (d : ℕ) : Type 0 where
@@ -35,7 +35,7 @@ pub record StepCapped (J : List ℕ) (s : State) (d : ℕ) : Type 0 where
   pub done : finish J s d + (s .left - 1) * stripSpan ≤ freeCap
   pub cost : s .cost + weightOf J d (getD (s .taken) d 0) * finish J s d + (s .left - 1) * stripCost ≤ costCap
   pub weighted : weightOf J d (getD (s .taken) d 0) * finish J s d ≤ stripCost
-  pub path : s .path * 4 + d + 1 < 4 ^ (18 - (s .left - 1))
+  pub path : s .path * 4 + d + 1 < 4 ^ (stripsCap - (s .left - 1))
   pub small : s .path * 4 + d + 1 < pathCap
   pub size : length J ≡ instanceLength
 
@@ -64,10 +64,10 @@ module _ (J : List ℕ) (j : Instance J) (s : State) (f : Capped s) (d : ℕ) (p
   weighted-small : weightOf J d (getD (s .taken) d 0) * finish J s d ≤ stripCost
   weighted-small = le-trans (mul-le-mul-right (finish J s d) (j .light (d * 6 + getD (s .taken) d 0))) (omega (arith, finish-small))
 
-  path-next : s .path * 4 + d + 1 < 4 ^ (18 - (s .left - 1))
-  path-next = rw (e, pow-suc 4 (18 - s .left)) (omega (arith, f .path))
+  path-next : s .path * 4 + d + 1 < 4 ^ (stripsCap - (s .left - 1))
+  path-next = rw (e, pow-suc 4 (stripsCap - s .left)) (omega (arith, f .path))
     where
-      e : 18 - (s .left - 1) ≡ suc (18 - s .left)
+      e : stripsCap - (s .left - 1) ≡ suc (stripsCap - s .left)
       e = omega (arith, f .left)
 
   pub step-capped : StepCapped J s d
@@ -83,7 +83,7 @@ module _ (J : List ℕ) (j : Instance J) (s : State) (f : Capped s) (d : ℕ) (p
     cost = omega (arith, f .cost, weighted-small);
     weighted = weighted-small;
     path = path-next;
-    small = lt-of-lt-of-le path-next (pow-le-pow-right {n = 4} (omega arith) {i = 18 - (s .left - 1)} {j = 18} (omega arith));
+    small = lt-of-lt-of-le path-next (pow-le-pow-right {n = 4} (omega arith) {i = stripsCap - (s .left - 1)} {j = stripsCap} (omega arith));
     size = j .size;
   }
 

@@ -9,7 +9,7 @@ use native.Mathlib.Omega.{arith}
 use lib.ListN.{length, getD, set, replicate}
 use lib.Seq.{getD-set-same, getD-set-other}
 use Rattle.interleaving.specs.declared.State.{State}
-use Rattle.interleaving.specs.Instance.{Instance, scanOf}
+use Rattle.interleaving.specs.Instance.{Instance, scanOf, stripsCap}
 use Rattle.interleaving.specs.Search.{StripLeft, stepOf, startState}
 use Rattle.interleaving.specs.Caps.{Capped, capped-step}
 
@@ -64,7 +64,7 @@ zeros (suc zero) = refl
 zeros (suc (suc zero)) = refl
 zeros (suc (suc (suc d))) = refl
 
-pub start-sum : (J : List ℕ) → Instance J → getD J 0 0 + getD J 1 0 + getD J 2 0 ≤ 18
+pub start-sum : (J : List ℕ) → Instance J → getD J 0 0 + getD J 1 0 + getD J 2 0 ≤ stripsCap
 start-sum J j = omega (arith, j .few 0 (omega arith), j .few 1 (omega arith), j .few 2 (omega arith))
 
 pub consistent-start : (J : List ℕ) → Instance J → Consistent J (startState J)
@@ -77,12 +77,12 @@ consistent-start J j = record {
     time = omega (arith, few);
     free = λ d. rw (zeros d) (omega (arith, few));
     cost = omega (arith, few);
-    path = one-le-pow (18 - (getD J 0 0 + getD J 1 0 + getD J 2 0)) 4 (omega arith);
+    path = one-le-pow (stripsCap - (getD J 0 0 + getD J 1 0 + getD J 2 0)) 4 (omega arith);
   };
   within = λ d p. rw (zeros d) (omega arith);
   time = refl;
   left = omega arith;
 }
   where
-    few : getD J 0 0 + getD J 1 0 + getD J 2 0 ≤ 18
+    few : getD J 0 0 + getD J 1 0 + getD J 2 0 ≤ stripsCap
     few = start-sum J j

@@ -1,6 +1,6 @@
 -- The sorting section as one list of numbers, which the search reads: strips of each desk, then scan times, desk times and weights, six to a desk. Desks and
 -- strips are counted from 0.
-use Prim.Native.Nat.{ℕ, _+_, _*_, _≤_, _<_}
+use Prim.Native.Nat.{ℕ, _+_, _*_, _^_, _≤_, _<_}
 use mathlib.Core.Path.{_≡_, subst}
 use mathlib.Core.List.{List}
 use native.Mathlib.Omega.{arith}
@@ -23,31 +23,40 @@ instanceLength = 57
 abbrev pub largest : ℕ
 largest = 18_446_744_073_709_551_615
 
--- What keeps every sum of the search within 64 bits: no time above timeCap, no weight above weightCap. The other caps are those of 18 strips:
--- the scanner's time, what one strip adds to a desk's free time, a desk's free time, what one strip adds to the cost, the cost, and the number of a list.
+-- What keeps every sum of the search within 64 bits: no time above timeCap, no weight above weightCap, at most 6 strips to each of 3 desks. The other caps
+-- follow from these three. src/caps.rt states for the code those that it uses.
 abbrev pub timeCap : ℕ
-timeCap = 1_048_576
+timeCap = 2 ^ 20
 
 abbrev pub weightCap : ℕ
-weightCap = 1_024
+weightCap = 2 ^ 10
 
+abbrev pub stripsCap : ℕ
+stripsCap = 3 * 6
+
+-- the scanner's time: all scan times
 abbrev pub scannerCap : ℕ
-scannerCap = 18_874_368
+scannerCap = stripsCap * timeCap
 
+-- what one strip adds to a desk's free time: its scan time and its desk time
 abbrev pub stripSpan : ℕ
-stripSpan = 2_097_152
+stripSpan = 2 * timeCap
 
+-- a desk's free time
 abbrev pub freeCap : ℕ
-freeCap = 37_748_736
+freeCap = stripsCap * stripSpan
 
+-- what one strip adds to the cost
 abbrev pub stripCost : ℕ
-stripCost = 38_654_705_664
+stripCost = weightCap * freeCap
 
+-- the cost
 abbrev pub costCap : ℕ
-costCap = 695_784_701_952
+costCap = stripsCap * stripCost
 
+-- the number of a scanner list: a digit in base 4 for each strip
 abbrev pub pathCap : ℕ
-pathCap = 68_719_476_736
+pathCap = 4 ^ stripsCap
 
 -- what the search asks of such a list: at most 6 strips to a desk
 pub record Instance (J : List ℕ) : Type 0 where

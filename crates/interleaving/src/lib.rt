@@ -9,6 +9,8 @@ ghost use Rattle.interleaving.specs.Instance.{Instance};
 ghost use Rattle.interleaving.specs.Search.{stepOf, keep, startState};
 ghost use Rattle.interleaving.specs.Caps.{StepPre};
 
+pub mod caps;
+
 // Strips left, the time at which the scanner is free, the cost so far, the scanner list as a number in base 4 with the desks' numbers
 // as digits, and for each desk the time at which it is free and the strips taken.
 pub struct State {

@@ -9,10 +9,12 @@ use lib.ListN.{length, getD, set, length-set, replicate, length-replicate}
 use lib.Seq.{getD-set-same, getD-set-other}
 use Rattle.base.specs.Listed.{listed, listed-same}
 use Rattle.base.specs.Zeros.{zeros-at}
+use Rattle.sheet.specs.Limits.{mostStrips}
 use Rattle.batching.specs.Least.{mountStart, benchStart, finishOf}
 use Rattle.batching.specs.Chosen.{batchOf}
 use Rattle.batching.specs.Index.{leastAt, closedAt, chosenAt}
 use Rattle.mosaic.specs.Plan.{entry, batchesOf, NoMore}
+use Rattle.batching.specs.Caps.{readyCap, mountCap, beginCap}
 use Rattle.batching.specs.Tables.{instanceIn, FirstBatchPre, First}
 use Rattle.mosaic.specs.Tables.{Sized, AddBatchPre, Added, ChooseBatchesPre, BatchesTaken}
 use Rattle.batching.specs.Recursion.{least-end, chosen-end}
@@ -25,7 +27,7 @@ pub record PlanSoFar (rs sums : List ℕ) (s n : ℕ) (plan : MosaicPlan) (i fre
   pub no-more : NoMore plan
   pub few : plan .batches ≤ i
   pub to : i ≤ n
-  pub most-free : free ≤ 2 ^ 39 + i * 2 ^ 32 + getD sums i 0
+  pub most-free : free ≤ readyCap + i * mountCap + getD sums i 0
   pub figure-is : plan .figure + leastAt (instanceIn rs sums s n) i free ≡ leastAt (instanceIn rs sums s n) 0 0
   pub batches : batchesOf plan ++ chosenAt (instanceIn rs sums s n) i free ≡ chosenAt (instanceIn rs sums s n) 0 0
 
@@ -87,7 +89,7 @@ module _ {rs sums late : List ℕ} {s n : ℕ} (P : ChooseBatchesPre rs sums lat
   }
 
   module _ {plan : MosaicPlan} {i free : ℕ} (M : PlanSoFar rs sums s n plan i free) (h : i < n) where
-    free-most : free + s ≤ 2 ^ 41
+    free-most : free + s ≤ beginCap
     free-most = omega (arith, M .most-free, P .input .most-strips, P .input .most-mount, P .input .most-sum i (omega arith))
 
     pub plan-first : FirstBatchPre rs sums late s n free i
@@ -105,10 +107,10 @@ module _ {rs sums late : List ℕ} {s n : ℕ} (P : ChooseBatchesPre rs sums lat
 
       -- a mount that waits for any strip is over early
       module _ {start : ℕ} (j : ℕ) (e : start ≡ max free (getD rs j 0)) where
-        finish-most : start + s + (getD sums q 0 - getD sums i 0) ≤ 2 ^ 39 + q * 2 ^ 32 + getD sums q 0
+        finish-most : start + s + (getD sums q 0 - getD sums i 0) ≤ readyCap + q * mountCap + getD sums q 0
         finish-most = omega (arith, plan-sub, M .most-free, C .first, P .input .most-ready j, P .input .most-mount)
 
-        finish-cap : start + s + (getD sums q 0 - getD sums i 0) ≤ 2 ^ 42
+        finish-cap : start + s + (getD sums q 0 - getD sums i 0) ≤ beginCap
         finish-cap = omega (arith, finish-most, C .last, P .input .most-strips, P .input .most-sum q (C .last))
 
         pub plan-mounted : start + s < 2 ^ 64
@@ -117,8 +119,8 @@ module _ {rs sums late : List ℕ} {s n : ℕ} (P : ChooseBatchesPre rs sums lat
         pub plan-finish : start + s + (getD sums q 0 - getD sums i 0) < 2 ^ 64
         plan-finish = omega (arith, finish-cap)
 
-        product-most : (q - i) * (start + s + (getD sums q 0 - getD sums i 0)) ≤ 40 * 2 ^ 42
-        product-most = mul-le-mul {n₂ = 40} {m₂ = 2 ^ 42} (omega (arith, C .last, P .input .most-strips)) finish-cap
+        product-most : (q - i) * (start + s + (getD sums q 0 - getD sums i 0)) ≤ mostStrips * beginCap
+        product-most = mul-le-mul {n₂ = mostStrips} {m₂ = beginCap} (omega (arith, C .last, P .input .most-strips)) finish-cap
 
         pub plan-add : AddBatchPre plan (q - i) (start + s + (getD sums q 0 - getD sums i 0))
         plan-add = record {

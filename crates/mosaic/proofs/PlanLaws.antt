@@ -1,17 +1,19 @@
 -- The whole planner: the times read from a sound section are an input of the tables, and the instance that they give agrees with the section's.
 use mathlib.Core.Path.{_≡_, refl, ap, _∙_, sym}
 use mathlib.Core.List.{List}
-use Prim.Native.Nat.{ℕ, _+_, _-_, _≤_, _^_}
+use Prim.Native.Nat.{ℕ, _+_, _-_, _≤_}
 use native.Mathlib.Decide.{decLt}
 use native.Mathlib.Omega.{arith}
 use lib.ListN.{length, getD, replicate, length-replicate, List·getD-eq-default}
 use Rattle.base.specs.Listed.{listed-length}
+use Rattle.sheet.specs.Limits.{mostStrips}
 use Rattle.sheet.specs.Sound.{MosaicSound}
 use Rattle.sheet.specs.declared.MosaicSection.{MosaicSection}
 use Rattle.rules.specs.Mosaic.{ready, benchSum}
 use Rattle.mosaic.specs.Least.{instanceOf}
 use Rattle.mosaic.specs.Chosen.{chosenBatches}
 use Rattle.mosaic.specs.Plan.{entry, batchesOf, Planned}
+use Rattle.batching.specs.Caps.{readyCap, benchCap}
 use Rattle.batching.specs.Tables.{lateLength, instanceIn, Input, FillLatePre, LateFilled}
 use Rattle.mosaic.specs.Tables.{ChooseBatchesPre, BatchesTaken, ReadyTimes, BenchSums}
 use Rattle.running.specs.FunctionLaws.{SetupTold}
@@ -22,16 +24,16 @@ use Rattle.mosaic.specs.Theorems.{mosaic-count}
 use Rattle.mosaic.specs.declared.MosaicPlan.{MosaicPlan}
 
 module _ {m : MosaicSection} (S : MosaicSound m) {rs sums : List ℕ} (R : ReadyTimes m rs) (B : BenchSums m sums) {s : ℕ} (U : SetupTold m s) where
-  most-ready : (j : ℕ) → getD rs j 0 ≤ 2 ^ 39
-  most-ready j = elim (decLt j 40) [
+  most-ready : (j : ℕ) → getD rs j 0 ≤ readyCap
+  most-ready j = elim (decLt j mostStrips) [
     | yes h ↦ omega (arith, R .at j h, ready-most S (j + 1) (omega arith))
     | no h ↦ omega (arith, List·getD-eq-default rs 0 {n = j} (omega (arith, R .len)))
   ]
 
-  most-sum : (q : ℕ) → q ≤ 40 → getD sums q 0 ≤ 2 ^ 40
+  most-sum : (q : ℕ) → q ≤ mostStrips → getD sums q 0 ≤ benchCap
   most-sum q h = omega (arith, B .at q h, bench-most S 0 q)
 
-  rise : (i q : ℕ) → i ≤ q → q ≤ 40 → getD sums q 0 ≡ getD sums i 0 + benchSum m i (q - i)
+  rise : (i q : ℕ) → i ≤ q → q ≤ mostStrips → getD sums q 0 ≡ getD sums i 0 + benchSum m i (q - i)
   rise i q h k = omega (arith, B .at q k, B .at i (omega arith), bench-upto m i q h)
 
   input-is : Input rs sums s (m .strips)

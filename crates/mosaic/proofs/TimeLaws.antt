@@ -8,6 +8,7 @@ use native.Mathlib.Decide.{decLt}
 use native.Mathlib.Omega.{arith}
 use lib.ListN.{length, getD, set, length-set}
 use lib.Seq.{getD-set-same, getD-set-other}
+use Rattle.sheet.specs.Limits.{mostTime, mostStrips}
 use Rattle.sheet.specs.Sound.{MosaicSound}
 use Rattle.sheet.specs.declared.MosaicSection.{MosaicSection}
 use Rattle.base.specs.Sums.{sumOver, greatestOver}
@@ -32,9 +33,9 @@ bench-next m j =
 -- the bench sums of the first j strips are done, and `sum` is the last
 pub record SumsSoFar (m : MosaicSection) (sums : List ℕ) (sum j : ℕ) : Type 0 where
   pub len : length sums ≡ 41
-  pub to : j ≤ 40
+  pub to : j ≤ mostStrips
   pub sum-is : sum ≡ benchSum m 0 j
-  pub sum-most : sum ≤ j * 10_000
+  pub sum-most : sum ≤ j * mostTime
   pub done : (q : ℕ) → q ≤ j → getD sums q 0 ≡ benchSum m 0 q
 
 module _ {m : MosaicSection} (S : MosaicSound m) where
@@ -48,8 +49,8 @@ module _ {m : MosaicSection} (S : MosaicSound m) where
     done = λ q h. let z : q ≡ 0 = omega arith in rw z e;
   }
 
-  module _ {sums : List ℕ} {sum j : ℕ} (M : SumsSoFar m sums sum j) (h : j < 40) where
-    next-most : sum + getD (m .bench) j 0 ≤ (j + 1) * 10_000
+  module _ {sums : List ℕ} {sum j : ℕ} (M : SumsSoFar m sums sum j) (h : j < mostStrips) where
+    next-most : sum + getD (m .bench) j 0 ≤ (j + 1) * mostTime
     next-most = omega (arith, M .sum-most, S .most-bench j)
 
     pub sums-fits : sum + getD (m .bench) j 0 < 2 ^ 64
@@ -71,22 +72,22 @@ module _ {m : MosaicSection} (S : MosaicSound m) where
           ];
         }
 
-  pub sums-end : {sums : List ℕ} {sum j : ℕ} → SumsSoFar m sums sum j → 40 ≤ j → BenchSums m sums
+  pub sums-end : {sums : List ℕ} {sum j : ℕ} → SumsSoFar m sums sum j → mostStrips ≤ j → BenchSums m sums
   sums-end M h = record { len = M .len; at = λ q l. M .done q (omega arith) }
 
 -- the ready times of the first j strips are done; a, b, c, d are the stations' sums
 pub record TimesSoFar (m : MosaicSection) (stations : ℕ) (rs : List ℕ) (a b c d j : ℕ) : Type 0 where
   pub stations-is : stations ≡ m .stations
   pub len : length rs ≡ 40
-  pub to : j ≤ 40
+  pub to : j ≤ mostStrips
   pub a-is : a ≡ stationSum m 0 j
   pub b-is : b ≡ stationSum m 1 j
   pub c-is : c ≡ stationSum m 2 j
   pub d-is : d ≡ stationSum m 3 j
-  pub a-most : a ≤ j * 10_000
-  pub b-most : b ≤ j * 10_000
-  pub c-most : c ≤ j * 10_000
-  pub d-most : d ≤ j * 10_000
+  pub a-most : a ≤ j * mostTime
+  pub b-most : b ≤ j * mostTime
+  pub c-most : c ≤ j * mostTime
+  pub d-most : d ≤ j * mostTime
   pub done : (k : ℕ) → k < j → getD rs k 0 ≡ ready m (k + 1)
 
 -- the stations' sums with strip j + 1
@@ -119,7 +120,7 @@ module _ {m : MosaicSection} (S : MosaicSound m) where
     done = λ k h. absurd (omega arith);
   }
 
-  module _ {stations a b c d j : ℕ} {rs : List ℕ} (M : TimesSoFar m stations rs a b c d j) (h : j < 40) where
+  module _ {stations a b c d j : ℕ} {rs : List ℕ} (M : TimesSoFar m stations rs a b c d j) (h : j < mostStrips) where
     pub fits-a : a + getD (m .station) (4 * j) 0 < 2 ^ 64
     fits-a = omega (arith, M .a-most, S .most-station (4 * j))
 
@@ -179,5 +180,5 @@ module _ {m : MosaicSection} (S : MosaicSound m) where
         ];
       }
 
-  pub times-end : {stations a b c d j : ℕ} {rs : List ℕ} → TimesSoFar m stations rs a b c d j → 40 ≤ j → ReadyTimes m rs
+  pub times-end : {stations a b c d j : ℕ} {rs : List ℕ} → TimesSoFar m stations rs a b c d j → mostStrips ≤ j → ReadyTimes m rs
   times-end M h = record { len = M .len; at = λ k l. M .done k (omega arith) }

@@ -10,15 +10,19 @@ use lib.Dec.{leb}
 use lib.ListN.{getD, set}
 use lib.Seq.{getD-set-same, getD-set-other}
 use Rattle.interleaving.specs.declared.State.{State}
-use Rattle.interleaving.specs.Instance.{Instance, scanOf, deskOf, weightOf}
+use Rattle.interleaving.specs.Instance.{Instance, scanOf, deskOf, weightOf, weightCap, scannerCap, stripSpan, costCap}
 use Rattle.interleaving.specs.Search.{StripLeft, scanned, finish, stepOf, LowerBound}
 use Rattle.interleaving.specs.SearchLaws.{max-right, step-left, bound-down}
 use Rattle.interleaving.specs.Consistent.{Consistent, consistent-step, scanSum}
 use Rattle.sorting_bounds.specs.Layout.{countKey, labelsLength, key-digits}
 
--- an entry is at most this
+-- an entry, at most: what a whole list costs at most
 abbrev pub entryCap : ℕ
-entryCap = 1_099_511_627_776
+entryCap = costCap
+
+-- the share of one strip in an entry, at most
+abbrev pub shareCap : ℕ
+shareCap = weightCap * (scannerCap + stripSpan)
 
 -- the counts of the three desks in the number of a count vector
 abbrev pub firstCount : ℕ → ℕ

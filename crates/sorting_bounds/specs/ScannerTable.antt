@@ -18,7 +18,7 @@ use Rattle.interleaving.specs.Consistent.{Consistent, scanSum}
 use Rattle.sorting_bounds.specs.Layout.{countKey, labelsLength, searchLength}
 use Rattle.sorting_bounds.specs.DeskBound.{boundCap}
 use Rattle.sorting_bounds.specs.ScannerBound.{entryCap, firstCount, secondCount, thirdCount, timeAt, share, entryAt, throughOf, entryOf, filledFrom}
-use Rattle.sorting_bounds.specs.ScannerBound.{Entry, EntriesFrom, scannerBound}
+use Rattle.sorting_bounds.specs.ScannerBound.{shareCap, Entry, EntriesFrom, scannerBound}
 
 -- scan_sum
 pub record ScanSum (J : List ℕ) (d n r : ℕ) : Type 0 where
@@ -73,7 +73,7 @@ pub record StripSums (J : List ℕ) (time d i next : ℕ) : Type 0 where
   pub place : d * 6 + i ≤ 18
   pub scan : scanOf J d i ≤ timeCap
   pub desk : deskOf J d i ≤ timeCap
-  pub weighted : weightOf J d i * (time + scanOf J d i + deskOf J d i) ≤ 1024 * (scannerCap + 2 * timeCap)
+  pub weighted : weightOf J d i * (time + scanOf J d i + deskOf J d i) ≤ shareCap
 
 pub strip-sums : {J : List ℕ} {time d i next : ℕ} → ThroughPre J time d i next → StripSums J time d i next
 strip-sums {J} {time} {d} {i} h = record {

@@ -10,9 +10,10 @@ ghost use Rattle.sheet.specs.Limits.{tableLength};
 use super::LABELS_LENGTH;
 use super::VECTORS;
 use interleaving::State;
+use interleaving::caps::COST_CAP;
 
-// An entry is at most this.
-const ENTRY_CAP: u64 = 1_099_511_627_776;
+// An entry is at most what a whole list costs at most.
+const ENTRY_CAP: u64 = COST_CAP;
 
 // The lesser of two numbers.
 fn lesser(a: u64, b: u64) -> u64

@@ -1,0 +1,47 @@
+-- What the times and figures of a section come to at most, each out of the limits of a sheet and of caps above it; so every sum stays within 64 bits.
+use Prim.Native.Nat.{ℕ, _+_, _*_}
+use Rattle.sheet.specs.Limits.{mostStrips, mostTime}
+
+-- when a strip is ready: at a station its own time and those of the strips before it are over
+abbrev pub readyCap : ℕ
+readyCap = mostStrips * mostTime
+
+-- what a batch takes beside its bench times
+abbrev pub mountCap : ℕ
+mountCap = mostTime
+
+-- the same of all batches, of which each has a strip
+abbrev pub mountsCap : ℕ
+mountsCap = mostStrips * mountCap
+
+-- the bench times of all strips
+abbrev pub benchCap : ℕ
+benchCap = mostStrips * mostTime
+
+-- when the bench work of a batch of the plan begins, and when the batch finishes: the last strip is ready, and then come all mounts and bench times
+abbrev pub beginCap : ℕ
+beginCap = readyCap + mountsCap + benchCap
+
+-- when the bench work of a block begins that has further mounts put before it
+abbrev pub blockCap : ℕ
+blockCap = beginCap + mountsCap
+
+-- when the bench is free after some strips of a block
+abbrev pub freeCap : ℕ
+freeCap = blockCap + benchCap
+
+-- when a batch that is tried there finishes
+abbrev pub finishCap : ℕ
+finishCap = freeCap + mountCap + benchCap
+
+-- when one batch of all strips after that batch finishes
+abbrev pub endCap : ℕ
+endCap = finishCap + mountCap + benchCap
+
+-- the figure of a batch that is tried
+abbrev pub batchCap : ℕ
+batchCap = mostStrips * finishCap
+
+-- the least figure of the strips after it: an entry of a row
+abbrev pub leastCap : ℕ
+leastCap = mostStrips * endCap
