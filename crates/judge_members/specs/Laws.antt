@@ -243,7 +243,7 @@ module _ (s : Sheet) (plan : List ℕ) (section place : ℕ) (p : Progress) (a :
 product-most : (x y : ℕ) → y ≤ ceiling → x * y ≤ x * ceiling
 product-most x y h = mul-le-mul-left x h
 
-sums-few : (d : Desks) → DesksFit d → getD (d .done) 0 0 + getD (d .done) 1 0 + getD (d .done) 2 0 ≤ 18
+sums-few : (d : Desks) → DesksFit d → getD (d .done) 0 0 + getD (d .done) 1 0 + getD (d .done) 2 0 ≤ mostDesks * mostStripsOfDesk
 sums-few d f = omega (arith, f .most-done 0, f .most-done 1, f .most-done 2)
 
 module _ (p : Progress) (b : Batch) (a : AfterBatchPre p b) where

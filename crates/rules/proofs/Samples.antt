@@ -144,14 +144,23 @@ samples =
     ∷ row (ofMosaic fourStrips (batch 1 2 4 ∷ batch 2 4 8 ∷ batch 3 8 11 ∷ [])) refused
     -- a finish later than the mount and the bench times make it
     ∷ row (ofMosaic fourStrips (batch 1 2 4 ∷ batch 2 4 9 ∷ batch 4 9 13 ∷ [])) refused
+    -- a finish at the ceiling, and one past it
+    ∷ row (ofMosaic fourStrips (batch 4 9_999_992 10_000_000 ∷ [])) (lawful 40_000_000)
+    ∷ row (ofMosaic fourStrips (batch 4 9_999_993 10_000_001 ∷ [])) refused
     -- a scanner that begins late, and a desk that waits
     ∷ row (ofSorting (twoDesks 2 5 1 1) (strip 1 1 4 ∷ strip 2 3 9 ∷ [])) (lawful 19)
     -- a desk job before its scan has ended, two scans at once, and a strip without its job
     ∷ row (ofSorting (twoDesks 2 5 1 1) (strip 1 0 1 ∷ strip 2 2 3 ∷ [])) refused
     ∷ row (ofSorting (twoDesks 2 5 1 1) (strip 1 0 2 ∷ strip 2 1 3 ∷ [])) refused
     ∷ row (ofSorting (twoDesks 2 5 1 1) (strip 1 0 2 ∷ [])) refused
+    -- a desk's finish at the ceiling, and one past it
+    ∷ row (ofSorting (twoDesks 2 5 1 1) (strip 1 0 2 ∷ strip 2 2 9_999_999 ∷ [])) (lawful 10_000_007)
+    ∷ row (ofSorting (twoDesks 2 5 1 1) (strip 1 0 2 ∷ strip 2 2 10_000_000 ∷ [])) refused
     -- a second block that is flown later than it could be
     ∷ row (ofFlight (blocksOf false 0 (1 ∷ 1 ∷ []) (2 ∷ 2 ∷ []) (1 ∷ 1 ∷ [])) 0xA (starts 0 3 ∷ starts 6 9 ∷ [])) (lawful 10)
+    -- a last pass that ends at the ceiling, and one past it
+    ∷ row (ofFlight (blocksOf false 0 (3 ∷ []) (4 ∷ []) (1 ∷ [])) 2 (starts 9_999_992 9_999_999 ∷ [])) (lawful 10_000_000)
+    ∷ row (ofFlight (blocksOf false 0 (3 ∷ []) (4 ∷ []) (1 ∷ [])) 2 (starts 9_999_993 10_000_000 ∷ [])) refused
     -- less than the delay, and more
     ∷ row (ofFlight (blocksOf false 0 (3 ∷ []) (4 ∷ []) (1 ∷ [])) 2 (starts 0 6 ∷ [])) refused
     ∷ row (ofFlight (blocksOf false 0 (3 ∷ []) (4 ∷ []) (1 ∷ [])) 2 (starts 0 8 ∷ [])) refused

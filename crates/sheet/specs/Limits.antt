@@ -7,8 +7,9 @@ mostStations = 4
 abbrev pub mostDesks : ℕ
 mostDesks = 3
 
+-- 02, Req 01: "every two-byte time" goes "up to 60,000"
 abbrev pub mostTime : ℕ
-mostTime = 10_000
+mostTime = 60_000
 
 abbrev pub mostStrips : ℕ
 mostStrips = 40
