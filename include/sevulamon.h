@@ -35,9 +35,10 @@
 #include <stddef.h>
 #include <stdint.h>
 
+/* The minor number rises with every change request that lands (docs/LANDINGS.md). */
 #define SEVULAMON_VERSION_MAJOR 1
-#define SEVULAMON_VERSION_MINOR 0
-#define SEVULAMON_VERSION "1.0"
+#define SEVULAMON_VERSION_MINOR 1
+#define SEVULAMON_VERSION "1.1"
 
 /* A plan buffer of this length is large enough for every sheet. A smaller one is refused with 2,
  * whatever the sheet. */
