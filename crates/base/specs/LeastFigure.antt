@@ -1,4 +1,4 @@
--- Figures of timetables that obey some rules, and when the rules that are fewer have the same least figure.
+-- Figures of timetables that obey some rules, and when fewer rules have the same least figure.
 use Prim.Native.Nat.{ℕ, _≤_}
 use mathlib.Core.Path.{_≡_}
 use native.Mathlib.Omega.{arith}
@@ -16,8 +16,8 @@ pub record LeastFigure {T : Type 0} (Obeys : T → Type 0) (figure : T → ℕ) 
   pub figure-is : figure timetable ≡ v
   pub least : (t : T) → Obeys t → v ≤ figure t
 
--- Where one timetable under all rules has no larger figure for each under fewer rules, a number is the least figure under all rules exactly where it is the
--- least under the fewer ones.
+-- Where for each timetable under the fewer rules there is one under all rules with no larger figure, a number is the least figure under all rules exactly
+-- where it is the least under the fewer ones.
 module _ {T : Type 0} (All Fewer : T → Type 0) (figure : T → ℕ)
     (fewer : (t : T) → All t → Fewer t) (enough : (t : T) → Fewer t → NoLarger All figure t) (v : ℕ) where
   pub same-least : (LeastFigure All figure v → LeastFigure Fewer figure v) × (LeastFigure Fewer figure v → LeastFigure All figure v)

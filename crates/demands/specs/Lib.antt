@@ -1,9 +1,8 @@
--- The three demands on the planner and the judge, in their own words and order, as theorems about calls, and behind them what the change requests of 02 ask
--- to be shown. What a theorem asks of a call is what the
--- contract of the function gives: `Called` of `planner::plan` (planner, Call.antt), `Viewed` of `sevulamon_plan` (viewer, Viewed.antt), and
--- `j ≡ judged sheet plan` of `judge::judge` and `sevulamon_judge` (judge, Judged.antt). When a plan is allowed is said by the rules alone (rules: Mosaic,
--- Sorting, Flight, Plan). Rows of bytes are lists of numbers; where a law needs that they are below 256, as those of every lent slice are, it says so
--- (`AreBytes`).
+-- The three demands on the planner and the judge, in their own words and order, as theorems about calls; behind them what the change requests of 02 ask to be
+-- shown. What a theorem asks of a call is what the contract of the function gives: `Called` of `planner::plan` (planner, Call.antt), `Viewed` of
+-- `sevulamon_plan` (viewer, Viewed.antt), and `j ≡ judged sheet plan` of `judge::judge` and `sevulamon_judge` (judge, Judged.antt). When a plan is allowed is
+-- said by the rules alone (rules: Mosaic, Sorting, Flight, Plan). Rows of bytes are lists of numbers; where a law needs that they are below 256, as those of
+-- every lent slice are, it says so (`AreBytes`).
 use Prim.Native.Nat.{ℕ, _≤_, _<_}
 use mathlib.Core.Path.{_≡_, refl, sym, ap, subst, _∙_}
 use mathlib.Core.Bool.{true}
@@ -279,23 +278,25 @@ pub record ButCeiling {T : Type 0} (Under : ℕ → T → Type 0) (t : T) : Type
   pub c : ℕ
   pub under : Under c t
 
--- passes that keep an order which the sheet allows
+-- passes that obey the rules under the ceiling c and keep an order that the sheet allows
 pub record FlightKept (f : FlightSection) (c : ℕ) (ps : List Passes) : Type 0 where
   pub order : ℕ
   pub allowed : OrderAllowed f order
-  pub lawful : FlightUnder c f ps
+  pub under : FlightUnder c f ps
   pub kept : Keeps f order ps
 
 -- v is the least figure without any ceiling exactly where it is the least within the ceiling of 10,000,000
 abbrev pub SameLeast : {T : Type 0} → (ℕ → T → Type 0) → (T → ℕ) → ℕ → Type 0
 SameLeast Under figure v =
-    (LeastFigure (Under ceiling) figure v → LeastFigure (ButCeiling Under) figure v) × (LeastFigure (ButCeiling Under) figure v → LeastFigure (Under ceiling) figure v)
+    (LeastFigure (Under ceiling) figure v → LeastFigure (ButCeiling Under) figure v)
+    × (LeastFigure (ButCeiling Under) figure v → LeastFigure (Under ceiling) figure v)
 
 same-under : {T : Type 0} (Under : ℕ → T → Type 0) (figure : T → ℕ) → ((c : ℕ) (t : T) → Under c t → NoLarger (Under ceiling) figure t)
     → (v : ℕ) → SameLeast Under figure v
 same-under Under figure enough v =
     same-least (Under ceiling) (ButCeiling Under) figure (λ t u. record { c = ceiling; under = u }) (λ t b. enough (b .c) t (b .under)) v
 
+-- For every otherwise sound sheet: for each timetable that obeys the rules under some ceiling there is a lawful one of no larger figure ..
 module _ (sheet : List ℕ) (sound : readSheet sheet .number ≡ 0) where
   whole : SheetSound (readSheet sheet)
   whole = read-sound sheet sound
@@ -308,7 +309,7 @@ module _ (sheet : List ℕ) (sound : readSheet sheet .number ≡ 0) where
       → NoLarger (SortingLawful (readSheet sheet .sorting)) (sortingFigure (readSheet sheet .sorting)) js
   ceiling-enough-sorting c js law = sorting-ceiling (readSheet sheet .sorting) (whole .sorting) js law
 
-  -- in flight one that keeps the same proper order
+  -- .. in flight one that keeps the same proper order.
   pub ceiling-enough-flight : (c w : ℕ) (ps : List Passes) → FlightUnder c (readSheet sheet .flight) ps → Keeps (readSheet sheet .flight) w ps
       → Proper (readSheet sheet .flight .blocks) w
       → NoLarger (λ qs. FlightLawful (readSheet sheet .flight) qs × Keeps (readSheet sheet .flight) w qs) (flightFigure (readSheet sheet .flight)) ps
@@ -327,10 +328,10 @@ module _ (sheet : List ℕ) (sound : readSheet sheet .number ≡ 0) where
       enough : (c : ℕ) (ps : List Passes) → FlightKept (readSheet sheet .flight) c ps
           → NoLarger (FlightKept (readSheet sheet .flight) ceiling) (flightFigure (readSheet sheet .flight)) ps
       enough c ps k =
-          let w = ceiling-enough-flight c (k .order) ps (k .lawful) (k .kept) (k .allowed .proper) in
+          let w = ceiling-enough-flight c (k .order) ps (k .under) (k .kept) (k .allowed .proper) in
           record {
             timetable = w .timetable;
-            obeys = record { order = k .order; allowed = k .allowed; lawful = w .obeys .0; kept = w .obeys .1 };
+            obeys = record { order = k .order; allowed = k .allowed; under = w .obeys .0; kept = w .obeys .1 };
             no-larger = w .no-larger;
           }
 

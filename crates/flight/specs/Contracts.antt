@@ -4,6 +4,7 @@ use mathlib.Core.List.{List}
 use Prim.Native.Nat.{ℕ, _+_, _-_, _*_, _≤_, _<_}
 use lib.ListN.{length, getD}
 use Rattle.order.specs.Order.{Proper}
+use Rattle.sheet.specs.Limits.{mostBlocks}
 use Rattle.sheet.specs.declared.FlightSection.{FlightSection}
 use Rattle.sheet.specs.Sound.{FlightSound}
 
@@ -26,9 +27,9 @@ pub record PlanBlocksPre (f : FlightSection) (rows starts : List ℕ) : Type 0 w
   pub starts-long : 64 ≤ length starts
 
 pub record CopyStartsPre (starts : List ℕ) (from n : ℕ) : Type 0 where
-  pub few : n ≤ 32
+  pub few : n ≤ mostBlocks
   pub within : from + n ≤ length starts
-  pub short : length starts ≤ 64
+  pub short : length starts ≤ 2 * mostBlocks
 
 -- n of the starts from `from` on, and zeros after them.
 pub record Copied (starts : List ℕ) (from n : ℕ) (r : List ℕ) : Type 0 where

@@ -24,15 +24,22 @@ abbrev pub largest : ℕ
 largest = 18_446_744_073_709_551_615
 
 -- What keeps every sum of the search within 64 bits: no time above timeCap, no weight above weightCap, at most 6 strips to each of 3 desks. The other caps
--- follow from these three. src/caps.rt states for the code those that it uses.
+-- follow from these four. src/caps.rt states for the code those that it uses.
 abbrev pub timeCap : ℕ
 timeCap = 2 ^ 20
 
 abbrev pub weightCap : ℕ
 weightCap = 2 ^ 10
 
+abbrev pub desksCap : ℕ
+desksCap = 3
+
+abbrev pub deskStripsCap : ℕ
+deskStripsCap = 6
+
+-- the strips of all desks
 abbrev pub stripsCap : ℕ
-stripsCap = 3 * 6
+stripsCap = desksCap * deskStripsCap
 
 -- the scanner's time: all scan times
 abbrev pub scannerCap : ℕ

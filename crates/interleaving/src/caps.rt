@@ -4,7 +4,11 @@ pub const TIME_CAP: u64 = 1 << 20;
 
 pub const WEIGHT_CAP: u64 = 1 << 10;
 
-pub const STRIPS_CAP: u64 = 3 * 6;
+pub const DESKS_CAP: u64 = 3;
+
+pub const DESK_STRIPS_CAP: u64 = 6;
+
+pub const STRIPS_CAP: u64 = DESKS_CAP * DESK_STRIPS_CAP;
 // What one strip adds to a desk's free time, and the free time.
 pub const STRIP_SPAN: u64 = 2 * TIME_CAP;
 

@@ -11,6 +11,7 @@ use borrow.Author.Tests.{lt-ltb, le-ltb, eq-eqb, ne-eqb, not-true, not-false, lt
 use Rattle.base.specs.Branch.{both}
 use Rattle.sheet.specs.Sections.{stripsOfDesk}
 use Rattle.sheet.specs.declared.MosaicSection.{MosaicSection}
+use Rattle.sheet.specs.Limits.{mostStripsOfDesk}
 use Rattle.sheet.specs.declared.SortingSection.{SortingSection}
 use Rattle.sheet.specs.declared.FlightSection.{FlightSection}
 use Rattle.rules.specs.Mosaic.{ready, finishDue}
@@ -73,7 +74,7 @@ turn-is desks strips done desk number e =
     let r = both _ _ (q .1) in
     (leb-true _ _ (p .0), leb-true _ _ (q .0), eqb-true _ _ (r .0), leb-true _ _ (r .1))
 
-pub done-few : (s : SortingSection) (d : Desks) (j : Job) (done : ℕ) → JobFollowsPre s d j → done ≡ getD (d .done) (j .desk - 1) 0 → done ≤ 6
+pub done-few : (s : SortingSection) (d : Desks) (j : Job) (done : ℕ) → JobFollowsPre s d j → done ≡ getD (d .done) (j .desk - 1) 0 → done ≤ mostStripsOfDesk
 done-few s d j done a e = rw e (a .desks .most-done (j .desk - 1))
 
 module _ (s : SortingSection) (d : Desks) (j : Job) (strips done : ℕ) (es : strips ≡ stripsOfDesk (s .counts) (j .desk))

@@ -16,6 +16,7 @@ use sheet::limits::CEILING;
 ghost use mathlib.Core.Path.{_≡_};
 ghost use Prim.Native.Nat.{_+_, _-_, _≤_, _<_};
 ghost use lib.ListN.{getD};
+ghost use Rattle.sheet.specs.Limits.{mostStripsOfDesk};
 ghost use Rattle.judge_rules.specs.Follows.{batchInRun, batchInTime, batchFollows, jobInTurn, jobInTime, jobFollows, blockInTime, blockFollows, allDone};
 ghost use Rattle.judge_rules.specs.Contracts.{BatchFollowsPre, JobFollowsPre, AfterJobPre, BlockFollowsPre};
 ghost use Rattle.running.specs.Running.{afterJob};
@@ -56,7 +57,7 @@ pub fn batch_follows(m: MosaicSection, before: Batch, b: Batch) -> bool
 }
 
 fn job_in_turn(desks: u64, strips: u64, done: u64, desk: u64, number: u64) -> bool
-    requires { ⌜ done ≤ 6 ⌝ }
+    requires { ⌜ done ≤ mostStripsOfDesk ⌝ }
     ensures { λ r. ⌜ r ≡ jobInTurn desks strips done desk number ⌝ }
 {
     if desk < 1 {

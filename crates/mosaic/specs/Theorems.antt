@@ -55,7 +55,7 @@ module _ (m : MosaicSection) (S : MosaicSound m) where
   unfolding batchAt
   mosaic-finishes i h = omega (arith, finish-at (latest (m .strips)) (chosenBatches m) (attained m S .finishes) i h, S .most-strips)
 
-  -- four bytes hold it
+  -- it has room in four bytes
   pub mosaic-figure-most : leastFigure m ≤ mostStrips * latest mostStrips
   mosaic-figure-most = rw (least-is m) (figure-most S)
 

@@ -4,7 +4,7 @@ use mathlib.Core.Path.{_≡_}
 use mathlib.Core.List.{List, _++_}
 use lib.ListN.{length}
 use Rattle.field.specs.Put.{put}
-use Rattle.sheet.specs.Limits.{mostStrips, mostBlocks, planLength}
+use Rattle.sheet.specs.Limits.{mostStrips, mostDesks, mostStripsOfDesk, mostBlocks, planLength}
 use Rattle.sheet.specs.Sound.{SortingSound, stripsInAll}
 use Rattle.sheet.specs.declared.Sheet.{Sheet}
 use Rattle.plan_format.specs.Format.{sizeOf, mosaicHeadForm, batchForm, sortingHeadForm, jobForm, flightHeadForm, passesForm}
@@ -22,7 +22,7 @@ pub record PutMosaicBatchesPre (d : List ℕ) (at : ℕ) (p : MosaicPlan) : Type
   pub room : at + sizeOf batchForm * p .batches ≤ length d
 
 pub record PutSortingJobsPre (d : List ℕ) (at : ℕ) (p : SortingPlan) : Type 0 where
-  pub few : p .jobs ≤ 18
+  pub few : p .jobs ≤ mostDesks * mostStripsOfDesk
   pub room : at + sizeOf jobForm * p .jobs ≤ length d
 
 pub record PutFlightBlocksPre (d : List ℕ) (at n : ℕ) : Type 0 where
@@ -35,7 +35,7 @@ pub record WriteMosaicPre (d : List ℕ) (at : ℕ) (p : MosaicPlan) : Type 0 wh
   pub room : at + sizeOf mosaicHeadForm + sizeOf batchForm * p .batches ≤ length d
 
 pub record WriteSortingPre (d : List ℕ) (at : ℕ) (p : SortingPlan) : Type 0 where
-  pub few : p .jobs ≤ 18
+  pub few : p .jobs ≤ mostDesks * mostStripsOfDesk
   pub room : at + sizeOf sortingHeadForm + sizeOf jobForm * p .jobs ≤ length d
 
 pub record WriteFlightPre (d : List ℕ) (at n : ℕ) : Type 0 where
@@ -51,7 +51,7 @@ pub record Written (before after : List ℕ) (at : ℕ) (bytes : List ℕ) (behi
 pub record WritePlanPre (d : List ℕ) (s : Sheet) (m : MosaicPlan) (t : SortingPlan) : Type 0 where
   pub room : planLength ≤ length d
   pub batches : m .batches ≤ mostStrips
-  pub jobs : t .jobs ≤ 18
+  pub jobs : t .jobs ≤ mostDesks * mostStripsOfDesk
   pub blocks : s .flight .blocks ≤ mostBlocks
   pub sorting : SortingSound (s .sorting)
 

@@ -1,6 +1,7 @@
--- What holds of the plan that the program takes for a sheet, for every row of bytes as a sheet: it is lawful, no plan has a smaller figure, it starts as early
--- as any, and the flight is called impossible exactly where no timetable keeps the given order. `readSheet` is what reading gives (crate sheet),
--- `PlanLawful` and `AllowedFor` are the rules' (crate rules), `chosenPlan` is Call.antt's. What that means for a call is said in crate demands.
+-- What holds of the plan that the program takes for a sheet, for every row of bytes as a sheet: it is lawful, no plan that obeys the rules under any ceiling
+-- has a smaller figure, it starts as early as any, and the flight is called impossible exactly where no timetable keeps the given order. `readSheet` is what
+-- reading gives (crate sheet), `PlanUnder`, `PlanLawful` and `AllowedFor` are the rules' (crate rules), `chosenPlan` is Call.antt's. What that means for a
+-- call is said in crate demands.
 use Prim.Native.Nat.{ℕ, _≤_, _<_}
 use mathlib.Core.Path.{_≡_, refl, sym, subst, _∙_}
 use mathlib.Core.Bool.{Bool, true, false, true≢false}
@@ -67,7 +68,7 @@ module _ (sheet : List ℕ) (sound : readSheet sheet .number ≡ 0) where
       as-given : readSheet sheet .flight .ordered ≡ true → OrderAllowed (readSheet sheet .flight) (readSheet sheet .flight .order)
       as-given o = record { proper = whole .flight .given o; as-given = λ _. refl }
 
-  -- .. and so a sheet that has a plan under any ceiling is possible.
+  -- .. and so a sheet for which some plan obeys the rules under any ceiling is possible.
   pub lawful-possible : {c : ℕ} (q : Plan) → PlanUnder c (readSheet sheet) q → isPossible (readSheet sheet .flight) ≡ true
   lawful-possible q l = go (isPossible (readSheet sheet .flight)) refl
     where
@@ -88,7 +89,7 @@ module _ (sheet : List ℕ) (sound : readSheet sheet .number ≡ 0) where
         order = h .2;
       }
 
-  -- No plan of the sheet has a smaller figure in any section, under any ceiling.
+  -- No plan that obeys the rules under any ceiling has a smaller figure in any section.
   pub plan-least-mosaic : Least figureOfMosaic (readSheet sheet) (chosenPlan (readSheet sheet))
   unfolding Least figureOfMosaic chosenPlan
   plan-least-mosaic c q l =

@@ -1,4 +1,5 @@
--- A test of the rules by samples: timetables with idle time that are lawful, with their figures, and timetables that a rule refuses, one for each rule.
+-- A test of the rules by samples: timetables with idle time that are lawful, with their figures; timetables that a rule refuses, one for each rule; and those
+-- that only the ceiling refuses.
 -- Each is tested by computing, and a test that holds says the sample in the words of the rules (tested). The sheets that 01 works through are crate
 -- worked_sheets.
 use Prim.{Unit, tt}
@@ -11,12 +12,13 @@ use lib.Dec.{eqb}
 use borrow.Author.Tests.{eqb-true}
 use Rattle.base.specs.Branch.{both}
 use Rattle.order.specs.Order.{Decides}
+use Rattle.sheet.specs.Limits.{ceiling}
 use Rattle.sheet.specs.declared.MosaicSection.{MosaicSection}
 use Rattle.sheet.specs.declared.SortingSection.{SortingSection}
 use Rattle.sheet.specs.declared.FlightSection.{FlightSection}
-use Rattle.rules.specs.Mosaic.{MosaicLawful, mosaicFigure}
-use Rattle.rules.specs.Sorting.{SortingLawful, sortingFigure}
-use Rattle.rules.specs.Flight.{FlightLawful, Keeps, OrderAllowed, flightFigure}
+use Rattle.rules.specs.Mosaic.{MosaicUnder, mosaicFigure}
+use Rattle.rules.specs.Sorting.{SortingUnder, sortingFigure}
+use Rattle.rules.specs.Flight.{FlightUnder, Keeps, OrderAllowed, flightFigure}
 use Rattle.rules.proofs.Computes.{rulesCompute}
 use Rattle.rules.proofs.Tests.{isMosaic, mosaic-decided, isSorting, sorting-decided, isFlight, flight-decided, keepsOrder, keeps-decided, mayHaveOrder}
 use Rattle.rules.proofs.Tests.{order-decided}
@@ -30,20 +32,21 @@ pub data Timetable : Type 0 where
   ofSorting : SortingSection → List Job → Timetable
   ofFlight : FlightSection → ℕ → List Passes → Timetable
 
-unfoldable pub Lawful : Timetable → Type 0
-Lawful (ofMosaic m bs) = MosaicLawful m bs
-Lawful (ofSorting s js) = SortingLawful s js
-Lawful (ofFlight f order ps) = FlightLawful f ps × Keeps f order ps × OrderAllowed f order
+-- it obeys the rules under the ceiling c
+unfoldable pub Obeys : ℕ → Timetable → Type 0
+Obeys c (ofMosaic m bs) = MosaicUnder c m bs
+Obeys c (ofSorting s js) = SortingUnder c s js
+Obeys c (ofFlight f order ps) = FlightUnder c f ps × Keeps f order ps × OrderAllowed f order
 
 unfoldable pub figureOf : Timetable → ℕ
 figureOf (ofMosaic m bs) = mosaicFigure m bs
 figureOf (ofSorting s js) = sortingFigure s js
 figureOf (ofFlight f order ps) = flightFigure f ps
 
-unfoldable pub isLawful : Timetable → Bool
-isLawful (ofMosaic m bs) = isMosaic m bs
-isLawful (ofSorting s js) = isSorting s js
-isLawful (ofFlight f order ps) = isFlight f ps && (keepsOrder f order ps && mayHaveOrder f order)
+unfoldable pub obeys : ℕ → Timetable → Bool
+obeys c (ofMosaic m bs) = isMosaic c m bs
+obeys c (ofSorting s js) = isSorting c s js
+obeys c (ofFlight f order ps) = isFlight c f ps && (keepsOrder f order ps && mayHaveOrder f order)
 
 all-three : {P Q R : Type 0} {p q r : Bool} → Decides P p → Decides Q q → Decides R r → Decides (P × Q × R) (p && (q && r))
 all-three {p = true} {q = true} {r = true} a b c = record { holds = λ e. (a .holds refl, b .holds refl, c .holds refl); fails = λ e w. absurd (true≢false e) }
@@ -51,16 +54,17 @@ all-three {p = true} {q = true} {r = false} a b c = record { holds = λ e. absur
 all-three {p = true} {q = false} {r} a b c = record { holds = λ e. absurd (true≢false (sym e)); fails = λ e w. b .fails refl (w .1) }
 all-three {p = false} {q} {r} a b c = record { holds = λ e. absurd (true≢false (sym e)); fails = λ e w. a .fails refl (w .0) }
 
-pub lawful-decided : (t : Timetable) → Decides (Lawful t) (isLawful t)
-unfolding Lawful isLawful
-lawful-decided (ofMosaic m bs) = mosaic-decided m bs
-lawful-decided (ofSorting s js) = sorting-decided s js
-lawful-decided (ofFlight f order ps) = all-three (flight-decided f ps) (keeps-decided f ps order) (order-decided f order)
+pub obeys-decided : (c : ℕ) (t : Timetable) → Decides (Obeys c t) (obeys c t)
+unfolding Obeys obeys
+obeys-decided c (ofMosaic m bs) = mosaic-decided m bs c
+obeys-decided c (ofSorting s js) = sorting-decided s js c
+obeys-decided c (ofFlight f order ps) = all-three (flight-decided f ps c) (keeps-decided f ps order) (order-decided f order)
 
--- a sample: lawful with a figure, or refused
+-- a sample: lawful with a figure; refused; or refused by the ceiling alone, and obeying the rules under a higher one
 pub data Outcome : Type 0 where
   lawful : ℕ → Outcome
   refused : Outcome
+  passes : ℕ → Outcome
 
 pub record Sample : Type 0 where
   pub timetable : Timetable
@@ -68,13 +72,15 @@ pub record Sample : Type 0 where
 
 -- what a sample says
 unfoldable pub Says : Timetable → Outcome → Type 0
-Says t (lawful figure) = Lawful t × (figureOf t ≡ figure)
-Says t refused = Lawful t → ⊥
+Says t (lawful figure) = Obeys ceiling t × (figureOf t ≡ figure)
+Says t refused = Obeys ceiling t → ⊥
+Says t (passes c) = (Obeys ceiling t → ⊥) × Obeys c t
 
 -- its test
 unfoldable pub test : Timetable → Outcome → Bool
-test t (lawful figure) = isLawful t && eqb (figureOf t) figure
-test t refused = not (isLawful t)
+test t (lawful figure) = obeys ceiling t && eqb (figureOf t) figure
+test t refused = not (obeys ceiling t)
+test t (passes c) = not (obeys ceiling t) && obeys c t
 
 none : (a : Bool) → not a ≡ true → a ≡ false
 none true e = absurd (true≢false (sym e))
@@ -84,9 +90,12 @@ none false e = refl
 pub tested : (t : Timetable) (o : Outcome) → test t o ≡ true → Says t o
 unfolding Says test
 tested t (lawful figure) e =
-    let w = both (isLawful t) (eqb (figureOf t) figure) e in
-    (lawful-decided t .holds (w .0), eqb-true _ _ (w .1))
-tested t refused e = lawful-decided t .fails (none (isLawful t) e)
+    let w = both (obeys ceiling t) (eqb (figureOf t) figure) e in
+    (obeys-decided ceiling t .holds (w .0), eqb-true _ _ (w .1))
+tested t refused e = obeys-decided ceiling t .fails (none (obeys ceiling t) e)
+tested t (passes c) e =
+    let w = both (not (obeys ceiling t)) (obeys c t) e in
+    (obeys-decided ceiling t .fails (none (obeys ceiling t) (w .0)), obeys-decided c t .holds (w .1))
 
 -- two stations, mount time 1, strips (2,1;1) (1,3;3) (4,2;2) (1,3;1), ready at 2, 4, 7, 9
 abbrev fourStrips : MosaicSection
@@ -146,7 +155,7 @@ samples =
     ∷ row (ofMosaic fourStrips (batch 1 2 4 ∷ batch 2 4 9 ∷ batch 4 9 13 ∷ [])) refused
     -- a finish at the ceiling, and one past it
     ∷ row (ofMosaic fourStrips (batch 4 9_999_992 10_000_000 ∷ [])) (lawful 40_000_000)
-    ∷ row (ofMosaic fourStrips (batch 4 9_999_993 10_000_001 ∷ [])) refused
+    ∷ row (ofMosaic fourStrips (batch 4 9_999_993 10_000_001 ∷ [])) (passes 10_000_001)
     -- a scanner that begins late, and a desk that waits
     ∷ row (ofSorting (twoDesks 2 5 1 1) (strip 1 1 4 ∷ strip 2 3 9 ∷ [])) (lawful 19)
     -- a desk job before its scan has ended, two scans at once, and a strip without its job
@@ -155,12 +164,12 @@ samples =
     ∷ row (ofSorting (twoDesks 2 5 1 1) (strip 1 0 2 ∷ [])) refused
     -- a desk's finish at the ceiling, and one past it
     ∷ row (ofSorting (twoDesks 2 5 1 1) (strip 1 0 2 ∷ strip 2 2 9_999_999 ∷ [])) (lawful 10_000_007)
-    ∷ row (ofSorting (twoDesks 2 5 1 1) (strip 1 0 2 ∷ strip 2 2 10_000_000 ∷ [])) refused
+    ∷ row (ofSorting (twoDesks 2 5 1 1) (strip 1 0 2 ∷ strip 2 2 10_000_000 ∷ [])) (passes 10_000_001)
     -- a second block that is flown later than it could be
     ∷ row (ofFlight (blocksOf false 0 (1 ∷ 1 ∷ []) (2 ∷ 2 ∷ []) (1 ∷ 1 ∷ [])) 0xA (starts 0 3 ∷ starts 6 9 ∷ [])) (lawful 10)
     -- a last pass that ends at the ceiling, and one past it
     ∷ row (ofFlight (blocksOf false 0 (3 ∷ []) (4 ∷ []) (1 ∷ [])) 2 (starts 9_999_992 9_999_999 ∷ [])) (lawful 10_000_000)
-    ∷ row (ofFlight (blocksOf false 0 (3 ∷ []) (4 ∷ []) (1 ∷ [])) 2 (starts 9_999_993 10_000_000 ∷ [])) refused
+    ∷ row (ofFlight (blocksOf false 0 (3 ∷ []) (4 ∷ []) (1 ∷ [])) 2 (starts 9_999_993 10_000_000 ∷ [])) (passes 10_000_001)
     -- less than the delay, and more
     ∷ row (ofFlight (blocksOf false 0 (3 ∷ []) (4 ∷ []) (1 ∷ [])) 2 (starts 0 6 ∷ [])) refused
     ∷ row (ofFlight (blocksOf false 0 (3 ∷ []) (4 ∷ []) (1 ∷ [])) 2 (starts 0 8 ∷ [])) refused
@@ -180,7 +189,7 @@ allTested (c ∷ cs) = test (c .timetable) (c .outcome) && allTested cs
 
 -- all of them, computed
 samples-tested : allTested samples ≡ true
-unfolding samples allTested test isLawful figureOf rulesCompute
+unfolding samples allTested test obeys figureOf rulesCompute
 samples-tested = refl
 
 -- Each sample of a list, said of all.

@@ -1,5 +1,5 @@
--- The rules as tests that can be computed, by index as the rules are: each test says whether the timetable is lawful (mosaic-decided, sorting-decided,
--- flight-decided).
+-- The rules as tests that can be computed, by index as the rules are: each test says whether the timetable obeys them under the ceiling c (mosaic-decided,
+-- sorting-decided, flight-decided).
 use Prim.Native.Nat.{ℕ, zero, suc, _+_, _-_, _*_, _≤_, _<_}
 use mathlib.Core.Path.{_≡_, refl, sym, ap, subst, _∙_}
 use mathlib.Core.Bool.{Bool, true, false, not, _&&_, _||_, true≢false}
@@ -14,13 +14,12 @@ use Rattle.base.specs.Branch.{both}
 use Rattle.order.specs.Order.{isProper, Decides}
 use Rattle.order.specs.Decided.{proper-true, true-proper}
 use Rattle.order.specs.Passes.{passAt}
-use Rattle.sheet.specs.Limits.{ceiling}
 use Rattle.sheet.specs.declared.MosaicSection.{MosaicSection}
 use Rattle.sheet.specs.declared.SortingSection.{SortingSection}
 use Rattle.sheet.specs.declared.FlightSection.{FlightSection}
-use Rattle.rules.specs.Mosaic.{ready, batchAt, batchBefore, finishDue, BatchLawful, MosaicLawful}
-use Rattle.rules.specs.Sorting.{stripsOf, scanEnd, deskFinish, jobAt, jobsOf, JobLawful, SortingLawful}
-use Rattle.rules.specs.Flight.{passesAt, passStart, passEnd, secondDue, clearAt, Clear, FlightLawful, Keeps, OrderAllowed}
+use Rattle.rules.specs.Mosaic.{ready, batchAt, batchBefore, finishDue, BatchUnder, MosaicUnder}
+use Rattle.rules.specs.Sorting.{stripsOf, scanEnd, deskFinish, jobAt, jobsOf, JobUnder, SortingUnder}
+use Rattle.rules.specs.Flight.{passesAt, passStart, passEnd, secondDue, clearAt, Clear, FlightUnder, Keeps, OrderAllowed}
 use Rattle.rules.specs.declared.Batch.{Batch}
 use Rattle.rules.specs.declared.Job.{Job}
 use Rattle.rules.specs.declared.Passes.{Passes}
@@ -70,22 +69,22 @@ decides : (P : Type 0) (r : Bool) → (r ≡ true → P) → (P → r ≡ true) 
 decides P r f g = record { holds = f; fails = λ e p. true≢false (sym (g p) ∙ e) }
 
 -- The mosaic.
-unfoldable pub batchTest : MosaicSection → Batch → Batch → Bool
-batchTest m before b =
+unfoldable pub batchTest : ℕ → MosaicSection → Batch → Batch → Bool
+batchTest c m before b =
     ltb (before .last) (b .last)
     && (leb (ready m (b .last)) (b .start)
     && (leb (before .finish) (b .start)
     && (eqb (b .finish) (finishDue m before b)
-    && leb (b .finish) ceiling)))
+    && leb (b .finish) c)))
 
-unfoldable pub batchesTest : MosaicSection → List Batch → ℕ → Bool
-batchesTest m bs i = batchTest m (batchBefore bs i) (batchAt bs i)
+unfoldable pub batchesTest : ℕ → MosaicSection → List Batch → ℕ → Bool
+batchesTest c m bs i = batchTest c m (batchBefore bs i) (batchAt bs i)
 
-unfoldable pub isMosaic : MosaicSection → List Batch → Bool
-isMosaic m bs = eqb (batchBefore bs (length bs) .last) (m .strips) && allBelow (length bs) (batchesTest m bs)
+unfoldable pub isMosaic : ℕ → MosaicSection → List Batch → Bool
+isMosaic c m bs = eqb (batchBefore bs (length bs) .last) (m .strips) && allBelow (length bs) (batchesTest c m bs)
 
-module _ (m : MosaicSection) (before b : Batch) where
-  batch-true : batchTest m before b ≡ true → BatchLawful m before b
+module _ (m : MosaicSection) (before b : Batch) (c : ℕ) where
+  batch-true : batchTest c m before b ≡ true → BatchUnder c m before b
   unfolding batchTest
   batch-true e =
       let p = both _ _ e in
@@ -100,7 +99,7 @@ module _ (m : MosaicSection) (before b : Batch) where
         within = leb-true _ _ (t .1);
       }
 
-  true-batch : BatchLawful m before b → batchTest m before b ≡ true
+  true-batch : BatchUnder c m before b → batchTest c m before b ≡ true
   unfolding batchTest
   true-batch L =
       join _ _ (lt-ltb _ _ (L .rises))
@@ -108,28 +107,28 @@ module _ (m : MosaicSection) (before b : Batch) where
       (join _ _ (le-leb _ _ (L .waits-batch))
       (join _ _ (eq-eqb _ _ (L .finishes)) (le-leb _ _ (L .within)))))
 
-module _ (m : MosaicSection) (bs : List Batch) where
-  mosaic-true : isMosaic m bs ≡ true → MosaicLawful m bs
+module _ (m : MosaicSection) (bs : List Batch) (c : ℕ) where
+  mosaic-true : isMosaic c m bs ≡ true → MosaicUnder c m bs
   unfolding isMosaic batchesTest
   mosaic-true e =
-      let w = both (eqb (batchBefore bs (length bs) .last) (m .strips)) (allBelow (length bs) (batchesTest m bs)) e in
+      let w = both (eqb (batchBefore bs (length bs) .last) (m .strips)) (allBelow (length bs) (batchesTest c m bs)) e in
       record {
-        each = λ i l. batch-true m (batchBefore bs i) (batchAt bs i) (all-true (length bs) (batchesTest m bs) (w .1) i l);
+        each = λ i l. batch-true m (batchBefore bs i) (batchAt bs i) c (all-true (length bs) (batchesTest c m bs) (w .1) i l);
         covers = eqb-true _ _ (w .0);
       }
 
-  true-mosaic : MosaicLawful m bs → isMosaic m bs ≡ true
+  true-mosaic : MosaicUnder c m bs → isMosaic c m bs ≡ true
   unfolding isMosaic batchesTest
   true-mosaic L =
       join _ _ (eq-eqb _ _ (L .covers))
-      (true-all (length bs) (batchesTest m bs) (λ i l. true-batch m (batchBefore bs i) (batchAt bs i) (L .each i l)))
+      (true-all (length bs) (batchesTest c m bs) (λ i l. true-batch m (batchBefore bs i) (batchAt bs i) c (L .each i l)))
 
-  pub mosaic-decided : Decides (MosaicLawful m bs) (isMosaic m bs)
-  mosaic-decided = decides (MosaicLawful m bs) (isMosaic m bs) mosaic-true true-mosaic
+  pub mosaic-decided : Decides (MosaicUnder c m bs) (isMosaic c m bs)
+  mosaic-decided = decides (MosaicUnder c m bs) (isMosaic c m bs) mosaic-true true-mosaic
 
 -- The sorting.
-unfoldable pub jobTest : SortingSection → Job → Bool
-jobTest s j = leb 1 (j .desk) && (leb (j .desk) (s .desks) && (leb (scanEnd s j) (j .start) && leb (deskFinish s j) ceiling))
+unfoldable pub jobTest : ℕ → SortingSection → Job → Bool
+jobTest c s j = leb 1 (j .desk) && (leb (j .desk) (s .desks) && (leb (scanEnd s j) (j .start) && leb (deskFinish s j) c))
 
 -- job i is the next strip of its desk
 unfoldable pub turnTest : List Job → ℕ → Bool
@@ -139,15 +138,15 @@ turnTest js i = eqb (jobAt js i .number) (jobsOf js (jobAt js i .desk) i + 1)
 unfoldable pub jobsTest : SortingSection → Job → Job → Bool
 jobsTest s a b = leb (scanEnd s a) (b .scan) && (not (eqb (a .desk) (b .desk)) || leb (deskFinish s a) (b .start))
 
-unfoldable pub isSorting : SortingSection → List Job → Bool
-isSorting s js =
-    allBelow (length js) (λ i. jobTest s (jobAt js i))
+unfoldable pub isSorting : ℕ → SortingSection → List Job → Bool
+isSorting c s js =
+    allBelow (length js) (λ i. jobTest c s (jobAt js i))
     && (allBelow (length js) (turnTest js)
     && (allBelow (s .desks) (λ d. eqb (jobsOf js (d + 1) (length js)) (stripsOf s (d + 1)))
     && allBelow (length js) (λ k. allBelow k (λ i. jobsTest s (jobAt js i) (jobAt js k)))))
 
-module _ (s : SortingSection) (j : Job) where
-  job-true : jobTest s j ≡ true → JobLawful s j
+module _ (s : SortingSection) (j : Job) (c : ℕ) where
+  job-true : jobTest c s j ≡ true → JobUnder c s j
   unfolding jobTest
   job-true e =
       let p = both _ _ e in
@@ -155,7 +154,7 @@ module _ (s : SortingSection) (j : Job) where
       let r = both _ _ (q .1) in
       record { least-desk = leb-true _ _ (p .0); most-desk = leb-true _ _ (q .0); after-scan = leb-true _ _ (r .0); within = leb-true _ _ (r .1) }
 
-  true-job : JobLawful s j → jobTest s j ≡ true
+  true-job : JobUnder c s j → jobTest c s j ≡ true
   unfolding jobTest
   true-job L =
       join _ _ (le-leb _ _ (L .least-desk))
@@ -180,37 +179,38 @@ module _ (s : SortingSection) (js : List Job) where
   strips-at : (desk : ℕ) → 1 ≤ desk → jobsOf js (desk - 1 + 1) (length js) ≡ stripsOf s (desk - 1 + 1) → jobsOf js desk (length js) ≡ stripsOf s desk
   strips-at desk p e = subst (λ (d : ℕ). jobsOf js d (length js) ≡ stripsOf s d) (omega arith) e
 
-  sorting-true : isSorting s js ≡ true → SortingLawful s js
-  unfolding isSorting turnTest
-  sorting-true e =
-      let w = both _ _ e in
-      let u = both _ _ (w .1) in
-      let v = both _ _ (u .1) in
-      let pair : (i k : ℕ) → i < k → k < length js → JobsTested (jobAt js i) (jobAt js k)
-      = λ i k h l. jobs-tested (jobAt js i) (jobAt js k) (all-true k (λ i. jobsTest s (jobAt js i) (jobAt js k)) (all-true (length js) (λ k. allBelow k (λ i. jobsTest s (jobAt js i) (jobAt js k))) (v .1) k l) i h) in
-      record {
-        each = λ i l. job-true s (jobAt js i) (all-true (length js) (λ i. jobTest s (jobAt js i)) (w .0) i l);
-        in-turn = λ i l. eqb-true _ _ (all-true (length js) (turnTest js) (u .0) i l);
-        all-strips =
-            λ desk p q. strips-at desk p (eqb-true _ _ (all-true (s .desks) (λ d. eqb (jobsOf js (d + 1) (length js)) (stripsOf s (d + 1))) (v .0) (desk - 1) (omega arith)));
-        one-scan = λ i k h l. pair i k h l .one-scan;
-        one-job = λ i k h l q. pair i k h l .one-job q;
-      }
+  module _ (c : ℕ) where
+    sorting-true : isSorting c s js ≡ true → SortingUnder c s js
+    unfolding isSorting turnTest
+    sorting-true e =
+        let w = both _ _ e in
+        let u = both _ _ (w .1) in
+        let v = both _ _ (u .1) in
+        let pair : (i k : ℕ) → i < k → k < length js → JobsTested (jobAt js i) (jobAt js k)
+        = λ i k h l. jobs-tested (jobAt js i) (jobAt js k) (all-true k (λ i. jobsTest s (jobAt js i) (jobAt js k)) (all-true (length js) (λ k. allBelow k (λ i. jobsTest s (jobAt js i) (jobAt js k))) (v .1) k l) i h) in
+        record {
+          each = λ i l. job-true s (jobAt js i) c (all-true (length js) (λ i. jobTest c s (jobAt js i)) (w .0) i l);
+          in-turn = λ i l. eqb-true _ _ (all-true (length js) (turnTest js) (u .0) i l);
+          all-strips =
+              λ desk p q. strips-at desk p (eqb-true _ _ (all-true (s .desks) (λ d. eqb (jobsOf js (d + 1) (length js)) (stripsOf s (d + 1))) (v .0) (desk - 1) (omega arith)));
+          one-scan = λ i k h l. pair i k h l .one-scan;
+          one-job = λ i k h l q. pair i k h l .one-job q;
+        }
 
-  true-sorting : SortingLawful s js → isSorting s js ≡ true
-  unfolding isSorting turnTest jobsTest
-  true-sorting L =
-      join _ _ (true-all (length js) (λ i. jobTest s (jobAt js i)) (λ i l. true-job s (jobAt js i) (L .each i l)))
-      (join _ _ (true-all (length js) (turnTest js) (λ i l. eq-eqb _ _ (L .in-turn i l)))
-      (join _ _
-      (true-all (s .desks) (λ d. eqb (jobsOf js (d + 1) (length js)) (stripsOf s (d + 1))) (λ d l. eq-eqb _ _ (L .all-strips (d + 1) (omega arith) (omega arith))))
-      (true-all (length js) (λ k. allBelow k (λ i. jobsTest s (jobAt js i) (jobAt js k))) (λ k l.
-      true-all k (λ i. jobsTest s (jobAt js i) (jobAt js k)) (λ i h.
-      join _ _ (le-leb _ _ (L .one-scan i k h l))
-      (suppose (eqb (jobAt js i .desk) (jobAt js k .desk)) (leb (deskFinish s (jobAt js i)) (jobAt js k .start)) (λ q. le-leb _ _ (L .one-job i k h l (eqb-true _ _ q)))))))))
+    true-sorting : SortingUnder c s js → isSorting c s js ≡ true
+    unfolding isSorting turnTest jobsTest
+    true-sorting L =
+        join _ _ (true-all (length js) (λ i. jobTest c s (jobAt js i)) (λ i l. true-job s (jobAt js i) c (L .each i l)))
+        (join _ _ (true-all (length js) (turnTest js) (λ i l. eq-eqb _ _ (L .in-turn i l)))
+        (join _ _
+        (true-all (s .desks) (λ d. eqb (jobsOf js (d + 1) (length js)) (stripsOf s (d + 1))) (λ d l. eq-eqb _ _ (L .all-strips (d + 1) (omega arith) (omega arith))))
+        (true-all (length js) (λ k. allBelow k (λ i. jobsTest s (jobAt js i) (jobAt js k))) (λ k l.
+        true-all k (λ i. jobsTest s (jobAt js i) (jobAt js k)) (λ i h.
+        join _ _ (le-leb _ _ (L .one-scan i k h l))
+        (suppose (eqb (jobAt js i .desk) (jobAt js k .desk)) (leb (deskFinish s (jobAt js i)) (jobAt js k .start)) (λ q. le-leb _ _ (L .one-job i k h l (eqb-true _ _ q)))))))))
 
-  pub sorting-decided : Decides (SortingLawful s js) (isSorting s js)
-  sorting-decided = decides (SortingLawful s js) (isSorting s js) sorting-true true-sorting
+    pub sorting-decided : Decides (SortingUnder c s js) (isSorting c s js)
+    sorting-decided = decides (SortingUnder c s js) (isSorting c s js) sorting-true true-sorting
 
 -- The flight, with its order.
 unfoldable pub blockTest : FlightSection → List Passes → ℕ → Bool
@@ -223,12 +223,12 @@ clearTest f ps p q = leb (clearAt f ps p) (passStart f ps q)
 unfoldable pub apartTest : FlightSection → List Passes → ℕ → ℕ → Bool
 apartTest f ps p q = eqb p q || (clearTest f ps p q || clearTest f ps q p)
 
-unfoldable pub isFlight : FlightSection → List Passes → Bool
-isFlight f ps =
+unfoldable pub isFlight : ℕ → FlightSection → List Passes → Bool
+isFlight c f ps =
     eqb (length ps) (f .blocks)
     && (allBelow (f .blocks) (blockTest f ps)
     && (allBelow (2 * f .blocks) (λ p. allBelow (2 * f .blocks) (apartTest f ps p))
-    && allBelow (2 * f .blocks) (λ p. leb (passEnd f ps p) ceiling)))
+    && allBelow (2 * f .blocks) (λ p. leb (passEnd f ps p) c)))
 
 -- the pass at position k starts after each pass before it in the order
 unfoldable pub startTest : FlightSection → ℕ → List Passes → ℕ → ℕ → Bool
@@ -258,32 +258,33 @@ module _ (f : FlightSection) (ps : List Passes) where
           right (eqb p q) _
           (⊎-elim (λ a. left (clearTest f ps p q) _ (le-leb _ _ a)) (λ b. right (clearTest f ps p q) _ (le-leb _ _ b)) (h n))
 
-  flight-true : isFlight f ps ≡ true → FlightLawful f ps
-  unfolding isFlight blockTest
-  flight-true e =
-      let a = both _ _ e in
-      let b = both _ _ (a .1) in
-      let c = both _ _ (b .1) in
-      record {
-        every-block = eqb-true _ _ (a .0);
-        delay-kept = λ i l. record { exact = eqb-true _ _ (all-true (f .blocks) (blockTest f ps) (b .0) i l) };
-        apart =
-            λ p q lp lq ne. apart-true p q (all-true (2 * f .blocks) (apartTest f ps p) (all-true (2 * f .blocks) (λ p. allBelow (2 * f .blocks) (apartTest f ps p)) (c .0) p lp) q lq) ne;
-        within = λ p l. leb-true _ _ (all-true (2 * f .blocks) (λ p. leb (passEnd f ps p) ceiling) (c .1) p l);
-      }
+  module _ (c : ℕ) where
+    flight-true : isFlight c f ps ≡ true → FlightUnder c f ps
+    unfolding isFlight blockTest
+    flight-true e =
+        let a = both _ _ e in
+        let b = both _ _ (a .1) in
+        let d = both _ _ (b .1) in
+        record {
+          every-block = eqb-true _ _ (a .0);
+          delay-kept = λ i l. record { exact = eqb-true _ _ (all-true (f .blocks) (blockTest f ps) (b .0) i l) };
+          apart =
+              λ p q lp lq ne. apart-true p q (all-true (2 * f .blocks) (apartTest f ps p) (all-true (2 * f .blocks) (λ p. allBelow (2 * f .blocks) (apartTest f ps p)) (d .0) p lp) q lq) ne;
+          within = λ p l. leb-true _ _ (all-true (2 * f .blocks) (λ p. leb (passEnd f ps p) c) (d .1) p l);
+        }
 
-  true-flight : FlightLawful f ps → isFlight f ps ≡ true
-  unfolding isFlight blockTest
-  true-flight L =
-      join _ _ (eq-eqb _ _ (L .every-block))
-      (join _ _ (true-all (f .blocks) (blockTest f ps) (λ i l. eq-eqb _ _ (L .delay-kept i l .exact)))
-      (join _ _
-      (true-all (2 * f .blocks) (λ p. allBelow (2 * f .blocks) (apartTest f ps p)) (λ p lp.
-      true-all (2 * f .blocks) (apartTest f ps p) (λ q lq. true-apart p q (λ ne. L .apart p q lp lq ne))))
-      (true-all (2 * f .blocks) (λ p. leb (passEnd f ps p) ceiling) (λ p l. le-leb _ _ (L .within p l)))))
+    true-flight : FlightUnder c f ps → isFlight c f ps ≡ true
+    unfolding isFlight blockTest
+    true-flight L =
+        join _ _ (eq-eqb _ _ (L .every-block))
+        (join _ _ (true-all (f .blocks) (blockTest f ps) (λ i l. eq-eqb _ _ (L .delay-kept i l .exact)))
+        (join _ _
+        (true-all (2 * f .blocks) (λ p. allBelow (2 * f .blocks) (apartTest f ps p)) (λ p lp.
+        true-all (2 * f .blocks) (apartTest f ps p) (λ q lq. true-apart p q (λ ne. L .apart p q lp lq ne))))
+        (true-all (2 * f .blocks) (λ p. leb (passEnd f ps p) c) (λ p l. le-leb _ _ (L .within p l)))))
 
-  pub flight-decided : Decides (FlightLawful f ps) (isFlight f ps)
-  flight-decided = decides (FlightLawful f ps) (isFlight f ps) flight-true true-flight
+    pub flight-decided : Decides (FlightUnder c f ps) (isFlight c f ps)
+    flight-decided = decides (FlightUnder c f ps) (isFlight c f ps) flight-true true-flight
 
   module _ (order : ℕ) where
     keeps-true : keepsOrder f order ps ≡ true → Keeps f order ps

@@ -1,4 +1,5 @@
--- The rules as they are checked member by member, in order. Equivalent.antt of crate rules_laws shows that they say the same as the rules.
+-- The rules as they are checked member by member, in order. Equivalent.antt of crate rules_laws shows that they say the same as the rules. Those of the mosaic
+-- take the ceiling as a parameter, because its lower bound is shown along the batches; those of sorting and flight are needed at 10,000,000 alone.
 use Prim.Native.Nat.{ℕ, _+_, _-_, _*_, _≤_, _<_}
 use mathlib.Core.Path.{_≡_}
 use mathlib.Core.List.{List, [], _∷_}

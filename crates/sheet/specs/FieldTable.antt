@@ -1,5 +1,5 @@
--- The field table of 01 ("The sheet"): the length of each field's content, and its values with the least and the greatest that each may be. Where the table
--- has 10,000, the upper end of a time is now `mostTime` (02, Req 01); the lower ends are the table's.
+-- The field table of 01 ("The sheet"): the length of each field's content, and its values with the least and the greatest that each may be. Where the quoted
+-- table has 10,000 the upper end of a time is now `mostTime`, 60,000 (02, Req 01); the lower ends are the table's.
 -- A field's content begins at offset c of the sheet s.
 use Prim.{Unit}
 use Prim.Native.Nat.{ℕ, zero, suc, _+_, _-_, _*_, _/_, _≤_, _<_}
@@ -31,11 +31,11 @@ pub record Value : Type 0 where
 abbrev pub value : ℕ → ℕ → ℕ → Value
 value least number most = record { least = least; number = number; most = most }
 
--- "stations m (1 byte, 1 to 4), mount time s (2 bytes, 0 to" mostTime
+-- "stations m (1 byte, 1 to 4), mount time s (2 bytes, 0 to 10,000)"
 unfoldable pub mosaicHeadValues : ℕ → ℕ → List Value
 mosaicHeadValues stations mount = value 1 stations mostStations ∷ value 0 mount mostTime ∷ []
 
--- "m station times (2 bytes each, 0 to" mostTime"; 0 means camera off), then bench time (2 bytes, 1 to" mostTime: those from station k on, of which there are n
+-- "m station times (2 bytes each, 0 to 10,000; 0 means camera off), then bench time (2 bytes, 1 to 10,000)": those from station k on, of which there are n
 unfoldable pub mosaicStripValues : List ℕ → ℕ → ℕ → ℕ → List Value
 mosaicStripValues s c k zero = value 1 (numberAt s (c + 2 * k) 2) mostTime ∷ []
 mosaicStripValues s c k (suc n) = value 0 (numberAt s (c + 2 * k) 2) mostTime ∷ mosaicStripValues s c (k + 1) n
@@ -48,11 +48,11 @@ stationTimes len = (len - 1) / 2
 unfoldable pub sortingHeadValues : ℕ → List Value
 sortingHeadValues desks = value 1 desks mostDesks ∷ []
 
--- "desk (1 byte, 1 to m), scan time, desk time (2 bytes each, 1 to" mostTime
+-- "desk (1 byte, 1 to m), scan time, desk time (2 bytes each, 1 to 10,000)"
 unfoldable pub sortingStripValues : ℕ → ℕ → ℕ → ℕ → List Value
 sortingStripValues desks desk scan time = value 1 desk desks ∷ value 1 scan mostTime ∷ value 1 time mostTime ∷ []
 
--- "first pass a, delay l, second pass b (2 bytes each; a and b 1 to" mostTime", l 0 to" mostTime
+-- "first pass a, delay l, second pass b (2 bytes each; a and b 1 to 10,000, l 0 to 10,000)"
 unfoldable pub flightBlockValues : ℕ → ℕ → ℕ → List Value
 flightBlockValues a l b = value 1 a mostTime ∷ value 0 l mostTime ∷ value 1 b mostTime ∷ []
 

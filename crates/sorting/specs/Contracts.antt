@@ -1,10 +1,10 @@
 -- The contract of the planner.
 use mathlib.Core.Path.{_≡_, refl, sym, ap, subst, _∙_}
 use mathlib.Core.List.{List}
-use Prim.Native.Nat.{ℕ, _≤_}
+use Prim.Native.Nat.{ℕ, _*_, _≤_}
 use native.Mathlib.Omega.{arith}
 use lib.ListN.{length}
-use Rattle.sheet.specs.Limits.{tableLength}
+use Rattle.sheet.specs.Limits.{mostDesks, mostStripsOfDesk, tableLength}
 use Rattle.sheet.specs.declared.SortingSection.{SortingSection}
 use Rattle.sheet.specs.Sound.{SortingSound}
 use Rattle.interleaving.specs.declared.Incumbent.{Incumbent}
@@ -29,7 +29,7 @@ pub record Planned (s : SortingSection) (table after : List ℕ) (r : SortingPla
   pub figure : r .figure ≡ leastFigure s
   pub jobs : jobsOfPlan r ≡ chosenJobs s
   pub count : r .jobs ≡ length (chosenJobs s)
-  pub most : r .jobs ≤ 18
+  pub most : r .jobs ≤ mostDesks * mostStripsOfDesk
   pub size : length after ≡ length table
   pub working : search.Used (instanceOf s) table after (leastFigure s)
 

@@ -8,22 +8,22 @@ use lib.ListN.{length, getD}
 use lib.Seq.{getD-set-same, getD-set-other}
 use Rattle.interleaving.specs.declared.State.{State}
 use Rattle.interleaving.specs.Instance.{Instance, desk-capped, scanOf, deskOf, weightOf, instanceLength, timeCap, weightCap, scannerCap, stripSpan}
-use Rattle.interleaving.specs.Instance.{freeCap, costCap}
+use Rattle.interleaving.specs.Instance.{desksCap, deskStripsCap, freeCap, costCap}
 use Rattle.interleaving.specs.Search.{StripLeft, scanned, finish, stepOf, LowerBound}
 use Rattle.interleaving.specs.SearchLaws.{max-left, max-right, max-least, step-left, bound-down}
 use Rattle.interleaving.specs.Consistent.{Consistent, consistent-step}
 
 -- what one strip adds to a desk's rest, at most: up to 6 strips of the desk come after those of the state
 abbrev pub restSpan : ℕ
-restSpan = weightCap * (freeCap + 6 * stripSpan)
+restSpan = weightCap * (freeCap + deskStripsCap * stripSpan)
 
 -- a desk's rest, at most
 abbrev pub restCap : ℕ
-restCap = 6 * restSpan
+restCap = deskStripsCap * restSpan
 
 -- any lower bound, at most: the cost so far and the rests of 3 desks, which are more than an entry of the scanner's table
 abbrev pub boundCap : ℕ
-boundCap = costCap + 3 * restCap
+boundCap = costCap + desksCap * restCap
 
 -- when strip i of desk d is done, scanned from t on, the desk being free from f on
 abbrev pub finishAlone : List ℕ → ℕ → ℕ → ℕ → ℕ → ℕ

@@ -13,7 +13,7 @@ use lib.Seq.{getD-set-same, getD-set-other}
 use borrow.Author.Tests.{le-leb, lt-leb}
 use Rattle.sheet.specs.Limits.{tableLength}
 use Rattle.interleaving.specs.declared.State.{State}
-use Rattle.interleaving.specs.Instance.{Instance, desk-capped, scanOf, deskOf, weightOf, timeCap, scannerCap}
+use Rattle.interleaving.specs.Instance.{Instance, desk-capped, scanOf, deskOf, weightOf, timeCap, deskStripsCap, scannerCap}
 use Rattle.interleaving.specs.Consistent.{Consistent, scanSum}
 use Rattle.sorting_bounds.specs.Layout.{countKey, labelsLength, searchLength}
 use Rattle.sorting_bounds.specs.DeskBound.{boundCap}
@@ -23,7 +23,7 @@ use Rattle.sorting_bounds.specs.ScannerBound.{shareCap, Entry, EntriesFr
 -- scan_sum
 pub record ScanSum (J : List ℕ) (d n r : ℕ) : Type 0 where
   pub is : r ≡ scanSum J d n
-  pub small : r ≤ 6 * timeCap
+  pub small : r ≤ deskStripsCap * timeCap
 
 -- the loop of scan_sum
 pub record SumSoFar (J : List ℕ) (d n sum i : ℕ) : Type 0 where

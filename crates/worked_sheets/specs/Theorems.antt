@@ -25,8 +25,8 @@ use Rattle.worked_sheets.specs.Table.{best, allowed, impossible}
 -- What is computed of a row.
 isPlan : Sheet → Plan → Bool
 isPlan s p =
-    isMosaic (s .mosaic) (p .batches) &&
-    (isSorting (s .sorting) (p .jobs) && (isFlight (s .flight) (p .passes) && (keepsOrder (s .flight) (p .order) (p .passes) && mayHaveOrder (s .flight) (p .order))))
+    isMosaic ceiling (s .mosaic) (p .batches) &&
+    (isSorting ceiling (s .sorting) (p .jobs) && (isFlight ceiling (s .flight) (p .passes) && (keepsOrder (s .flight) (p .order) (p .passes) && mayHaveOrder (s .flight) (p .order))))
 
 abbrev Computed : List ℕ → Claim → Type 0
 Computed sheet (ready-at times) = Says sheet (ready-at times)
@@ -47,9 +47,9 @@ plan-true s p e =
     let f = both _ _ (t .1) in
     let k = both _ _ (f .1) in
     record {
-      mosaic = mosaic-decided (s .mosaic) (p .batches) .holds (m .0);
-      sorting = sorting-decided (s .sorting) (p .jobs) .holds (t .0);
-      flight = flight-decided (s .flight) (p .passes) .holds (f .0);
+      mosaic = mosaic-decided (s .mosaic) (p .batches) ceiling .holds (m .0);
+      sorting = sorting-decided (s .sorting) (p .jobs) ceiling .holds (t .0);
+      flight = flight-decided (s .flight) (p .passes) ceiling .holds (f .0);
       kept = keeps-decided (s .flight) (p .passes) (p .order) .holds (k .0);
       order = order-decided (s .flight) (p .order) .holds (k .1);
     }

@@ -1,4 +1,4 @@
--- The batches taken are a lawful timetable, have the least figure, start as early as they can, and finish long before the ceiling.
+-- The batches taken are a lawful timetable, have the least figure, start as early as they can, and finish before the ceiling.
 -- One induction over the strips left shows all four.
 use mathlib.Core.Path.{_≡_, refl, ap, _∙_}
 use mathlib.Core.List.{List, [], _∷_}
