@@ -145,7 +145,11 @@ module _ (s : SortingSection) (h : SortingSound s) where
 
   finish-early : (i : ℕ) → i < N → Early (S i) i → finish J (S i) (F i) ≤ suc i * (2 * mostTime)
   finish-early i l e =
-      omega (arith, max-least (getD (S i .free) (F i) 0) (scanned J (S i) (F i)) (i * (2 * mostTime) + mostTime) (omega (arith, e .free (F i))) (omega (arith, e .time, scan-of s h (F i) (getD (S i .taken) (F i) 0) (in-slot i l), h .most-scan (F i * 6 + getD (S i .taken) (F i) 0))), desk-of s h (F i) (getD (S i .taken) (F i) 0) (in-slot i l), h .most-desk (F i * 6 + getD (S i .taken) (F i) 0))
+      let k : ℕ = getD (S i .taken) (F i) 0 in
+      let scan : scanned J (S i) (F i) ≤ i * (2 * mostTime) + mostTime
+      = omega (arith, e .time, scan-of s h (F i) k (in-slot i l), h .most-scan (F i * 6 + k)) in
+      let start = max-least (getD (S i .free) (F i) 0) (scanned J (S i) (F i)) (i * (2 * mostTime) + mostTime) (omega (arith, e .free (F i))) scan in
+      omega (arith, start, desk-of s h (F i) k (in-slot i l), h .most-desk (F i * 6 + k))
 
   early : (i : ℕ) → i ≤ N → Early (S i) i
   unfolding reached

@@ -25,8 +25,9 @@ use Rattle.worked_sheets.specs.Table.{best, allowed, impossible}
 -- What is computed of a row.
 isPlan : Sheet → Plan → Bool
 isPlan s p =
-    isMosaic ceiling (s .mosaic) (p .batches) &&
-    (isSorting ceiling (s .sorting) (p .jobs) && (isFlight ceiling (s .flight) (p .passes) && (keepsOrder (s .flight) (p .order) (p .passes) && mayHaveOrder (s .flight) (p .order))))
+    isMosaic ceiling (s .mosaic) (p .batches)
+    && (isSorting ceiling (s .sorting) (p .jobs)
+    && (isFlight ceiling (s .flight) (p .passes) && (keepsOrder (s .flight) (p .order) (p .passes) && mayHaveOrder (s .flight) (p .order))))
 
 abbrev Computed : List ℕ → Claim → Type 0
 Computed sheet (ready-at times) = Says sheet (ready-at times)
