@@ -65,10 +65,10 @@ costCap = stripsCap * stripCost
 abbrev pub pathCap : ℕ
 pathCap = 4 ^ stripsCap
 
--- what the search asks of such a list: at most 6 strips to a desk
+-- what the search asks of such a list
 pub record Instance (J : List ℕ) : Type 0 where
   pub size : length J ≡ instanceLength
-  pub few : (d : ℕ) → d < 3 → getD J d 0 ≤ 6
+  pub few : (d : ℕ) → d < desksCap → getD J d 0 ≤ deskStripsCap
   pub small : (k : ℕ) → getD J (3 + k) 0 ≤ timeCap
   pub light : (k : ℕ) → getD J (3 + k + 36) 0 ≤ weightCap
 
