@@ -21,6 +21,8 @@ use Rattle.sheet.specs.Sound.{SheetSound}
 use Rattle.sheet.specs.declared.FlightSection.{FlightSection}
 use Rattle.sheet.specs.declared.Sheet.{Sheet}
 use Rattle.order.specs.Order.{Proper}
+use Rattle.base.specs.Answer.{answer}
+use Rattle.base.specs.declared.Answer.{Answer}
 use Rattle.base.specs.LeastFigure.{NoLarger, LeastFigure, same-least}
 use Rattle.rules.specs.Mosaic.{batchAt, MosaicUnder, MosaicLawful, mosaicFigure}
 use Rattle.rules.specs.Sorting.{jobAt, SortingUnder, SortingLawful, sortingFigure}
@@ -40,12 +42,11 @@ use Rattle.mosaic.specs.Plan.{lasts}
 use Rattle.mosaic.specs.Theorems.{mosaic-ceiling}
 use Rattle.sorting.specs.Theorems.{sorting-ceiling}
 use Rattle.flight.specs.Theorems.{flight-ceiling}
-use Rattle.planner.specs.Call.{chosenPlan, answer, clearedTo, tableAfter, Called}
+use Rattle.planner.specs.Call.{chosenPlan, clearedTo, tableAfter, Called}
 use Rattle.planner.specs.Outcomes.{Large, Accepted, written, call-accepted, call-refused, call-small, call-cleared, ourBytes}
 use Rattle.planner.specs.TurnedBack.{TurnedBack, turned-back, turned-back-only, eleven-only, else-accepted}
 use Rattle.planner.specs.Theorems.{figureOfMosaic, figureOfSorting, figureOfFlight, Least, Impossible, plan-lawful, plan-least-mosaic, plan-least-sorting}
 use Rattle.planner.specs.Theorems.{plan-least-flight, plan-early-mosaic, plan-early-sorting, plan-early-flight, plan-earliest}
-use Rattle.planner.specs.declared.Answer.{Answer}
 use Rattle.viewer.specs.Viewed.{Viewed}
 
 -- TERMS.

@@ -2,5 +2,6 @@
 pub mod Bytes
 pub mod Field
 pub mod Put
+pub mod Members
 pub mod Numbers
 pub mod Fields

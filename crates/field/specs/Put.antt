@@ -5,7 +5,7 @@ use mathlib.Core.Path.{_≡_, refl, ap, _∙_}
 use mathlib.Core.List.{List, [], _∷_, _++_}
 use native.Mathlib.Nat.{add-zero}
 use native.Mathlib.Omega.{arith}
-use lib.ListN.{length, set, drop}
+use lib.ListN.{length, set, drop, length-append}
 use lib.Seq.{sets, sets-eq, length-sets}
 
 -- d with the bytes at the offset, and all others as they were
@@ -40,6 +40,21 @@ unfolding put holding
 put-whole d bytes h =
     let e : 0 + length bytes ≡ length bytes = omega arith in
     sets-eq bytes d 0 (omega arith) ∙ ap (λ k. bytes ++ drop k d) e
+
+-- a store, and one right behind it
+pub joined : (d d₁ d₂ : List ℕ) (at behind : ℕ) (xs ys : List ℕ) → d₁ ≡ put d at xs → d₂ ≡ put d₁ behind ys → behind ≡ at + length xs → d₂ ≡ put d at (xs ++ ys)
+joined d d₁ d₂ at behind xs ys e₁ e₂ k =
+    e₂ ∙ ap (λ (l : List ℕ). put l behind ys) e₁ ∙ ap (λ (j : ℕ). put (put d at xs) j ys) k ∙ put-more d at xs ys
+
+-- the bytes are stored at the offset, and the answer is the offset behind them
+pub record Written (before after : List ℕ) (at : ℕ) (bytes : List ℕ) (behind : ℕ) : Type 0 where
+  pub buffer : after ≡ put before at bytes
+  pub end : behind ≡ at + length bytes
+
+-- what is written behind what was written
+pub then-written : (d d₁ d₂ : List ℕ) (at at₁ at₂ : ℕ) (xs ys : List ℕ) → Written d d₁ at xs at₁ → Written d₁ d₂ at₁ ys at₂ → Written d d₂ at (xs ++ ys) at₂
+then-written d d₁ d₂ at at₁ at₂ xs ys w₁ w₂ =
+    record { buffer = joined d d₁ d₂ at at₁ xs ys (w₁ .buffer) (w₂ .buffer) (w₁ .end); end = omega (arith, w₁ .end, w₂ .end, length-append xs ys) }
 
 pub holding-none : (d : List ℕ) → d ≡ holding [] d
 unfolding holding

@@ -1,4 +1,4 @@
-// The judge of a plan: from the rules alone, the number and place of the first fault, or the figure of each section.
+// The judge of a plan: from the rules alone, the number and place of the first fault, or the figure of each section, and where the sections stand.
 use judge_layout::Part;
 use judge_layout::Verdict;
 use judge_layout::flight_part;
@@ -19,6 +19,7 @@ ghost use mathlib.Core.Path.{_≡_};
 ghost use Prim.Native.Nat.{_+_, _<_};
 ghost use Rattle.sheet.specs.Sound.{SheetSound};
 ghost use Rattle.judge.specs.Judged.{pickPart, sectionsFrom, statedFigure, turnedBack, judgedPlan, judged};
+ghost use Rattle.judge.specs.Examined.{noPart, examinedPlan, examined};
 ghost use Rattle.judge.specs.Loops.{JudgeSectionsPre, StatedFigurePre};
 
 // What the judge answers: number 0, place 0 and the figure of each section, 0 for an absent one; or the number and place of a fault and no figure.
@@ -31,6 +32,14 @@ pub struct Judged {
     pub flight: u64,
 }
 
+// What examining a plan gives: the judge's answer, and where the sections of the plan stand.
+pub struct Examined {
+    pub judged: Judged,
+    pub mosaic: Part,
+    pub sorting: Part,
+    pub flight: Part,
+}
+
 fn turn_back(number: u64, place: usize) -> Judged
     ensures { λ r. ⌜ r ≡ turnedBack number place ⌝ }
 {
@@ -40,6 +49,17 @@ fn turn_back(number: u64, place: usize) -> Judged
         mosaic: 0,
         sorting: 0,
         flight: 0,
+    }
+}
+
+fn no_part() -> Part
+    ensures { λ r. ⌜ r ≡ noPart ⌝ }
+{
+    Part {
+        right: true,
+        head: 0,
+        members: 0,
+        end: 0,
     }
 }
 
@@ -111,14 +131,11 @@ fn stated_figure(s: Sheet, plan: &[u8], section: u64, head: usize) -> u64
     head_figure(plan, section, head)
 }
 
-// Judges a plan for a sound sheet.
-fn judge_plan(s: Sheet, plan: &[u8]) -> Judged
-    requires { ⌜ SheetSound s ⌝ }
+// Judges a plan for a sound sheet by its sections.
+fn judge_plan(s: Sheet, plan: &[u8], mosaic: Part, sorting: Part, flight: Part) -> Judged
+    requires { ⌜ JudgeSectionsPre s (now plan) mosaic sorting flight ⌝ }
     ensures { λ r. ⌜ r ≡ judgedPlan s (now (plan .entry)) ⌝ }
 {
-    let mosaic = mosaic_part(s, plan);
-    let sorting = sorting_part(s, plan, mosaic.end);
-    let flight = flight_part(s, plan, sorting.end);
     let layout = layout_verdict(s, plan, mosaic, sorting, flight);
     if layout.number != 0 {
         return turn_back(layout.number, layout.place);
@@ -136,13 +153,41 @@ fn judge_plan(s: Sheet, plan: &[u8]) -> Judged
     }
 }
 
+// Examines a plan for a sound sheet.
+fn examine_plan(s: Sheet, plan: &[u8]) -> Examined
+    requires { ⌜ SheetSound s ⌝ }
+    ensures { λ r. ⌜ r ≡ examinedPlan s (now (plan .entry)) ⌝ }
+{
+    let mosaic = mosaic_part(s, plan);
+    let sorting = sorting_part(s, plan, mosaic.end);
+    let flight = flight_part(s, plan, sorting.end);
+    Examined {
+        judged: judge_plan(s, plan, mosaic, sorting, flight),
+        mosaic,
+        sorting,
+        flight,
+    }
+}
+
+// Examines a plan for a sheet, for all contents and lengths of both. Where the sheet is turned back, no section is looked for.
+pub fn examine(sheet: &[u8], plan: &[u8]) -> Examined
+    ensures { λ r. ⌜ r ≡ examined (now (sheet .entry)) (now (plan .entry)) ⌝ }
+{
+    let s = read(sheet);
+    if s.number != 0 {
+        return Examined {
+            judged: turn_back(s.number, s.place),
+            mosaic: no_part(),
+            sorting: no_part(),
+            flight: no_part(),
+        };
+    }
+    examine_plan(s, plan)
+}
+
 // Judges a plan for a sheet, for all contents and lengths of both.
 pub fn judge(sheet: &[u8], plan: &[u8]) -> Judged
     ensures { λ r. ⌜ r ≡ judged (now (sheet .entry)) (now (plan .entry)) ⌝ }
 {
-    let s = read(sheet);
-    if s.number != 0 {
-        return turn_back(s.number, s.place);
-    }
-    judge_plan(s, plan)
+    examine(sheet, plan).judged
 }

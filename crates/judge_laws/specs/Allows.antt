@@ -33,25 +33,10 @@ use Rattle.rules_laws.specs.RoundTrip.{batchKind, jobKind, passesKind, mosaic-h
 use Rattle.judge_layout.specs.Layout.{isField, partFrom, partOf, partByForms, mosaicPart, sortingPart, flightPart}
 use Rattle.judge_members.specs.Members.{present, headForm, memberForm, memberPlace, begun}
 use Rattle.judge.specs.Judged.{pickPart, partAt, sectionVerdict}
+use Rattle.judge.specs.Stated.{statedBatches, statedJobs, statedPasses, statedOrder, statedPlan}
 use Rattle.judge_laws.specs.Sections.{MosaicTrue, mosaic-judged, SortingTrue, sorting-judged, FlightTrue, flight-judged}
 use Rattle.judge_laws.specs.Laid.{part-stands}
 use Rattle.judge_laws.specs.Outcomes.{PlanRight, present-right}
-
--- what a plan states, read from its bytes; the order of a flight that is absent is the one given, or that of no pass
-unfoldable pub statedBatches : Sheet → List ℕ → List Batch
-statedBatches s plan = batchesFrom plan (mosaicPart s plan .head + sizeOf mosaicHeadForm) (mosaicPart s plan .members)
-
-unfoldable pub statedJobs : Sheet → List ℕ → List Job
-statedJobs s plan = jobsFrom plan (sortingPart s plan .head + sizeOf sortingHeadForm) (sortingPart s plan .members)
-
-unfoldable pub statedPasses : Sheet → List ℕ → List Passes
-statedPasses s plan = blocksFrom plan (flightPart s plan .head + sizeOf flightHeadForm) (flightPart s plan .members)
-
-unfoldable pub statedOrder : Sheet → List ℕ → ℕ
-statedOrder s plan = cond (ltb 0 (s .flight .blocks)) (orderFrom plan (flightPart s plan .head)) (cond (s .flight .ordered) (s .flight .order) 0)
-
-unfoldable pub statedPlan : Sheet → List ℕ → Plan
-statedPlan s plan = record { batches = statedBatches s plan; jobs = statedJobs s plan; order = statedOrder s plan; passes = statedPasses s plan }
 
 -- an absent part has no member
 absent-part : (x : Bool) (plan : List ℕ) (at : ℕ) (head member : Form) → x ≡ false → partByForms x plan at head member .members ≡ 0

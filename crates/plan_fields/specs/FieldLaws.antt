@@ -8,17 +8,12 @@ use lib.ListN.{length, set, take, length-set}
 use lib.Seq.{take-all, take-suc}
 use Rattle.field.specs.Bytes.{bytesOf}
 use Rattle.field.specs.Field.{fieldBytes}
-use Rattle.field.specs.Put.{put, put-whole, holding, put-one, put-more}
+use Rattle.field.specs.Put.{put, put-whole, holding, put-one, joined}
 use Rattle.plan_format.specs.Format.{Form, contentLength, sizeOf, widthOf, offsetOf, numbersBytes, formBytes, mosaicHeadForm, batchForm, sortingHeadForm}
 use Rattle.plan_format.specs.Format.{jobForm, flightHeadForm, passesForm, refusalForm}
 use Rattle.plan_format.specs.FormLaws.{length-numbers, length-form}
 use Rattle.rules.specs.Plan.{batchBytes, jobBytes, passesBytes, refusalBytes}
 use Rattle.plan_fields.specs.Stored.{tagBytes, partBytes, stripBytes, batch, job, passes}
-
--- a store, and one right behind it
-pub joined : (d d₁ d₂ : List ℕ) (at behind : ℕ) (xs ys : List ℕ) → d₁ ≡ put d at xs → d₂ ≡ put d₁ behind ys → behind ≡ at + length xs → d₂ ≡ put d at (xs ++ ys)
-joined d d₁ d₂ at behind xs ys e₁ e₂ k =
-    e₂ ∙ ap (λ (l : List ℕ). put l behind ys) e₁ ∙ ap (λ (j : ℕ). put (put d at xs) j ys) k ∙ put-more d at xs ys
 
 -- the tag and the content length
 tag-joined : (tag len : ℕ) → (tag ∷ []) ++ bytesOf 2 len ≡ tagBytes tag len

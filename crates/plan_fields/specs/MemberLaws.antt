@@ -3,7 +3,8 @@ use Prim.Native.Nat.{ℕ, zero, suc, _+_, _*_, _≤_, _<_}
 use mathlib.Core.Path.{_≡_, refl, sym, ap, _∙_}
 use mathlib.Core.List.{List, _++_}
 use lib.ListN.{length, getD, length-append}
-use Rattle.field.specs.Put.{put, put-none, length-put}
+use Rattle.field.specs.Put.{put}
+use Rattle.field.specs.Members.{membersTo, Storing, storing-none, storing-more, storing-all}
 use Rattle.plan_format.specs.Format.{sizeOf, batchForm, jobForm, passesForm}
 use Rattle.plan_format.specs.FormLaws.{length-form}
 use Rattle.rules.specs.Plan.{batchValues, batchBytes, jobValues, jobBytes, passesValues, passesBytes}
@@ -13,8 +14,7 @@ use Rattle.rules.specs.declared.Passes.{Passes}
 use native.Mathlib.Omega.{arith}
 use native.Mathlib.Numerals.{add-one}
 use native.Mathlib.Nat.{mul-suc, mul-zero}
-use Rattle.plan_fields.specs.Stored.{batch, job, passes, batchIn, jobIn, passesIn, membersTo}
-use Rattle.plan_fields.specs.FieldLaws.{joined}
+use Rattle.plan_fields.specs.Stored.{batch, job, passes, batchIn, jobIn, passesIn}
 
 -- the length of each field
 pub length-batch : (b : Batch) → length (batchBytes b) ≡ sizeOf batchForm
@@ -28,50 +28,6 @@ length-job j = length-form jobForm (jobValues j) refl
 pub length-passes : (p : Passes) → length (passesBytes p) ≡ sizeOf passesForm
 unfolding passesBytes
 length-passes p = length-form passesForm (passesValues p) refl
-
--- members of one size
-pub length-members : {A : Type 0} (bytes : A → List ℕ) (size : ℕ) → ((x : A) → length (bytes x) ≡ size) → (member : ℕ → A) (n : ℕ)
-    → length (membersTo bytes member n) ≡ size * n
-unfolding membersTo
-length-members bytes size each member zero = sym (mul-zero size)
-length-members bytes size each member (suc n) =
-    length-append (membersTo bytes member n) (bytes (member n)) ∙ omega (arith, length-members bytes size each member n, each (member n), more)
-  where
-    more : size * suc n ≡ size * n + size
-    more = mul-suc size n
-
--- The loops: the first i members are stored.
-pub record Storing {A : Type 0} (bytes : A → List ℕ) (member : ℕ → A) (before after : List ℕ) (at n i : ℕ) : Type 0 where
-  pub within : i ≤ n
-  pub long : length after ≡ length before
-  pub stored : after ≡ put before at (membersTo bytes member i)
-
-module _ {A : Type 0} (bytes : A → List ℕ) (member : ℕ → A) where
-  storing-none : (d : List ℕ) (at n : ℕ) → Storing bytes member d d at n 0
-  unfolding membersTo
-  storing-none d at n = record { within = omega arith; long = refl; stored = put-none d at }
-
-  members-next : (n : ℕ) → membersTo bytes member n ++ bytes (member n) ≡ membersTo bytes member (n + 1)
-  unfolding membersTo
-  members-next n = rw (add-one n)
-
-  storing-more : (size : ℕ) → ((x : A) → length (bytes x) ≡ size) → (d₀ d d₁ : List ℕ) (at n i : ℕ) → Storing bytes member d₀ d at n i → i < n
-      → d₁ ≡ put d (at + size * i) (bytes (member i)) → Storing bytes member d₀ d₁ at n (i + 1)
-  storing-more size each d₀ d d₁ at n i s l e =
-      record {
-        within = omega arith;
-        long = ap length e ∙ length-put d (at + size * i) (bytes (member i)) ∙ s .long;
-        stored =
-            joined d₀ d d₁ at (at + size * i) (membersTo bytes member i) (bytes (member i)) (s .stored) e
-            (omega (arith, length-members bytes size each member i))
-            ∙ ap (put d₀ at) (members-next i);
-      }
-
-  storing-all : (d₀ d : List ℕ) (at n i : ℕ) → Storing bytes member d₀ d at n i → n ≤ i → d ≡ put d₀ at (membersTo bytes member n)
-  storing-all d₀ d at n i s h = s .stored ∙ ap (λ (k : ℕ). put d₀ at (membersTo bytes member k)) all
-    where
-      all : i ≡ n
-      all = let w = s .within in omega arith
 
 module _ (last start finish : List ℕ) (d₀ : List ℕ) (at n : ℕ) where
   pub batches-none : Storing batchBytes (batchIn last start finish) d₀ d₀ at n 0

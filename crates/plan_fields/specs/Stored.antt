@@ -39,11 +39,6 @@ jobIn desk number scan start i = job (getD desk i 0) (getD number i 0) (getD sca
 unfoldable pub passesIn : List ℕ → List ℕ → ℕ → Passes
 passesIn first second i = passes (getD first i 0) (getD second i 0)
 
--- the bytes of the first n members
-unfoldable pub membersTo : {A : Type 0} → (A → List ℕ) → (ℕ → A) → ℕ → List ℕ
-membersTo bytes member zero = []
-membersTo bytes member (suc n) = membersTo bytes member n ++ bytes (member n)
-
 -- n members in the lists, and room for their fields
 pub record PutBatchesPre (d : List ℕ) (at : ℕ) (last start finish : List ℕ) (n : ℕ) : Type 0 where
   pub last-long : n ≤ length last

@@ -19,7 +19,7 @@ use Rattle.flight.specs.Choice.{isPossible}
 use Rattle.plan_fields.specs.FieldLaws.{length-refusal}
 use Rattle.planner.specs.Call.{Called, answerOf, plannedBytes, sheetAnswer, sheetPlan}
 use Rattle.planner.specs.Outcomes.{Large, call-refused}
-use Rattle.planner.specs.declared.Answer.{Answer}
+use Rattle.base.specs.declared.Answer.{Answer}
 use Rattle.plan_sheet.specs.Reply.{replyBytes, Replied}
 
 -- an accepted sheet's length is its plan's

@@ -2,8 +2,8 @@
 use Prim.Native.Nat.{ℕ}
 use mathlib.Core.Path.{_≡_, ap, _∙_}
 use mathlib.Core.List.{List, _++_}
-use lib.ListN.{length, length-append}
-use Rattle.field.specs.Put.{length-put}
+use lib.ListN.{length}
+use Rattle.field.specs.Put.{length-put, Written, then-written}
 use Rattle.sheet.specs.Sound.{stripsInAll}
 use Rattle.sheet.specs.declared.Sheet.{Sheet}
 use Rattle.rules.specs.Plan.{mosaicBytes, sortingBytes, flightBytes, ifPresent}
@@ -14,14 +14,8 @@ use Rattle.sorting.specs.declared.SortingPlan.{SortingPlan}
 use Rattle.flight.specs.Choice.{passesOfPlan}
 use Rattle.flight.specs.declared.FlightPlan.{FlightPlan}
 use native.Mathlib.Omega.{arith}
-use Rattle.plan_fields.specs.FieldLaws.{joined}
-use Rattle.plan_writer.specs.Written.{WriteSortingPre, WriteFlightPre, WritePlanPre, Written, planOf}
+use Rattle.plan_writer.specs.Written.{WriteSortingPre, WriteFlightPre, WritePlanPre, planOf}
 use Rattle.plan_writer.specs.SectionLaws.{mosaic-long, sorting-long}
-
--- what is written behind what was written
-then-written : (d d₁ d₂ : List ℕ) (at at₁ at₂ : ℕ) (xs ys : List ℕ) → Written d d₁ at xs at₁ → Written d₁ d₂ at₁ ys at₂ → Written d d₂ at (xs ++ ys) at₂
-then-written d d₁ d₂ at at₁ at₂ xs ys w₁ w₂ =
-    record { buffer = joined d d₁ d₂ at at₁ xs ys (w₁ .buffer) (w₂ .buffer) (w₁ .end); end = omega (arith, w₁ .end, w₂ .end, length-append xs ys) }
 
 -- The whole plan: room behind each section, and its sections joined.
 module _ (d : List ℕ) (s : Sheet) (m : MosaicPlan) (t : SortingPlan) (asked : WritePlanPre d s m t) where

@@ -1,12 +1,14 @@
 -- A section is its head and its members, stored one behind the other; an absent one is nothing.
-use Prim.Native.Nat.{ℕ, zero, suc, _+_, _*_, _≤_, _<_}
+use Prim.Native.Nat.{ℕ, _+_, _*_, _≤_, _<_}
 use mathlib.Core.Path.{_≡_, refl, sym, ap, _∙_}
 use mathlib.Core.List.{List, [], _∷_, _++_}
 use lib.ListN.{length, length-append}
-use Rattle.field.specs.Put.{put, put-none}
+use Rattle.field.specs.Put.{put, put-none, joined, Written}
+use Rattle.field.specs.Members.{membersTo, length-members}
 use Rattle.plan_format.specs.Format.{sizeOf, formBytes, mosaicHeadForm, batchForm, sortingHeadForm, jobForm, flightHeadForm, passesForm}
 use Rattle.plan_format.specs.FormLaws.{length-form}
 use Rattle.rules.specs.Plan.{mosaicBytes, sortingBytes, flightBytes, ifPresent, membersBytes, batchBytes, jobBytes, passesBytes}
+use Rattle.rules_laws.specs.Present.{present-none, present-some, present-most}
 use Rattle.mosaic.specs.Plan.{batchesOf}
 use Rattle.mosaic.specs.declared.MosaicPlan.{MosaicPlan}
 use Rattle.sorting.specs.Plan.{jobsOfPlan}
@@ -14,24 +16,13 @@ use Rattle.sorting.specs.declared.SortingPlan.{SortingPlan}
 use Rattle.flight.specs.Choice.{passesOfPlan}
 use Rattle.flight.specs.declared.FlightPlan.{FlightPlan}
 use native.Mathlib.Omega.{arith}
-use borrow.Author.Tests.{lt-ltb, le-ltb}
-use Rattle.plan_fields.specs.Stored.{batchIn, jobIn, passesIn, membersTo}
-use Rattle.plan_fields.specs.FieldLaws.{joined}
-use Rattle.plan_fields.specs.MemberLaws.{length-batch, length-job, length-passes, length-members}
-use Rattle.plan_writer.specs.Written.{Written}
+use Rattle.plan_fields.specs.Stored.{batchIn, jobIn, passesIn}
+use Rattle.plan_fields.specs.MemberLaws.{length-batch, length-job, length-passes}
 use Rattle.plan_writer.specs.Members.{batches-bytes, jobs-bytes, passes-bytes}
 
 -- An absent section stores nothing.
-present-not : (n : ℕ) (bytes : List ℕ) → n < 1 → ifPresent n bytes ≡ []
-unfolding ifPresent
-present-not n bytes h = rw (le-ltb 0 n (omega arith))
-
-present-is : (n : ℕ) (bytes : List ℕ) → 1 ≤ n → ifPresent n bytes ≡ bytes
-unfolding ifPresent
-present-is n bytes h = rw (lt-ltb 0 n (omega arith))
-
 absent : (d : List ℕ) (at n : ℕ) (bytes : List ℕ) → n < 1 → Written d d at (ifPresent n bytes) at
-absent d at n bytes h = rw (present-not n bytes h) (record { buffer = put-none d at; end = none })
+absent d at n bytes h = rw (present-none n bytes h) (record { buffer = put-none d at; end = none })
   where
     none : at ≡ at + 0
     none = omega arith
@@ -62,7 +53,7 @@ blocks-stored p d d₁ at n e = e ∙ ap (put d at) (sym (passes-bytes n p))
 section : (d d₁ d₂ : List ℕ) (at n skip size : ℕ) (head members : List ℕ) → 1 ≤ n → length head ≡ skip → length members ≡ size
     → d₁ ≡ put d at head → d₂ ≡ put d₁ (at + skip) members → Written d d₂ at (ifPresent n (head ++ members)) (at + skip + size)
 section d d₁ d₂ at n skip size head members h l m e₁ e₂ =
-    rw (present-is n (head ++ members) h)
+    rw (present-some n (head ++ members) h)
     (record { buffer = joined d d₁ d₂ at (at + skip) head members e₁ e₂ (omega arith); end = omega (arith, length-append head members) })
 
 batches-long : (p : MosaicPlan) → length (membersBytes batchBytes (batchesOf p)) ≡ sizeOf batchForm * p .batches
@@ -101,9 +92,7 @@ module _ (d d₁ d₂ : List ℕ) (at n : ℕ) where
 
 -- How long a section is at most.
 present-long : (n most : ℕ) (bytes : List ℕ) → length bytes ≤ most → length (ifPresent n bytes) ≤ most
-unfolding ifPresent
-present-long zero most bytes h = omega arith
-present-long (suc n) most bytes h = rw (lt-ltb 0 (suc n) (omega arith)) h
+present-long n most bytes h = omega (arith, present-most n bytes)
 
 pub mosaic-long : (n : ℕ) (p : MosaicPlan)
     → length (ifPresent n (mosaicBytes (p .figure) (batchesOf p))) ≤ sizeOf mosaicHeadForm + sizeOf batchForm * p .batches

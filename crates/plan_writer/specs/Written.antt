@@ -3,7 +3,6 @@ use Prim.Native.Nat.{ℕ, _+_, _*_, _≤_}
 use mathlib.Core.Path.{_≡_}
 use mathlib.Core.List.{List, _++_}
 use lib.ListN.{length}
-use Rattle.field.specs.Put.{put}
 use Rattle.sheet.specs.Limits.{mostStrips, mostDesks, mostStripsOfDesk, mostBlocks, planLength}
 use Rattle.sheet.specs.Sound.{SortingSound, stripsInAll}
 use Rattle.sheet.specs.declared.Sheet.{Sheet}
@@ -41,11 +40,6 @@ pub record WriteSortingPre (d : List ℕ) (at : ℕ) (p : SortingPlan) : Type 0 
 pub record WriteFlightPre (d : List ℕ) (at n : ℕ) : Type 0 where
   pub few : n ≤ mostBlocks
   pub room : at + sizeOf flightHeadForm + sizeOf passesForm * n ≤ length d
-
--- the bytes are stored at the offset, and the answer is the offset behind them
-pub record Written (before after : List ℕ) (at : ℕ) (bytes : List ℕ) (behind : ℕ) : Type 0 where
-  pub buffer : after ≡ put before at bytes
-  pub end : behind ≡ at + length bytes
 
 -- a plan buffer of the length that every plan fits, and plans of no more members than a sheet may have
 pub record WritePlanPre (d : List ℕ) (s : Sheet) (m : MosaicPlan) (t : SortingPlan) : Type 0 where

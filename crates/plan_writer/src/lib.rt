@@ -1,12 +1,12 @@
 // The bytes of a plan, stored into the lent buffer: its sections one behind the other, each a head and its members.
 ghost use mathlib.Core.Path.{_≡_};
-ghost use Rattle.field.specs.Put.{put};
+ghost use Rattle.field.specs.Put.{put, Written};
 ghost use Rattle.rules.specs.Plan.{membersBytes, batchBytes, jobBytes, passesBytes, mosaicBytes, sortingBytes, flightBytes, ifPresent};
 ghost use Rattle.mosaic.specs.Plan.{batchesOf};
 ghost use Rattle.sorting.specs.Plan.{jobsOfPlan};
 ghost use Rattle.flight.specs.Choice.{passesOfPlan};
 ghost use Rattle.plan_writer.specs.Written.{PutMosaicBatchesPre, PutSortingJobsPre, PutFlightBlocksPre, WriteMosaicPre, WriteSortingPre};
-ghost use Rattle.plan_writer.specs.Written.{WriteFlightPre, WritePlanPre, Written, planOf};
+ghost use Rattle.plan_writer.specs.Written.{WriteFlightPre, WritePlanPre, planOf};
 use flight::FlightPlan;
 use mosaic::MosaicPlan;
 use plan_fields::heads::put_flight_head;

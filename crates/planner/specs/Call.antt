@@ -5,6 +5,8 @@ use mathlib.Core.Bool.{cond}
 use mathlib.Core.List.{List, [], _++_}
 use lib.ListN.{length, drop}
 use lib.Dec.{ltb, eqb}
+use Rattle.base.specs.Answer.{answer}
+use Rattle.base.specs.declared.Answer.{Answer}
 use Rattle.field.specs.Put.{holding}
 use Rattle.sheet.specs.Limits.{tableLength, planLength}
 use Rattle.sheet.specs.Refusals.{tableTooSmall, bufferTooSmall, orderImpossible}
@@ -16,7 +18,6 @@ use Rattle.rules.specs.Plan.{Plan, planBytes}
 use Rattle.mosaic.specs.Chosen.{chosenBatches}
 use Rattle.sorting.specs.Plan.{chosenJobs}
 use Rattle.flight.specs.Choice.{chosenOrder, chosenPasses, isPossible}
-use Rattle.planner.specs.declared.Answer.{Answer}
 
 -- What 01 leaves to the program: the batches, the jobs, and without a given order the order that it takes. Each is defined in its section's crate.
 unfoldable pub chosenPlan : Sheet → Plan
@@ -27,9 +28,6 @@ chosenPlan s =
       order = chosenOrder (s .flight);
       passes = chosenPasses (s .flight);
     }
-
-abbrev pub answer : ℕ → ℕ → ℕ → Answer
-answer number place length = record { number = number; place = place; length = length }
 
 -- "An accepted call has number 0 and place 0, and the planner's also the plan's length; a refused one has length .. 0." "11 comes last", its place is the order
 -- field.

@@ -7,7 +7,7 @@ use native.Mathlib.Omega.{arith}
 use lib.ListN.{length, take, drop, replicate, length-append}
 use lib.Seq.{length-take-le}
 use borrow.Author.Tests.{lt-ltb, le-ltb, eq-eqb, ne-eqb, not-true, not-false}
-use Rattle.field.specs.Put.{put-whole, holding, holding-none}
+use Rattle.field.specs.Put.{put-whole, holding, holding-none, Written}
 use Rattle.sheet.specs.Limits.{tableLength, planLength}
 use Rattle.sheet.specs.Read.{readSheet}
 use Rattle.sheet.specs.Sound.{MosaicSound, FlightSound, SheetSound, stripsInAll}
@@ -32,13 +32,14 @@ use Rattle.flight.specs.Choice.{passesOfPlan, chosenOrder, chosenPasses, isPoss
 use Rattle.flight.specs.Choice as flight
 use Rattle.flight.specs.Theorems.{flight-figure}
 use Rattle.flight.specs.declared.FlightPlan.{FlightPlan}
-use Rattle.plan_writer.specs.Written.{Written, planOf}
+use Rattle.plan_writer.specs.Written.{planOf}
 use Rattle.plan_writer.specs.Written as writer
 use Rattle.plan_writer.specs.SectionLaws.{mosaic-long, sorting-long, flight-long}
 use Rattle.sheet.specs.Decode.{zeros}
-use Rattle.planner.specs.Call.{chosenPlan, answer, sheetAnswer, sheetPlan, answerOf, plannedBytes, clearedTo, tableAfter, Called, PlanWithinPre, Within}
+use Rattle.planner.specs.Call.{chosenPlan, sheetAnswer, sheetPlan, answerOf, plannedBytes, clearedTo, tableAfter, Called, PlanWithinPre, Within}
 use Rattle.planner.specs.Call.{PlanSectionsPre, Planned}
-use Rattle.planner.specs.declared.Answer.{Answer}
+use Rattle.base.specs.Answer.{answer}
+use Rattle.base.specs.declared.Answer.{Answer}
 
 -- a cleared table, in the word of the contract
 zeros-are : (n : ℕ) (t : List ℕ) → t ≡ replicate n 0 → t ≡ zeros n

@@ -14,8 +14,9 @@ use Rattle.sheet.specs.Refusals.{tableTooSmall, bufferTooSmall, orderImpossible
 use Rattle.sheet.specs.Read.{readSheet}
 use Rattle.rules.specs.Plan.{planBytes}
 use Rattle.flight.specs.Choice.{isPossible}
-use Rattle.planner.specs.Call.{chosenPlan, answer, sheetAnswer, sheetPlan, answerOf, plannedBytes, clearedTo, tableAfter, Called}
-use Rattle.planner.specs.declared.Answer.{Answer}
+use Rattle.planner.specs.Call.{chosenPlan, sheetAnswer, sheetPlan, answerOf, plannedBytes, clearedTo, tableAfter, Called}
+use Rattle.base.specs.Answer.{answer}
+use Rattle.base.specs.declared.Answer.{Answer}
 
 -- "Buffers are large enough where neither 1 nor 2 is given, the working table counted among them."
 pub record Large (plan table : List ℕ) : Type 0 where

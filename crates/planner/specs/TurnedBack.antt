@@ -10,10 +10,11 @@ use Rattle.sheet.specs.Refusals.{tableTooSmall, bufferTooSmall, orderImpossible
 use Rattle.sheet.specs.Read.{readSheet, refused}
 use Rattle.sheet.specs.Table.{RefusedFor}
 use Rattle.sheet.specs.Refused.{refused-for, refused-is, some-number, not-eleven}
-use Rattle.planner.specs.Call.{answer, sheetAnswer, answerOf, Called}
+use Rattle.planner.specs.Call.{sheetAnswer, answerOf, Called}
 use Rattle.planner.specs.Outcomes.{Large, Outcome, call-outcome}
 use Rattle.planner.specs.Theorems.{Impossible, impossible-exactly}
-use Rattle.planner.specs.declared.Answer.{Answer}
+use Rattle.base.specs.Answer.{answer}
+use Rattle.base.specs.declared.Answer.{Answer}
 
 -- The rows of the table, in the order of the checks: "The planner checks 1, 2, then each field .. 11 comes last."
 pub data TurnedBack (sheet plan table : List ℕ) (number place : ℕ) : Type 0 where

@@ -1,19 +1,12 @@
 // The planner whole: a sheet read, its sections planned, and the plan written into the lent buffer.
 ghost use Rattle.planner.specs.Call.{Called, PlanSectionsPre, PlanWithinPre, Within, Planned};
+use base::Answer;
 use sheet::Sheet;
 use sheet::limits::PLAN_LENGTH;
 use sheet::limits::TABLE_LENGTH;
 use sheet::numbers::BUFFER_TOO_SMALL;
 use sheet::numbers::ORDER_IMPOSSIBLE;
 use sheet::numbers::TABLE_TOO_SMALL;
-
-// A call's answer: 0, 0 and the plan's length, or the number and place of its refusal and 0.
-#[repr(C)]
-pub struct Answer {
-    pub number: u64,
-    pub place: usize,
-    pub length: usize,
-}
 
 // A sheet that was read. The flight is planned first: where it is impossible, nothing has been written.
 fn plan_sections(s: Sheet, plan: &mut [u8], table: &mut [u64]) -> Answer

@@ -57,8 +57,8 @@ unfoldable pub refusalBytes : ℕ → ℕ → List ℕ
 refusalBytes number place = formBytes refusalForm (number ∷ place ∷ [])
 
 -- "Sections are the sheet's, in its order": a section of no member is absent
-unfoldable pub ifPresent : ℕ → List ℕ → List ℕ
-ifPresent members bytes = cond (ltb 0 members) bytes []
+unfoldable pub ifPresent : {A : Type 0} → ℕ → List A → List A
+ifPresent members section = cond (ltb 0 members) section []
 
 -- what a plan says: the timetable of each section, in flight with an order number
 pub record Plan : Type 0 where

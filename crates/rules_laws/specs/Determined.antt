@@ -1,14 +1,13 @@
 -- The bytes of an allowed plan determine it: for a sound sheet two lawful plans with the same bytes are the same, and with them their figures.
 -- Jobs and blocks are as many as the sheet's, so the length of the plan tells how many batches there are; then each member is read back.
 use mathlib.Core.Path.{_≡_, refl, sym, ap, ap₂, _∙_}
-use mathlib.Core.Bool.{Bool, true, false, cond}
+use mathlib.Core.Bool.{cond}
 use mathlib.Core.List.{List, [], _∷_, _++_, append-assoc, append-nil}
 use Prim.Native.Nat.{ℕ, _+_, _*_, _^_, _≤_, _<_}
 use native.Mathlib.Decide.{decLt}
 use native.Mathlib.Omega.{arith}
 use lib.ListN.{length, length-append}
 use lib.Dec.{ltb}
-use borrow.Author.Tests.{lt-ltb}
 use Rattle.sheet.specs.Limits.{planLength}
 use Rattle.sheet.specs.Sound.{SheetSound, stripsInAll}
 use Rattle.sheet.specs.declared.Sheet.{Sheet}
@@ -18,6 +17,7 @@ use Rattle.rules.specs.Sorting.{sortingFigure}
 use Rattle.rules.specs.Flight.{flightFigure}
 use Rattle.rules.specs.Plan.{mosaicBytes, sortingBytes, flightBytes, ifPresent, Plan, planBytes, PlanLawful}
 use Rattle.plan_read.specs.PlanRead.{orderFrom, batchesFrom, jobsFrom, blocksFrom}
+use Rattle.rules_laws.specs.Present.{present-some, present-length, present-most}
 use Rattle.rules_laws.specs.Sections.{length-mosaic, length-sorting, length-flight, mosaic-back, sorting-back, flight-back, flight-order-back}
 use Rattle.rules_laws.specs.Fits.{batches-most, batch-fits, jobs-all, job-fits, passes-fits, flight-head-fits}
 
@@ -34,26 +34,6 @@ flightOf s p = ifPresent (s .flight .blocks) (flightBytes (flightFigure (s .flig
 pub plan-is : (s : Sheet) (p : Plan) → planBytes s p ≡ mosaicOf s p ++ sortingOf s p ++ flightOf s p
 unfolding planBytes
 plan-is s p = refl
-
-pub present-some : (n : ℕ) (l : List ℕ) → 0 < n → ifPresent n l ≡ l
-unfolding ifPresent
-present-some n l h = rw (lt-ltb 0 n h)
-
-present-length : (n : ℕ) (l : List ℕ) → length (ifPresent n l) ≡ cond (ltb 0 n) (length l) 0
-unfolding ifPresent
-present-length n l = go (ltb 0 n)
-  where
-    go : (b : Bool) → length (cond b l []) ≡ cond b (length l) 0
-    go true = refl
-    go false = refl
-
-present-most : (n : ℕ) (l : List ℕ) → length (ifPresent n l) ≤ length l
-unfolding ifPresent
-present-most n l = go (ltb 0 n)
-  where
-    go : (b : Bool) → length (cond b l []) ≤ length l
-    go true = omega arith
-    go false = omega arith
 
 no-member : {A : Type 0} (xs : List A) → length xs ≤ 0 → xs ≡ []
 no-member [] h = refl

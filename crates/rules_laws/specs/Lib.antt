@@ -7,6 +7,8 @@ pub mod FlightRunning
 pub mod Equivalent
 pub mod Members
 pub mod RoundTrip
+pub mod Joined
+pub mod Present
 pub mod Sections
 pub mod Fits
 pub mod Determined

@@ -6,7 +6,7 @@ use lib.ListN.{length}
 use Rattle.field.specs.Put.{holding}
 use Rattle.sheet.specs.Limits.{tableLength}
 use Rattle.planner.specs.Call.{answerOf, plannedBytes}
-use Rattle.planner.specs.declared.Answer.{Answer}
+use Rattle.base.specs.declared.Answer.{Answer}
 
 pub record Viewed (sheet plan planAfter : List ℕ) (r : Answer) : Type 0 where
   pub answer : r ≡ answerOf sheet (length plan) tableLength

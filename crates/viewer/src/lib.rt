@@ -1,6 +1,6 @@
 // The functions of the count viewer, which is written in C: thin, over the planner and the judge. The working table is supplied here.
+use base::Answer;
 use judge::Judged;
-use planner::Answer;
 use sheet::limits::TABLE_LENGTH;
 ghost use mathlib.Core.Path.{_≡_};
 ghost use Rattle.judge.specs.Judged.{judged};

@@ -11,7 +11,8 @@ use Rattle.sheet.specs.Read.{readSheet}
 use Rattle.sheet.specs.declared.MosaicSection.{MosaicSection}
 use Rattle.sheet.specs.declared.Sheet.{Sheet}
 use Rattle.rules.specs.Plan.{Plan, planBytes, AllowedFor}
-use Rattle.planner.specs.Call.{answer, answerOf, plannedBytes}
+use Rattle.base.specs.Answer.{answer}
+use Rattle.planner.specs.Call.{answerOf, plannedBytes}
 use Rattle.planner.specs.Theorems.{figureOfMosaic, figureOfSorting, figureOfFlight, Impossible}
 use Rattle.rules.specs.Mosaic.{ready}
 use Rattle.rules.specs.declared.Batch.{Batch}

@@ -15,7 +15,8 @@ use Rattle.rules.specs.Plan.{Plan, planBytes, PlanLawful}
 use Rattle.rules.proofs.Computes.{rulesCompute}
 use Rattle.rules.proofs.Tests.{isMosaic, mosaic-decided, isSorting, sorting-decided, isFlight, flight-decided, keepsOrder, keeps-decided, mayHaveOrder}
 use Rattle.rules.proofs.Tests.{order-decided}
-use Rattle.planner.specs.Call.{chosenPlan, answer, answerOf, plannedBytes}
+use Rattle.base.specs.Answer.{answer}
+use Rattle.planner.specs.Call.{chosenPlan, answerOf, plannedBytes}
 use Rattle.planner.specs.Computes.{plannerComputes}
 use Rattle.planner.specs.Theorems.{Least, impossible-exactly, plan-lawful, plan-least-mosaic, plan-least-sorting, plan-least-flight}
 use Rattle.flight.specs.Choice.{isPossible}

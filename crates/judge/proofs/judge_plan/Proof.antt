@@ -1,17 +1,8 @@
 -- `judge_plan` meets its contract: the layout goes first, then the sections; where neither has a fault, the stated figures are handed out.
-use Rattle.judge.specs.Loops.{stated-mosaic, stated-sorting, stated-flight, layout-wrong, section-wrong, all-right, sorting-at, flight-at}
+use Rattle.judge.specs.Loops.{stated-mosaic, stated-sorting, stated-flight, layout-wrong, section-wrong, all-right}
 use borrow.Author.Needs.{needs}
 use Rattle.judge.proofs.judge_plan.Statement.{statement}
 use Rattle.judge.proofs.judge_plan.Tie as tie
-
-mosaic-part-requires : tie.Need-mosaic-part-requires
-mosaic-part-requires c κs = search needs
-
-sorting-part-requires : tie.Need-sorting-part-requires
-sorting-part-requires c κs = sorting-at _ _ _ (c .before .before .pre) (c .mosaic-part .ensures)
-
-flight-part-requires : tie.Need-flight-part-requires
-flight-part-requires c κs = search flight-at
 
 layout-verdict-requires : tie.Need-layout-verdict-requires
 layout-verdict-requires c κs = search needs
@@ -47,9 +38,6 @@ pub judge-plan-spec : {M : Type 1} → statement M
 judge-plan-spec =
     tie.close
     (tie.spec
-    mosaic-part-requires
-    sorting-part-requires
-    flight-part-requires
     layout-verdict-requires
     turn-back-requires
     returns

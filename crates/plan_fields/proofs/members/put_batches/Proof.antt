@@ -1,8 +1,9 @@
 -- `plan_fields::members::put_batches` meets its contract: the first i batches are stored.
 use Prim.Native.Nat.{_-_}
+use Rattle.field.specs.Members.{Storing}
 use Rattle.rules.specs.Plan.{batchBytes}
 use Rattle.plan_fields.specs.Stored.{batchIn}
-use Rattle.plan_fields.specs.MemberLaws.{Storing, batches-none, batches-more, batches-all}
+use Rattle.plan_fields.specs.MemberLaws.{batches-none, batches-more, batches-all}
 use borrow.Author.Needs.{needs}
 use Rattle.plan_fields.proofs.members.put_batches.Statement.{statement}
 use Rattle.plan_fields.proofs.members.put_batches.Tie as tie

@@ -1,8 +1,9 @@
 -- `plan_fields::members::put_blocks` meets its contract: the first i blocks are stored.
 use Prim.Native.Nat.{_-_}
+use Rattle.field.specs.Members.{Storing}
 use Rattle.rules.specs.Plan.{passesBytes}
 use Rattle.plan_fields.specs.Stored.{passesIn}
-use Rattle.plan_fields.specs.MemberLaws.{Storing, blocks-none, blocks-more, blocks-all}
+use Rattle.plan_fields.specs.MemberLaws.{blocks-none, blocks-more, blocks-all}
 use borrow.Author.Needs.{needs}
 use Rattle.plan_fields.proofs.members.put_blocks.Statement.{statement}
 use Rattle.plan_fields.proofs.members.put_blocks.Tie as tie

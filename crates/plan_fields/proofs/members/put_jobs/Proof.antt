@@ -1,8 +1,9 @@
 -- `plan_fields::members::put_jobs` meets its contract: the first i jobs are stored.
 use Prim.Native.Nat.{_-_}
+use Rattle.field.specs.Members.{Storing}
 use Rattle.rules.specs.Plan.{jobBytes}
 use Rattle.plan_fields.specs.Stored.{jobIn}
-use Rattle.plan_fields.specs.MemberLaws.{Storing, jobs-none, jobs-more, jobs-all}
+use Rattle.plan_fields.specs.MemberLaws.{jobs-none, jobs-more, jobs-all}
 use borrow.Author.Needs.{needs}
 use Rattle.plan_fields.proofs.members.put_jobs.Statement.{statement}
 use Rattle.plan_fields.proofs.members.put_jobs.Tie as tie
