@@ -1,5 +1,5 @@
--- Order numbers: which are proper (Order, Decided), the pass at each position (Passes), their beginnings, and how every proper order goes through its
--- beginnings (Children).
+-- Order numbers: which are proper (Order, Decided), the pass at each position (Passes), their beginnings, that the starts of its passes determine a proper
+-- order (Rising), and how every proper order goes through its beginnings (Children).
 pub mod Order
 pub mod Beginning
 pub mod Seconds
@@ -9,5 +9,6 @@ pub mod Word
 pub mod Blocks
 pub mod Passes
 pub mod PassLaws
+pub mod Rising
 pub mod Children
 pub mod Examples
