@@ -1,12 +1,14 @@
 -- Bytes stored from an offset on: what a writer leaves in its buffer.
--- Stores one after another are one store of the joined bytes (put-more); a store from the start leaves the bytes and what stood behind them (put-whole).
-use Prim.Native.Nat.{ℕ, suc, _+_, _≤_}
+-- Stores one after another are one store of the joined bytes (put-more; put-front where a byte is stored in front of the others);
+-- a store from the start leaves the bytes and what stood behind them (put-whole).
+use Prim.Native.Nat.{ℕ, suc, _+_, _≤_, _<_}
 use mathlib.Core.Path.{_≡_, refl, ap, _∙_}
 use mathlib.Core.List.{List, [], _∷_, _++_}
 use native.Mathlib.Nat.{add-zero}
+use native.Mathlib.Numerals.{add-one}
 use native.Mathlib.Omega.{arith}
 use lib.ListN.{length, set, drop, length-append}
-use lib.Seq.{sets, sets-eq, length-sets}
+use lib.Seq.{sets, sets-eq, length-sets, set-comm}
 
 -- d with the bytes at the offset, and all others as they were
 unfoldable pub put : List ℕ → ℕ → List ℕ → List ℕ
@@ -34,6 +36,17 @@ put-more d at [] ys = ap (λ k. sets d k ys) (add-zero at)
 put-more d at (x ∷ xs) ys =
     let e : at + suc (length xs) ≡ suc at + length xs = omega arith in
     ap (λ k. sets (sets (set d at x) (suc at) xs) k ys) e ∙ put-more (set d at x) (suc at) xs ys
+
+-- a byte that stands in front of the bytes may be stored before them or after them
+put-swap : (d : List ℕ) (at from byte : ℕ) (bytes : List ℕ) → at < from → set (put d from bytes) at byte ≡ put (set d at byte) from bytes
+unfolding put
+put-swap d at from byte [] h = refl
+put-swap d at from byte (x ∷ xs) h =
+    put-swap (set d from x) at (suc from) byte xs (omega arith) ∙ ap (λ l. sets l (suc from) xs) (set-comm d from at x byte (omega arith))
+
+pub put-front : (d : List ℕ) (at byte : ℕ) (bytes : List ℕ) → set (put d (at + 1) bytes) at byte ≡ put d at (byte ∷ bytes)
+unfolding put
+put-front d at byte bytes = put-swap d at (at + 1) byte bytes (omega arith) ∙ ap (λ k. sets (set d at byte) k bytes) (add-one at)
 
 pub put-whole : (d bytes : List ℕ) → length bytes ≤ length d → put d 0 bytes ≡ holding bytes d
 unfolding put holding

@@ -1,0 +1,34 @@
+-- A number in decimal columns: right-aligned, its digits from the highest place to the units, and a filler left of its first digit.
+-- A filler of a space gives the columns of a page; a filler of the digit 0 gives leading zeros.
+use Prim.Native.Nat.{ℕ, zero, suc, _+_, _-_, _*_, _/_, _%_, _^_}
+use mathlib.Core.Bool.{cond}
+use mathlib.Core.List.{List, [], _∷_}
+use lib.ListN.{length}
+use lib.Dec.{ltb}
+
+-- the digits 0 to 9 are the bytes 48 to 57
+abbrev pub zeroDigit : ℕ
+zeroDigit = 48
+
+abbrev pub space : ℕ
+space = 32
+
+-- the column of what is left of a number where its lower digits are cut off: its last digit, or the filler where nothing is left
+unfoldable pub columnOf : ℕ → ℕ → ℕ
+columnOf filler rest = cond (ltb 0 rest) (zeroDigit + rest % 10) filler
+
+-- the column of a number so many places left of its units: its digit there; left of its first digit, the filler.
+-- The units always have a digit, so that 0 is written 0.
+unfoldable pub columnAt : ℕ → ℕ → ℕ → ℕ
+columnAt filler value zero = zeroDigit + value % 10
+columnAt filler value (suc k) = columnOf filler (value / 10 ^ suc k)
+
+-- a number in so many columns, right-aligned: the column of the highest place first
+unfoldable pub columns : ℕ → ℕ → ℕ → List ℕ
+columns filler zero value = []
+columns filler (suc k) value = columnAt filler value k ∷ columns filler k value
+
+-- the number that columns say: a digit counts, a filler does not (a byte up to the digit 0 counts as 0)
+unfoldable pub columnsValue : List ℕ → ℕ
+columnsValue [] = 0
+columnsValue (c ∷ cs) = (c - zeroDigit) * 10 ^ length cs + columnsValue cs
