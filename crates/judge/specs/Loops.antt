@@ -311,6 +311,14 @@ module _ (s : Sheet) (plan : List ℕ) (layout : Verdict) (el : layout ≡ layou
     all-right mosaic sorting flight h e₁ e₂ e₃ = rw (← el, eq-eqb _ _ hl, ← ev, eq-eqb _ _ h, e₁, e₂, e₃)
 
 module _ (sheet plan : List ℕ) (s : Sheet) (es : s ≡ readSheet sheet) where
+  pub sheet-wrong : (r : Judged) → (s .number ≡ 0 → ⊥) → r ≡ turnedBack (s .number) (s .place) → r ≡ judged sheet plan
+  unfolding judged
+  sheet-wrong r h e = e ∙ rw (← es, ne-eqb _ _ h)
+
+  pub sheet-right : (r : Judged) → s .number ≡ 0 → r ≡ judgedPlan s plan → r ≡ judged sheet plan
+  unfolding judged
+  sheet-right r h e = e ∙ rw (← es, eq-eqb _ _ h)
+
   pub sheet-sound : s .number ≡ 0 → SheetSound s
   sheet-sound h = rw es (read-sound sheet (sym (ap (λ x. x .number) es) ∙ h))
 

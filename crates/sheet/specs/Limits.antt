@@ -33,3 +33,7 @@ tableLength = 6_400
 
 abbrev pub planLength : ℕ
 planLength = 1_095
+
+-- 02, Req 02: "a page buffer below 3,069 bytes" is too small
+abbrev pub pageLength : ℕ
+pageLength = 3_069

@@ -19,3 +19,5 @@ pub const CEILING: u64 = 10_000_000;
 pub const TABLE_LENGTH: usize = 6_400;
 
 pub const PLAN_LENGTH: usize = 1_095;
+// A page buffer (02, Req 02): a line of 33 bytes for each head and each member that a plan may have.
+pub const PAGE_LENGTH: usize = 3_069;
