@@ -14,12 +14,12 @@ membersTo bytes member zero = []
 membersTo bytes member (suc n) = membersTo bytes member n ++ bytes (member n)
 
 -- members of one size
-pub length-members : {A : Type 0} (bytes : A → List ℕ) (size : ℕ) → ((x : A) → length (bytes x) ≡ size) → (member : ℕ → A) (n : ℕ)
+pub length-members : {A : Type 0} (bytes : A → List ℕ) (member : ℕ → A) (size : ℕ) → ((i : ℕ) → length (bytes (member i)) ≡ size) → (n : ℕ)
     → length (membersTo bytes member n) ≡ size * n
 unfolding membersTo
-length-members bytes size each member zero = sym (mul-zero size)
-length-members bytes size each member (suc n) =
-    length-append (membersTo bytes member n) (bytes (member n)) ∙ omega (arith, length-members bytes size each member n, each (member n), more)
+length-members bytes member size each zero = sym (mul-zero size)
+length-members bytes member size each (suc n) =
+    length-append (membersTo bytes member n) (bytes (member n)) ∙ omega (arith, length-members bytes member size each n, each n, more)
   where
     more : size * suc n ≡ size * n + size
     more = mul-suc size n
@@ -39,7 +39,7 @@ module _ {A : Type 0} (bytes : A → List ℕ) (member : ℕ → A) where
   unfolding membersTo
   members-next n = rw (add-one n)
 
-  pub storing-more : (size : ℕ) → ((x : A) → length (bytes x) ≡ size) → (d₀ d d₁ : List ℕ) (at n i : ℕ) → Storing bytes member d₀ d at n i → i < n
+  pub storing-more : (size : ℕ) → ((i : ℕ) → length (bytes (member i)) ≡ size) → (d₀ d d₁ : List ℕ) (at n i : ℕ) → Storing bytes member d₀ d at n i → i < n
       → d₁ ≡ put d (at + size * i) (bytes (member i)) → Storing bytes member d₀ d₁ at n (i + 1)
   storing-more size each d₀ d d₁ at n i s l e =
       record {
@@ -47,7 +47,7 @@ module _ {A : Type 0} (bytes : A → List ℕ) (member : ℕ → A) where
         long = ap length e ∙ length-put d (at + size * i) (bytes (member i)) ∙ s .long;
         stored =
             joined d₀ d d₁ at (at + size * i) (membersTo bytes member i) (bytes (member i)) (s .stored) e
-            (omega (arith, length-members bytes size each member i))
+            (omega (arith, length-members bytes member size each i))
             ∙ ap (put d₀ at) (members-next i);
       }
 

@@ -20,7 +20,7 @@ use Rattle.sheet.specs.declared.FlightSection.{FlightSection}
 use Rattle.rules.specs.Mosaic.{noBatch, mosaicFigure}
 use Rattle.rules.specs.Sorting.{stripsOf, sortingFigure}
 use Rattle.rules.specs.Flight.{flightFigure}
-use Rattle.rules.specs.Plan.{membersBytes, batchBytes, mosaicBytes, jobBytes, sortingBytes, passesBytes, flightBytes, ifPresent, Plan, planBytes, Allowed}
+use Rattle.rules.specs.Plan.{membersBytes, batchBytes, mosaicBytes, jobBytes, sortingBytes, passesBytes, flightBytes, ifPresent, planBytes, PlanLawful, Allowed}
 use Rattle.plan_read.specs.PlanRead.{figureFrom, orderFrom, batchFrom, jobFrom, passesFrom, membersFrom, batchesFrom, jobsFrom, blocksFrom}
 use Rattle.running.specs.Running.{MosaicRunsUnder, MosaicRuns, freeDesks, AllDone, SortingRuns, FlightRuns}
 use Rattle.rules.specs.declared.Batch.{Batch}
@@ -60,7 +60,7 @@ module _ (s : Sheet) (plan : List ℕ) where
       subst (λ (at : ℕ). MosaicTrue s plan (mosaicPart s plan) begun (batchesFrom plan at (mosaicPart s plan .members))) (omega arith)
       (mosaic-judged s plan (mosaicPart s plan) (mosaicPart s plan .members) 0 begun (present-right s plan 1 h e))
 
-  mosaic-none : ltb 0 (s .mosaic .strips) ≡ false → statedBatches s plan ≡ []
+  pub mosaic-none : ltb 0 (s .mosaic .strips) ≡ false → statedBatches s plan ≡ []
   unfolding statedBatches mosaicPart
   mosaic-none h = none-read batchFrom (sizeOf batchForm) plan _ _ (absent-part (ltb 0 (s .mosaic .strips)) plan 0 mosaicHeadForm batchForm h)
 
@@ -85,7 +85,7 @@ module _ (s : Sheet) (plan : List ℕ) where
       subst (λ (at : ℕ). SortingTrue s plan (sortingPart s plan) begun (jobsFrom plan at (sortingPart s plan .members))) (omega arith)
       (sorting-judged s plan (sortingPart s plan) (sortingPart s plan .members) 0 begun (present-right s plan 2 h e))
 
-  sorting-none : ltb 0 (stripsInAll (s .sorting)) ≡ false → statedJobs s plan ≡ []
+  pub sorting-none : ltb 0 (stripsInAll (s .sorting)) ≡ false → statedJobs s plan ≡ []
   unfolding statedJobs sortingPart
   sorting-none h =
       none-read jobFrom (sizeOf jobForm) plan _ _ (absent-part (ltb 0 (stripsInAll (s .sorting))) plan (mosaicPart s plan .end) sortingHeadForm jobForm h)
@@ -133,7 +133,7 @@ module _ (s : Sheet) (plan : List ℕ) (sound : SheetSound s) where
   unfolding present partAt pickPart
   flight-true e h = flight-judged s plan (flightPart s plan) begun (present-right s plan 3 h e)
 
-  flight-none : ltb 0 (s .flight .blocks) ≡ false → statedPasses s plan ≡ []
+  pub flight-none : ltb 0 (s .flight .blocks) ≡ false → statedPasses s plan ≡ []
   unfolding statedPasses flightPart
   flight-none h =
       none-read passesFrom (sizeOf passesForm) plan _ _ (absent-part (ltb 0 (s .flight .blocks)) plan (sortingPart s plan .end) flightHeadForm passesForm h)
@@ -160,6 +160,19 @@ module _ (s : Sheet) (plan : List ℕ) (sound : SheetSound s) where
       → figureFrom flightHeadForm plan (flightPart s plan .head) ≡ flightFigure (s .flight) (statedPasses s plan)
   unfolding statedPasses
   flight-figure-read e h = flight-true e h .figure
+
+-- what is stated is lawful
+pub stated-lawful : (s : Sheet) (plan : List ℕ) → SheetSound s → PlanRight s plan → PlanLawful s (statedPlan s plan)
+unfolding statedPlan
+stated-lawful s plan sound r =
+    let f = runs-flight (s .flight) (statedOrder s plan) (statedPasses s plan) (sound .flight) (flight-read s plan sound (r .sections .flight)) in
+    record {
+      mosaic = runs-mosaic (s .mosaic) (statedBatches s plan) (mosaic-read s plan (r .sections .mosaic));
+      sorting = runs-sorting (s .sorting) (statedJobs s plan) (sound .sorting) (sorting-read s plan sound (r .sections .sorting));
+      flight = f .0;
+      kept = f .1;
+      order = f .2;
+    }
 
 -- the bytes of a section that is present state its figure
 same-bytes : {A : Type 0} (bytes : A → List ℕ) (x : Bool) (a b : A) → (x ≡ true → a ≡ b) → cond x (bytes a) [] ≡ cond x (bytes b) []
@@ -278,18 +291,4 @@ module _ (s : Sheet) (plan : List ℕ) (bytes : AreBytes plan) (sound : SheetSou
       (drop (flightPart s plan .end) plan) nothing-behind
 
   pub right-allowed : Allowed s plan
-  unfolding statedPlan
-  right-allowed =
-      let f = runs-flight (s .flight) (statedOrder s plan) (statedPasses s plan) (sound .flight) (flight-read s plan sound (r .sections .flight)) in
-      record {
-        plan = statedPlan s plan;
-        lawful =
-            record {
-              mosaic = runs-mosaic (s .mosaic) (statedBatches s plan) (mosaic-read s plan (r .sections .mosaic));
-              sorting = runs-sorting (s .sorting) (statedJobs s plan) (sound .sorting) (sorting-read s plan sound (r .sections .sorting));
-              flight = f .0;
-              kept = f .1;
-              order = f .2;
-            };
-        layout = plan-stands;
-      }
+  right-allowed = record { plan = statedPlan s plan; lawful = stated-lawful s plan sound r; layout = plan-stands }

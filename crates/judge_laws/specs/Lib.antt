@@ -7,6 +7,7 @@ pub mod Outcomes
 pub mod DueLaws
 pub mod Allows
 pub mod Written
+pub mod StatedPlan
 pub mod Fault
 pub mod Decided
 pub mod Figures

@@ -15,16 +15,18 @@ use Rattle.sheet.specs.declared.Sheet.{Sheet}
 use Rattle.rules.specs.Mosaic.{mosaicFigure}
 use Rattle.rules.specs.Sorting.{sortingFigure}
 use Rattle.rules.specs.Flight.{flightFigure}
-use Rattle.rules.specs.Plan.{Plan, AllowedFor}
+use Rattle.rules.specs.Plan.{Plan, PlanLawful, AllowedFor}
 use Rattle.plan_format.specs.ByteLaws.{AreBytes}
 use Rattle.rules_laws.specs.Fits.{mosaic-figure-least, sorting-figure-least, flight-figure-least}
 use Rattle.judge_members.specs.Members.{present}
 use Rattle.judge.specs.Judged.{statedFigure, turnedBack, found, judged}
+use Rattle.judge.specs.Stated.{statedPlan}
 use Rattle.judge.specs.declared.Judged.{Judged}
 use Rattle.judge_laws.specs.Outcomes.{judged-right, right-judged}
 use Rattle.judge_laws.specs.Fault.{Fault}
 use Rattle.judge_laws.specs.Faults.{fault-turned-back, turned-back-fault}
-use Rattle.judge_laws.specs.Allows.{right-allowed}
+use Rattle.judge_laws.specs.Allows.{right-allowed, stated-lawful}
+use Rattle.judge_laws.specs.StatedPlan.{mosaic-figure-of, sorting-figure-of, flight-figure-of, plan-stated}
 use Rattle.judge_laws.specs.Written.{written-right, mosaic-figure-stated, sorting-figure-stated, flight-figure-stated}
 
 -- A plan in which the judge finds no fault is allowed ..
@@ -64,6 +66,28 @@ judged-figures sheet plan a =
       sorting = ap (λ (j : Judged). j .sorting) e ∙ sorting-figure-stated (readSheet sheet) (w .plan) plan sound (w .lawful) (w .layout);
       flight = ap (λ (j : Judged). j .flight) e ∙ flight-figure-stated (readSheet sheet) (w .plan) plan sound (w .lawful) (w .layout);
     }
+
+-- What a plan that the judge allows states is lawful, and the judge's figures are its figures; an allowed plan states itself.
+pub judged-stated : (sheet plan : List ℕ) → judged sheet plan .number ≡ 0
+    → PlanLawful (readSheet sheet) (statedPlan (readSheet sheet) plan) × FiguresTrue (readSheet sheet) (statedPlan (readSheet sheet) plan) (judged sheet plan)
+unfolding found statedPlan
+judged-stated sheet plan z =
+    let r = judged-right sheet plan z in
+    let sound = read-sound sheet (r .0) in
+    let e = right-judged sheet plan (r .0) (r .1) in
+    (
+      stated-lawful (readSheet sheet) plan sound (r .1),
+      record {
+        place = ap (λ (j : Judged). j .place) e;
+        mosaic = ap (λ (j : Judged). j .mosaic) e ∙ mosaic-figure-of (readSheet sheet) plan sound (r .1);
+        sorting = ap (λ (j : Judged). j .sorting) e ∙ sorting-figure-of (readSheet sheet) plan sound (r .1);
+        flight = ap (λ (j : Judged). j .flight) e ∙ flight-figure-of (readSheet sheet) plan sound (r .1);
+      },
+    )
+
+pub allowed-stated : (sheet plan : List ℕ) (a : AllowedFor sheet plan) → statedPlan (readSheet sheet) plan ≡ a .allowed .plan
+allowed-stated sheet plan a =
+    plan-stated (readSheet sheet) (a .allowed .plan) plan (read-sound sheet (a .sound)) (a .allowed .lawful) (a .allowed .layout)
 
 -- "the figure of each section, 0 for an absent section (a present figure is at least 1)"
 pub record FigureOf (members figure : ℕ) : Type 0 where

@@ -71,17 +71,17 @@ follows-other x head values members rest tag h k e = either-other x (head .tag) 
 present-members : (x : Bool) (n : ℕ) → x ≡ true → cond x n 0 ≡ n
 present-members x n e = rw e
 
-no-sum : (n : ℕ) (f : ℕ → ℕ) → n ≡ 0 → 0 ≡ sumOver n f
+pub no-sum : (n : ℕ) (f : ℕ → ℕ) → n ≡ 0 → 0 ≡ sumOver n f
 unfolding sumOver
 no-sum zero f e = refl
 no-sum (suc n) f e = absurd (omega arith)
 
-no-greatest : (n : ℕ) (f : ℕ → ℕ) → n ≡ 0 → 0 ≡ greatestOver n f
+pub no-greatest : (n : ℕ) (f : ℕ → ℕ) → n ≡ 0 → 0 ≡ greatestOver n f
 unfolding greatestOver
 no-greatest zero f e = refl
 no-greatest (suc n) f e = absurd (omega arith)
 
-by-presence : (x : Bool) (a b : ℕ) → (x ≡ true → a ≡ b) → (x ≡ false → 0 ≡ b) → cond x a 0 ≡ b
+pub by-presence : (x : Bool) (a b : ℕ) → (x ≡ true → a ≡ b) → (x ≡ false → 0 ≡ b) → cond x a 0 ≡ b
 by-presence true a b h k = h refl
 by-presence false a b h k = k refl
 
@@ -146,7 +146,7 @@ module _ (s : Sheet) (p : Plan) (plan : List ℕ) (sound : SheetSound s) (L : Pl
 
   -- the mosaic: its members and its figure are read back
   module _ (h : ltb 0 (s .mosaic .strips) ≡ true) where
-    batches-read : batchesFrom plan (memberPlace 1 (mosaicPart s plan .head) 0) (mosaicPart s plan .members) ≡ p .batches
+    pub batches-read : batchesFrom plan (memberPlace 1 (mosaicPart s plan .head) 0) (mosaicPart s plan .members) ≡ p .batches
     unfolding memberPlace headForm memberForm batchKind batchAt
     batches-read =
         ap (λ (q : Part). batchesFrom plan (q .head + sizeOf mosaicHeadForm + 0 * sizeOf batchForm) (q .members)) mosaic-part
@@ -179,7 +179,7 @@ module _ (s : Sheet) (p : Plan) (plan : List ℕ) (sound : SheetSound s) (L : Pl
 
   -- the sorting
   module _ (h : ltb 0 (stripsInAll (s .sorting)) ≡ true) where
-    jobs-read : jobsFrom plan (memberPlace 2 (sortingPart s plan .head) 0) (sortingPart s plan .members) ≡ p .jobs
+    pub jobs-read : jobsFrom plan (memberPlace 2 (sortingPart s plan .head) 0) (sortingPart s plan .members) ≡ p .jobs
     unfolding memberPlace headForm memberForm jobKind jobAt
     jobs-read =
         ap (λ (q : Part). jobsFrom plan (q .head + sizeOf sortingHeadForm + 0 * sizeOf jobForm) (q .members)) sorting-part
@@ -218,7 +218,7 @@ module _ (s : Sheet) (p : Plan) (plan : List ℕ) (sound : SheetSound s) (L : Pl
 
   -- the flight
   module _ (h : ltb 0 (s .flight .blocks) ≡ true) where
-    passes-read : blocksFrom plan (flightPart s plan .head + sizeOf flightHeadForm) (flightPart s plan .members) ≡ p .passes
+    pub passes-read : blocksFrom plan (flightPart s plan .head + sizeOf flightHeadForm) (flightPart s plan .members) ≡ p .passes
     unfolding passesKind passesAt
     passes-read =
         ap (λ (q : Part). blocksFrom plan (q .head + sizeOf flightHeadForm) (q .members)) flight-part
@@ -239,7 +239,7 @@ module _ (s : Sheet) (p : Plan) (plan : List ℕ) (sound : SheetSound s) (L : Pl
         ∙ figure-back (mosaicPiece s p ++ sortingPiece s p) (membersBytes passesBytes (p .passes) ++ []) flightHeadForm (flightFigure (s .flight) (p .passes)) (p .order ∷ [])
         (flight-head-fits (s .flight) (p .passes) (sound .flight) (L .flight) (p .order) (L .order))
 
-    order-stated : orderFrom plan (flightPart s plan .head) ≡ p .order
+    pub order-stated : orderFrom plan (flightPart s plan .head) ≡ p .order
     order-stated =
         ap (λ (q : Part). orderFrom plan (q .head)) flight-part
         ∙ ap (λ (l : List ℕ). orderFrom l (length (mosaicPiece s p ++ sortingPiece s p))) flight-plan

@@ -37,7 +37,7 @@ module _ (last start finish : List ℕ) (d₀ : List ℕ) (at n : ℕ) where
       → d₁ ≡ put d (at + sizeOf batchForm * i) (batchBytes (batch (getD last i 0) (getD start i 0) (getD finish i 0)))
       → Storing batchBytes (batchIn last start finish) d₀ d₁ at n (i + 1)
   unfolding batchIn
-  batches-more d d₁ i s l e = storing-more batchBytes (batchIn last start finish) (sizeOf batchForm) length-batch d₀ d d₁ at n i s l e
+  batches-more d d₁ i s l e = storing-more batchBytes (batchIn last start finish) (sizeOf batchForm) (λ k. length-batch (batchIn last start finish k)) d₀ d d₁ at n i s l e
 
   pub batches-all : (d : List ℕ) (i : ℕ) → Storing batchBytes (batchIn last start finish) d₀ d at n i → n ≤ i
       → d ≡ put d₀ at (membersTo batchBytes (batchIn last start finish) n)
@@ -51,7 +51,7 @@ module _ (desk number scan start : List ℕ) (d₀ : List ℕ) (at n : ℕ) wher
       → d₁ ≡ put d (at + sizeOf jobForm * i) (jobBytes (job (getD desk i 0) (getD number i 0) (getD scan i 0) (getD start i 0)))
       → Storing jobBytes (jobIn desk number scan start) d₀ d₁ at n (i + 1)
   unfolding jobIn
-  jobs-more d d₁ i s l e = storing-more jobBytes (jobIn desk number scan start) (sizeOf jobForm) length-job d₀ d d₁ at n i s l e
+  jobs-more d d₁ i s l e = storing-more jobBytes (jobIn desk number scan start) (sizeOf jobForm) (λ k. length-job (jobIn desk number scan start k)) d₀ d d₁ at n i s l e
 
   pub jobs-all : (d : List ℕ) (i : ℕ) → Storing jobBytes (jobIn desk number scan start) d₀ d at n i → n ≤ i
       → d ≡ put d₀ at (membersTo jobBytes (jobIn desk number scan start) n)
@@ -65,7 +65,7 @@ module _ (first second : List ℕ) (d₀ : List ℕ) (at n : ℕ) where
       → d₁ ≡ put d (at + sizeOf passesForm * i) (passesBytes (passes (getD first i 0) (getD second i 0)))
       → Storing passesBytes (passesIn first second) d₀ d₁ at n (i + 1)
   unfolding passesIn
-  blocks-more d d₁ i s l e = storing-more passesBytes (passesIn first second) (sizeOf passesForm) length-passes d₀ d d₁ at n i s l e
+  blocks-more d d₁ i s l e = storing-more passesBytes (passesIn first second) (sizeOf passesForm) (λ k. length-passes (passesIn first second k)) d₀ d d₁ at n i s l e
 
   pub blocks-all : (d : List ℕ) (i : ℕ) → Storing passesBytes (passesIn first second) d₀ d at n i → n ≤ i
       → d ≡ put d₀ at (membersTo passesBytes (passesIn first second) n)

@@ -57,13 +57,19 @@ section d d₁ d₂ at n skip size head members h l m e₁ e₂ =
     (record { buffer = joined d d₁ d₂ at (at + skip) head members e₁ e₂ (omega arith); end = omega (arith, length-append head members) })
 
 batches-long : (p : MosaicPlan) → length (membersBytes batchBytes (batchesOf p)) ≡ sizeOf batchForm * p .batches
-batches-long p = ap length (batches-bytes p) ∙ length-members batchBytes (sizeOf batchForm) length-batch (batchIn (p .last) (p .start) (p .finish)) (p .batches)
+batches-long p =
+    ap length (batches-bytes p)
+    ∙ length-members batchBytes (batchIn (p .last) (p .start) (p .finish)) (sizeOf batchForm) (λ i. length-batch (batchIn (p .last) (p .start) (p .finish) i)) (p .batches)
 
 jobs-long : (p : SortingPlan) → length (membersBytes jobBytes (jobsOfPlan p)) ≡ sizeOf jobForm * p .jobs
-jobs-long p = ap length (jobs-bytes p) ∙ length-members jobBytes (sizeOf jobForm) length-job (jobIn (p .desk) (p .number) (p .scan) (p .start)) (p .jobs)
+jobs-long p =
+    ap length (jobs-bytes p)
+    ∙ length-members jobBytes (jobIn (p .desk) (p .number) (p .scan) (p .start)) (sizeOf jobForm) (λ i. length-job (jobIn (p .desk) (p .number) (p .scan) (p .start) i)) (p .jobs)
 
 blocks-long : (n : ℕ) (p : FlightPlan) → length (membersBytes passesBytes (passesOfPlan n p)) ≡ sizeOf passesForm * n
-blocks-long n p = ap length (passes-bytes n p) ∙ length-members passesBytes (sizeOf passesForm) length-passes (passesIn (p .first) (p .second)) n
+blocks-long n p =
+    ap length (passes-bytes n p)
+    ∙ length-members passesBytes (passesIn (p .first) (p .second)) (sizeOf passesForm) (λ i. length-passes (passesIn (p .first) (p .second) i)) n
 
 module _ (d d₁ d₂ : List ℕ) (at n : ℕ) where
   pub mosaic-written : (p : MosaicPlan) → 1 ≤ n → d₁ ≡ put d at (formBytes mosaicHeadForm (p .figure ∷ []))

@@ -35,7 +35,8 @@ pub plan-is : (s : Sheet) (p : Plan) → planBytes s p ≡ mosaicOf s p ++ sorti
 unfolding planBytes
 plan-is s p = refl
 
-no-member : {A : Type 0} (xs : List A) → length xs ≤ 0 → xs ≡ []
+-- a list of no member
+pub no-member : {A : Type 0} (xs : List A) → length xs ≤ 0 → xs ≡ []
 no-member [] h = refl
 no-member (x ∷ xs) h = absurd (omega arith)
 

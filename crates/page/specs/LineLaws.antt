@@ -1,0 +1,151 @@
+-- The lines as they are stored: stores one behind the other are one store of the joined columns, with the line feed behind them.
+use Prim.Native.Nat.{ℕ, _+_, _≤_}
+use mathlib.Core.Path.{_≡_, refl, sym, ap, _∙_}
+use mathlib.Core.List.{List, [], _∷_, _++_, append-assoc}
+use native.Mathlib.Numerals.{add-one}
+use native.Mathlib.Omega.{arith}
+use lib.ListN.{length, set, length-set, length-append}
+use Rattle.decimal.specs.Columns.{space, columns}
+use Rattle.decimal.specs.Laws.{length-columns}
+use Rattle.field.specs.Put.{put, put-one, joined}
+use Rattle.rules.specs.declared.Batch.{Batch}
+use Rattle.rules.specs.declared.Job.{Job}
+use Rattle.rules.specs.declared.Passes.{Passes}
+use Rattle.page.specs.Page.{lineFeed, lineBytes, headLine, memberLine, secondField, blanks, batchLine, jobLine, blockLine, batchLetter, jobLetter, blockLetter}
+
+-- a line with its line feed
+abbrev pub lineLength : ℕ
+lineLength = 33
+
+-- the third and the fourth field of a member line, and the line feed
+unfoldable pub lastFields : ℕ → ℕ → List ℕ
+lastFields third fourth = columns space 12 third ++ columns space 12 fourth ++ (lineFeed ∷ [])
+
+-- how long the parts of a line are
+length-second : (value : ℕ) → length (secondField value) ≡ 4
+unfolding secondField
+length-second value = length-columns space 4 value
+
+length-blanks : length blanks ≡ 4
+unfolding blanks
+length-blanks = refl
+
+length-first : (letter value : ℕ) → length (letter ∷ columns space 3 value) ≡ 4
+length-first letter value = omega (arith, length-columns space 3 value)
+
+pub length-head : (letter figure : ℕ) → length (headLine letter figure) ≡ 32
+unfolding headLine
+length-head letter figure = omega (arith, length-columns space 31 figure)
+
+module _ (letter first : ℕ) (second : List ℕ) (third fourth : ℕ) where
+  pub length-member : length second ≡ 4 → length (memberLine letter first second third fourth) ≡ 32
+  unfolding memberLine
+  length-member h =
+      omega (
+        arith,
+        h,
+        length-append ((letter ∷ columns space 3 first) ++ second) (columns space 12 third ++ columns space 12 fourth),
+        length-append (letter ∷ columns space 3 first) second,
+        length-append (columns space 12 third) (columns space 12 fourth),
+        length-columns space 3 first,
+        length-columns space 12 third,
+        length-columns space 12 fourth,
+      )
+
+pub length-batch-line : (number : ℕ) (b : Batch) → length (batchLine number b) ≡ 32
+unfolding batchLine
+length-batch-line number b = length-member batchLetter number (secondField (b .last)) (b .start) (b .finish) (length-second (b .last))
+
+pub length-job-line : (j : Job) → length (jobLine j) ≡ 32
+unfolding jobLine
+length-job-line j = length-member jobLetter (j .desk) (secondField (j .number)) (j .scan) (j .start) (length-second (j .number))
+
+pub length-block-line : (number : ℕ) (p : Passes) → length (blockLine number p) ≡ 32
+unfolding blockLine
+length-block-line number p = length-member blockLetter number blanks (p .first) (p .second) length-blanks
+
+pub length-line : (line : List ℕ) → length line ≡ 32 → length (lineBytes line) ≡ lineLength
+unfolding lineBytes
+length-line line h = omega (arith, length-append line (lineFeed ∷ []), h)
+
+-- The stores. A head line: its letter, its figure, the line feed.
+module _ (d : List ℕ) (at letter : ℕ) where
+  pub letter-room : (width : ℕ) → at + 1 + width ≤ length d → at + 1 + width ≤ length (set d at letter)
+  letter-room width h = omega (arith, length-set d at letter)
+
+  letter-joined : (d₁ : List ℕ) (width value : ℕ) → d₁ ≡ put (set d at letter) (at + 1) (columns space width value)
+      → d₁ ≡ put d at (letter ∷ columns space width value)
+  letter-joined d₁ width value e = joined d (set d at letter) d₁ at (at + 1) (letter ∷ []) (columns space width value) (put-one d at letter) e refl
+
+  pub first-stored : (d₁ : List ℕ) (first : ℕ) → d₁ ≡ put (set d at letter) (at + 1) (columns space 3 first) → d₁ ≡ put d at (letter ∷ columns space 3 first)
+  first-stored d₁ first e = letter-joined d₁ 3 first e
+
+  pub head-stored : (d₁ : List ℕ) (figure : ℕ) → d₁ ≡ put (set d at letter) (at + 1) (columns space 31 figure)
+      → set d₁ (at + 32) lineFeed ≡ put d at (lineBytes (headLine letter figure))
+  unfolding lineBytes headLine
+  head-stored d₁ figure e =
+      joined d d₁ (set d₁ (at + 32) lineFeed) at (at + 32) (letter ∷ columns space 31 figure) (lineFeed ∷ []) (letter-joined d₁ 31 figure e)
+      (put-one d₁ (at + 32) lineFeed)
+      (omega (arith, length-columns space 31 figure))
+
+pub blanks-stored : (d : List ℕ) (at : ℕ) → set (set (set (set d at space) (at + 1) space) (at + 2) space) (at + 3) space ≡ put d at blanks
+unfolding blanks
+blanks-stored d at =
+    joined d (set (set (set d at space) (at + 1) space) (at + 2) space) _ at (at + 3) (space ∷ space ∷ space ∷ []) (space ∷ [])
+    (joined d (set (set d at space) (at + 1) space) _ at (at + 2) (space ∷ space ∷ []) (space ∷ [])
+    (joined d (set d at space) _ at (at + 1) (space ∷ []) (space ∷ []) (put-one d at space) (put-one _ (at + 1) space) refl)
+    (put-one _ (at + 2) space) refl)
+    (put-one _ (at + 3) space)
+    refl
+
+pub last-stored : (d d₁ d₂ : List ℕ) (at third fourth : ℕ) → d₁ ≡ put d at (columns space 12 third) → d₂ ≡ put d₁ (at + 12) (columns space 12 fourth)
+    → set d₂ (at + 24) lineFeed ≡ put d at (lastFields third fourth)
+unfolding lastFields
+last-stored d d₁ d₂ at third fourth e₁ e₂ =
+    joined d d₂ (set d₂ (at + 24) lineFeed) at (at + 24) (columns space 12 third ++ columns space 12 fourth) (lineFeed ∷ [])
+    (joined d d₁ d₂ at (at + 12) (columns space 12 third) (columns space 12 fourth) e₁ e₂ (omega (arith, length-columns space 12 third)))
+    (put-one d₂ (at + 24) lineFeed)
+    (omega (arith, length-append (columns space 12 third) (columns space 12 fourth), length-columns space 12 third, length-columns space 12 fourth))
+
+-- A member line: its letter and first field, its second field, its last fields.
+line-parts : (letter first : ℕ) (second : List ℕ) (third fourth : ℕ)
+    → (letter ∷ columns space 3 first) ++ second ++ lastFields third fourth ≡ lineBytes (memberLine letter first second third fourth)
+unfolding lineBytes memberLine lastFields
+line-parts letter first second third fourth =
+    sym
+    (append-assoc ((letter ∷ columns space 3 first) ++ second) (columns space 12 third ++ columns space 12 fourth) (lineFeed ∷ []))
+
+module _ (d d₁ d₂ d₃ : List ℕ) (at letter first : ℕ) (second : List ℕ) (third fourth : ℕ) where
+  line-stored : length second ≡ 4 → d₁ ≡ put d at (letter ∷ columns space 3 first) → d₂ ≡ put d₁ (at + 4) second → d₃ ≡ put d₂ (at + 8) (lastFields third fourth)
+      → d₃ ≡ put d at (lineBytes (memberLine letter first second third fourth))
+  line-stored h e₁ e₂ e₃ =
+      joined d d₂ d₃ at (at + 8) ((letter ∷ columns space 3 first) ++ second) (lastFields third fourth)
+      (joined d d₁ d₂ at (at + 4) (letter ∷ columns space 3 first) second e₁ e₂ (ap (λ k. at + k) (sym (length-first letter first))))
+      e₃
+      (omega (arith, h, length-append (letter ∷ columns space 3 first) second, length-columns space 3 first))
+      ∙ ap (put d at) (line-parts letter first second third fourth)
+
+module _ (d d₁ d₂ d₃ : List ℕ) (at : ℕ) where
+  pub member-stored : (letter first second third fourth : ℕ) → d₁ ≡ put d at (letter ∷ columns space 3 first) → d₂ ≡ put d₁ (at + 4) (columns space 4 second)
+      → d₃ ≡ put d₂ (at + 8) (lastFields third fourth)
+      → d₃ ≡ put d at (lineBytes (memberLine letter first (secondField second) third fourth))
+  unfolding secondField
+  member-stored letter first second third fourth e₁ e₂ e₃ =
+      line-stored d d₁ d₂ d₃ at letter first (secondField second) third fourth (length-second second) e₁ e₂ e₃
+
+  pub block-stored : (number : ℕ) (p : Passes) → d₁ ≡ put d at (blockLetter ∷ columns space 3 number) → d₂ ≡ put d₁ (at + 4) blanks
+      → d₃ ≡ put d₂ (at + 8) (lastFields (p .first) (p .second))
+      → d₃ ≡ put d at (lineBytes (blockLine number p))
+  unfolding blockLine
+  block-stored number p e₁ e₂ e₃ = line-stored d d₁ d₂ d₃ at blockLetter number blanks (p .first) (p .second) length-blanks e₁ e₂ e₃
+
+module _ (d d₁ : List ℕ) (at : ℕ) where
+  pub batch-stored : (number : ℕ) (b : Batch) → d₁ ≡ put d at (lineBytes (memberLine batchLetter number (secondField (b .last)) (b .start) (b .finish)))
+      → d₁ ≡ put d at (lineBytes (batchLine number b))
+  unfolding batchLine
+  batch-stored number b e = e
+
+  pub job-stored : (j : Job) → d₁ ≡ put d at (lineBytes (memberLine jobLetter (j .desk) (secondField (j .number)) (j .scan) (j .start)))
+      → d₁ ≡ put d at (lineBytes (jobLine j))
+  unfolding jobLine
+  job-stored j e = e

@@ -1,0 +1,63 @@
+-- What each function of the printer asks and leaves: the lines of a section by where it stands in the plan.
+use Prim.Native.Nat.{ℕ, _+_, _*_, _^_, _≤_, _<_}
+use mathlib.Core.List.{List, _∷_, _++_}
+use lib.ListN.{length}
+use Rattle.base.specs.Listed.{listed}
+use Rattle.sheet.specs.Limits.{mostStrips, mostDesks, mostStripsOfDesk, mostBlocks, pageLength}
+use Rattle.plan_format.specs.Format.{sizeOf, mosaicHeadForm, batchForm, sortingHeadForm, jobForm, flightHeadForm, passesForm}
+use Rattle.rules.specs.Plan.{ifPresent}
+use Rattle.plan_read.specs.PlanRead.{batchFrom, jobFrom, passesFrom}
+use Rattle.judge_layout.specs.declared.Part.{Part}
+use Rattle.judge.specs.declared.Examined.{Examined}
+use Rattle.page.specs.Page.{headLine, batchLine, jobLine, blockLine, mosaicHeadLetter, sortingHeadLetter, flightHeadLetter}
+use Rattle.page.specs.LineLaws.{lineLength}
+
+-- the line of member i, from 0, of those that stand in a plan from an offset on
+unfoldable pub batchLineFrom : List ℕ → ℕ → ℕ → List ℕ
+batchLineFrom plan first i = batchLine (i + 1) (batchFrom plan (first + sizeOf batchForm * i))
+
+unfoldable pub jobLineFrom : List ℕ → ℕ → ℕ → List ℕ
+jobLineFrom plan first i = jobLine (jobFrom plan (first + sizeOf jobForm * i))
+
+unfoldable pub blockLineFrom : List ℕ → ℕ → ℕ → List ℕ
+blockLineFrom plan first i = blockLine (i + 1) (passesFrom plan (first + sizeOf passesForm * i))
+
+-- the lines of a section: none where it has no member
+unfoldable pub mosaicPrinted : List ℕ → Part → ℕ → List (List ℕ)
+mosaicPrinted plan part figure =
+    ifPresent (part .members) (headLine mosaicHeadLetter figure ∷ listed (part .members) (batchLineFrom plan (part .head + sizeOf mosaicHeadForm)))
+
+unfoldable pub sortingPrinted : List ℕ → Part → ℕ → List (List ℕ)
+sortingPrinted plan part figure =
+    ifPresent (part .members) (headLine sortingHeadLetter figure ∷ listed (part .members) (jobLineFrom plan (part .head + sizeOf sortingHeadForm)))
+
+unfoldable pub flightPrinted : List ℕ → Part → ℕ → List (List ℕ)
+flightPrinted plan part figure =
+    ifPresent (part .members) (headLine flightHeadLetter figure ∷ listed (part .members) (blockLineFrom plan (part .head + sizeOf flightHeadForm)))
+
+-- the lines of a plan that was examined
+unfoldable pub examinedLines : List ℕ → Examined → List (List ℕ)
+examinedLines plan e =
+    mosaicPrinted plan (e .mosaic) (e .judged .mosaic)
+    ++ sortingPrinted plan (e .sorting) (e .judged .sorting)
+    ++ flightPrinted plan (e .flight) (e .judged .flight)
+
+-- n members, each of a size, that stand from an offset on which can be counted to; and room for their lines
+pub record PrintMembersPre (page : List ℕ) (at first size n : ℕ) : Type 0 where
+  pub room : at + lineLength * n ≤ length page
+  pub place : first + size * n < 2 ^ 64
+
+-- a section within its plan, and room for its lines
+pub record PrintSectionPre (page : List ℕ) (at : ℕ) (plan : List ℕ) (size : ℕ) (part : Part) : Type 0 where
+  pub room : at + lineLength + lineLength * part .members ≤ length page
+  pub place : part .head + size * part .members ≤ length plan
+
+-- a page buffer of the length that every page fits, and sections within their plan, with no more members than a sheet may have
+pub record PrintSectionsPre (page plan : List ℕ) (e : Examined) : Type 0 where
+  pub room : pageLength ≤ length page
+  pub batches : e .mosaic .members ≤ mostStrips
+  pub jobs : e .sorting .members ≤ mostDesks * mostStripsOfDesk
+  pub blocks : e .flight .members ≤ mostBlocks
+  pub mosaic : e .mosaic .head + sizeOf batchForm * e .mosaic .members ≤ length plan
+  pub sorting : e .sorting .head + sizeOf jobForm * e .sorting .members ≤ length plan
+  pub flight : e .flight .head + sizeOf passesForm * e .flight .members ≤ length plan
