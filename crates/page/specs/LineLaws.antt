@@ -1,5 +1,5 @@
 -- The lines as they are stored: stores one behind the other are one store of the joined columns, with the line feed behind them.
-use Prim.Native.Nat.{ℕ, _+_, _≤_}
+use Prim.Native.Nat.{ℕ, _+_, _≤_, _<_}
 use mathlib.Core.Path.{_≡_, refl, sym, ap, _∙_}
 use mathlib.Core.List.{List, [], _∷_, _++_, append-assoc}
 use native.Mathlib.Numerals.{add-one}
@@ -70,8 +70,20 @@ length-line line h = omega (arith, length-append line (lineFeed ∷ []), h)
 
 -- The stores. A head line: its letter, its figure, the line feed.
 module _ (d : List ℕ) (at letter : ℕ) where
-  pub letter-room : (width : ℕ) → at + 1 + width ≤ length d → at + 1 + width ≤ length (set d at letter)
-  letter-room width h = omega (arith, length-set d at letter)
+  pub first-room : at + 4 ≤ length d → at + 1 + 3 ≤ length (set d at letter)
+  first-room h = omega (arith, length-set d at letter)
+
+  pub head-room : at + lineLength ≤ length d → at + 1 + 31 ≤ length (set d at letter)
+  head-room h = omega (arith, length-set d at letter)
+
+  pub first-kept : (d₁ : List ℕ) → length d₁ ≡ length (set d at letter) → length d₁ ≡ length d
+  first-kept d₁ e = e ∙ length-set d at letter
+
+  pub head-feed : (d₁ : List ℕ) → at + lineLength ≤ length d → length d₁ ≡ length (set d at letter) → at + 32 < length d₁
+  head-feed d₁ h e = omega (arith, e, length-set d at letter)
+
+  pub head-kept : (d₁ : List ℕ) → length d₁ ≡ length (set d at letter) → length (set d₁ (at + 32) lineFeed) ≡ length d
+  head-kept d₁ e = length-set d₁ (at + 32) lineFeed ∙ e ∙ length-set d at letter
 
   letter-joined : (d₁ : List ℕ) (width value : ℕ) → d₁ ≡ put (set d at letter) (at + 1) (columns space width value)
       → d₁ ≡ put d at (letter ∷ columns space width value)
@@ -88,6 +100,18 @@ module _ (d : List ℕ) (at letter : ℕ) where
       (put-one d₁ (at + 32) lineFeed)
       (omega (arith, length-columns space 31 figure))
 
+-- room for the blanks, one behind the other
+module _ (d : List ℕ) (at : ℕ) (h : at + 4 ≤ length d) where
+  pub second-blank : at + 1 < length (set d at space)
+  second-blank = omega (arith, length-set d at space)
+
+  pub third-blank : at + 2 < length (set (set d at space) (at + 1) space)
+  third-blank = omega (arith, length-set d at space, length-set (set d at space) (at + 1) space)
+
+  pub fourth-blank : at + 3 < length (set (set (set d at space) (at + 1) space) (at + 2) space)
+  fourth-blank =
+      omega (arith, length-set d at space, length-set (set d at space) (at + 1) space, length-set (set (set d at space) (at + 1) space) (at + 2) space)
+
 pub blanks-stored : (d : List ℕ) (at : ℕ) → set (set (set (set d at space) (at + 1) space) (at + 2) space) (at + 3) space ≡ put d at blanks
 unfolding blanks
 blanks-stored d at =
@@ -97,6 +121,9 @@ blanks-stored d at =
     (put-one _ (at + 2) space) refl)
     (put-one _ (at + 3) space)
     refl
+
+pub last-kept : (d d₁ d₂ : List ℕ) (at : ℕ) → length d₁ ≡ length d → length d₂ ≡ length d₁ → length (set d₂ (at + 24) lineFeed) ≡ length d
+last-kept d d₁ d₂ at e₁ e₂ = length-set d₂ (at + 24) lineFeed ∙ e₂ ∙ e₁
 
 pub last-stored : (d d₁ d₂ : List ℕ) (at third fourth : ℕ) → d₁ ≡ put d at (columns space 12 third) → d₂ ≡ put d₁ (at + 12) (columns space 12 fourth)
     → set d₂ (at + 24) lineFeed ≡ put d at (lastFields third fourth)

@@ -1,0 +1,79 @@
+use Rattle.page.proofs.sections.print_jobs.Statement.{statement}
+use Rattle.page.proofs.sections.print_jobs.Tie as tie
+use Rattle.page.proofs.sections.print_jobs.Reads as reads
+use Rattle.page.proofs.sections.print_jobs.Lts as lts
+use Rattle.page.proofs.lines.put_job_line.Reads as put-job-line-reads
+use Rattle.plan_read.proofs.job_from.Reads as job-from-reads
+
+abbrev Inv-loop : tie.InvT-loop
+Inv-loop page₀ at plan first n i₀ page i = ?
+
+abbrev μ-loop : tie.MeasureT-loop
+μ-loop page₀ at plan first n i₀ page i = ?
+
+-- src/sections.rt:50:5
+loop-holds : tie.Need-loop-holds Inv-loop μ-loop
+loop-holds c = ?
+
+-- src/sections.rt:51:40
+mul-job-from : tie.Need-mul-job-from Inv-loop μ-loop
+mul-job-from c = ?
+
+-- src/sections.rt:51:32
+add-job-from : tie.Need-add-job-from Inv-loop μ-loop
+add-job-from c = ?
+
+-- src/sections.rt:51:13
+job-from-requires : tie.Need-job-from-requires Inv-loop μ-loop
+job-from-requires c κs = ?
+
+-- src/sections.rt:52:33
+mul-put-job-line : tie.Need-mul-put-job-line Inv-loop μ-loop
+mul-put-job-line c = ?
+
+-- src/sections.rt:52:28
+add-put-job-line : tie.Need-add-put-job-line Inv-loop μ-loop
+add-put-job-line c = ?
+
+-- src/sections.rt:52:9
+put-job-line-requires : tie.Need-put-job-line-requires Inv-loop μ-loop
+put-job-line-requires c κs = ?
+
+-- src/sections.rt:53:9
+add-i : tie.Need-add-i Inv-loop μ-loop
+add-i c = ?
+
+-- src/sections.rt:50:5
+loop-less : tie.Need-loop-less Inv-loop μ-loop
+loop-less c = ?
+
+-- src/sections.rt:50:5
+loop-again : tie.Need-loop-again Inv-loop μ-loop
+loop-again c = ?
+
+-- src/sections.rt:45:1
+same-length : tie.Need-same-length Inv-loop μ-loop
+same-length c = ?
+
+-- src/sections.rt:45:1
+returns : tie.Need-returns Inv-loop μ-loop
+returns c = ?
+
+pub print-jobs-spec : {M : Type 1} → statement M
+print-jobs-spec =
+    tie.close
+    (tie.spec
+    Inv-loop
+    μ-loop
+    loop-holds
+    mul-job-from
+    add-job-from
+    job-from-requires
+    mul-put-job-line
+    add-put-job-line
+    put-job-line-requires
+    add-i
+    loop-less
+    loop-again
+    same-length
+    returns)
