@@ -7,10 +7,11 @@ use mathlib.Core.List.{List, [], _∷_, _++_, append-assoc}
 use native.Mathlib.Nat.{mul-assoc, pow-succ', pow-suc, div-div-eq-div-mul, zero-div}
 use native.Mathlib.Numerals.{add-one}
 use native.Mathlib.Omega.{arith}
-use lib.ListN.{length, getD, replicate, length-append, List·getD-append}
+use lib.ListN.{length, getD, replicate, length-append, length-replicate, List·getD-append}
 use lib.Dec.{ltb}
 use borrow.Author.Tests.{lt-ltb, ltb-true, ltb-false}
 use Rattle.decimal.specs.Columns.{zeroDigit, columnOf, columnAt, columns, columnsValue}
+use Rattle.decimal.specs.Laws.{length-columns}
 
 -- the digits of a number, by dividing by 10 at most `steps` times: those of the number without its last digit, and the last digit
 unfoldable pub digitsWithin : ℕ → ℕ → List ℕ
@@ -42,7 +43,7 @@ module _ (P : ℕ → List ℕ → Type 0)
   unfolding digitsOf
   digits-induction value = within (suc value) value (omega arith)
 
--- the columns left of the units, for what is left of a number
+-- the columns left of the units, from what the number leaves without its last digit
 leading : ℕ → ℕ → ℕ → List ℕ
 leading filler zero rest = []
 leading filler (suc k) rest = columnOf filler (rest / 10 ^ k) ∷ leading filler k rest
@@ -98,12 +99,17 @@ aligned-more filler value digits h again (suc (suc j)) some fits =
     less : suc (suc j) - (length digits + 1) ≡ suc j - length digits
     less = omega arith
 
--- a number that fits stands right-aligned in its columns: the filler, then its digits
+-- a number that fits stands right-aligned in its columns: fillers, then its digits
 pub right-aligned : (filler width value : ℕ) → 0 < width → value < 10 ^ width
     → columns filler width value ≡ replicate (width - length (digitsOf value)) filler ++ digitsOf value
 right-aligned filler width value = digits-induction (Aligned filler) (aligned-one filler) (aligned-more filler) value width
 
--- there is a digit, and the first is the digit 0 of the number 0 alone
+-- so its digits are no more than its columns
+pub digits-fit : (width value : ℕ) → 0 < width → value < 10 ^ width → length (digitsOf value) ≤ width
+digits-fit width value w h =
+    omega (arith, length-columns 0 width value, simp (length-append, length-replicate) at (ap length (right-aligned 0 width value w h)))
+
+-- there is a digit, and only the number 0 begins with the digit 0
 abbrev First : ℕ → List ℕ → Type 0
 First value digits = (0 < length digits) × (0 < value → zeroDigit < getD digits 0 0)
 
@@ -111,10 +117,10 @@ first-one : (value : ℕ) → value < 10 → First value ((zeroDigit + value) �
 first-one value h = (omega arith, λ p. omega arith)
 
 first-more : (value : ℕ) (digits : List ℕ) → 10 ≤ value → First (value / 10) digits → First value (digits ++ (zeroDigit + value % 10) ∷ [])
-first-more value digits h again = (
-  omega (arith, length-append digits ((zeroDigit + value % 10) ∷ [])),
-  λ p. rw (List·getD-append digits ((zeroDigit + value % 10) ∷ []) 0 0 (again .0)) (again .1 (omega arith)),
-)
+first-more value digits h again = (omega (arith, length-append digits last), λ p. rw (List·getD-append digits last 0 0 (again .0)) (again .1 (omega arith)))
+  where
+    last : List ℕ
+    last = (zeroDigit + value % 10) ∷ []
 
 pub first-digit : (value : ℕ) → 0 < value → zeroDigit < getD (digitsOf value) 0 0
 first-digit value = digits-induction First first-one first-more value .1

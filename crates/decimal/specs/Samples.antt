@@ -1,6 +1,7 @@
--- Worked samples, as the checker computes them.
+-- Worked samples: numbers in columns of spaces and of leading zeros, as the definitions compute them.
+-- The bytes 48 to 57 are the digits, the byte 32 is the space.
 use mathlib.Core.Path.{_≡_, refl}
-use mathlib.Core.List.{List, [], _∷_}
+use mathlib.Core.List.{[], _∷_}
 use Rattle.decimal.specs.Columns.{zeroDigit, space, columnOf, columnAt, columns}
 
 -- "  0"
