@@ -14,7 +14,7 @@ zeroDigit = 48
 abbrev pub space : ℕ
 space = 32
 
--- the column of what is left of a number where its lower digits are cut off: its last digit, or the filler where nothing is left
+-- the column of what is left of a number without its lower digits: the last digit of it, or the filler where nothing is left
 unfoldable pub columnOf : ℕ → ℕ → ℕ
 columnOf filler rest = cond (ltb 0 rest) (zeroDigit + rest % 10) filler
 
