@@ -1,6 +1,7 @@
 -- A number in decimal columns: right-aligned, its digits from the highest place to the units, and a filler left of its first digit.
--- A filler of a space gives the columns of a page; a filler of the digit 0 gives leading zeros.
+-- A filler of a space gives the columns of a page; a filler of the digit 0 gives leading zeros. Below the definitions, some samples.
 use Prim.Native.Nat.{ℕ, zero, suc, _+_, _-_, _*_, _/_, _%_, _^_}
+use mathlib.Core.Path.{_≡_, refl}
 use mathlib.Core.Bool.{cond}
 use mathlib.Core.List.{List, [], _∷_}
 use lib.ListN.{length}
@@ -13,7 +14,7 @@ zeroDigit = 48
 abbrev pub space : ℕ
 space = 32
 
--- the column of what is left of a number where its lower digits are cut off: its last digit, or the filler where nothing is left
+-- the column of what is left of a number without its lower digits: the last digit of it, or the filler where nothing is left
 unfoldable pub columnOf : ℕ → ℕ → ℕ
 columnOf filler rest = cond (ltb 0 rest) (zeroDigit + rest % 10) filler
 
@@ -32,3 +33,28 @@ columns filler (suc k) value = columnAt filler value k ∷ columns filler k valu
 unfoldable pub columnsValue : List ℕ → ℕ
 columnsValue [] = 0
 columnsValue (c ∷ cs) = (c - zeroDigit) * 10 ^ length cs + columnsValue cs
+
+-- "  0"
+pub zero-in-three : columns space 3 0 ≡ 32 ∷ 32 ∷ 48 ∷ []
+unfolding columnOf columnAt columns
+zero-in-three = refl
+
+-- "  40"
+pub forty-in-four : columns space 4 40 ≡ 32 ∷ 32 ∷ 52 ∷ 48 ∷ []
+unfolding columnOf columnAt columns
+forty-in-four = refl
+
+-- "1987", a number of exactly the width
+pub whole-width : columns space 4 1987 ≡ 49 ∷ 57 ∷ 56 ∷ 55 ∷ []
+unfolding columnOf columnAt columns
+whole-width = refl
+
+-- "    10000000"
+pub ten-million-in-twelve : columns space 12 10000000 ≡ 32 ∷ 32 ∷ 32 ∷ 32 ∷ 49 ∷ 48 ∷ 48 ∷ 48 ∷ 48 ∷ 48 ∷ 48 ∷ 48 ∷ []
+unfolding columnOf columnAt columns
+ten-million-in-twelve = refl
+
+-- "0040": a filler of the digit 0
+pub leading-zeros : columns zeroDigit 4 40 ≡ 48 ∷ 48 ∷ 52 ∷ 48 ∷ []
+unfolding columnOf columnAt columns
+leading-zeros = refl

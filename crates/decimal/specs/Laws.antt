@@ -1,6 +1,6 @@
--- Laws of columns: there are so many of them, each is the filler or a digit, and the number is read back from them, so that
--- no number that fits is cut and two numbers that fit never have the same columns.
-use Prim.Native.Nat.{ℕ, zero, suc, _+_, _-_, _*_, _/_, _%_, _^_, _≤_, _<_}
+-- Laws of columns: there are so many of them, each is the filler or a digit, and a number that fits is read back from them,
+-- so that it is not cut and no two such numbers have the same columns.
+use Prim.Native.Nat.{ℕ, zero, suc, _+_, _-_, _/_, _%_, _^_, _≤_, _<_}
 use mathlib.Core.Path.{_≡_, refl, sym, ap, _∙_}
 use mathlib.Core.Logic.{_⊎_, inl, inr, _≢_}
 use mathlib.Core.Bool.{Bool, true, false, cond}
@@ -47,8 +47,8 @@ module _ (filler : ℕ) where
   filler-or-digit width value i h = rw (column-place filler width value i h) (kind-at value (width - 1 - i))
 
 -- where the filler is a space, no column is a line feed
-pub columns-one-line : (width value i : ℕ) → i < width → getD (columns space width value) i 0 ≢ 10
-columns-one-line width value i h e = elim (filler-or-digit space width value i h) [ inl f ↦ omega arith | inr d ↦ omega arith ]
+pub no-line-feed : (width value i : ℕ) → i < width → getD (columns space width value) i 0 ≢ 10
+no-line-feed width value i h e = elim (filler-or-digit space width value i h) [ inl f ↦ omega arith | inr d ↦ omega arith ]
 
 -- what a column counts is the number's digit at its place
 module _ (filler : ℕ) (small : filler ≤ zeroDigit) where

@@ -1,5 +1,6 @@
--- Decimal columns: a number right-aligned in so many columns of decimal digits, the laws of columns, and worked samples.
+-- Decimal columns: a number right-aligned in so many columns of decimal digits.
+-- Columns defines them and computes samples; the others are laws.
 pub mod Columns
 pub mod Laws
-pub mod Samples
+pub mod Digits
 pub mod Storing

@@ -1,4 +1,5 @@
--- Laws for a loop that stores the columns of a number from the units to the left.
+-- Laws for a loop that stores the columns of a number from the units to the left: what holds before each column,
+-- how one column more is stored, and that in the end all are stored.
 use Prim.Native.Nat.{ℕ, suc, _+_, _-_, _/_, _%_, _^_, _≤_, _<_}
 use mathlib.Core.Path.{_≡_, refl, ap, _∙_}
 use mathlib.Core.List.{List}
@@ -9,6 +10,7 @@ use borrow.Author.Tests.{lt-ltb, le-ltb}
 use Rattle.field.specs.Put.{put, put-none, put-front}
 use Rattle.decimal.specs.Columns.{zeroDigit, columnOf, columnAt, columns}
 
+-- one column, by whether anything is left of the number
 pub column-digit : (filler rest : ℕ) → 0 < rest → zeroDigit + rest % 10 ≡ columnOf filler rest
 unfolding columnOf
 column-digit filler rest h = simp (lt-ltb _ _ h)
@@ -17,7 +19,7 @@ pub column-filler : (filler rest : ℕ) → rest ≤ 0 → filler ≡ columnOf f
 unfolding columnOf
 column-filler filler rest h = simp (le-ltb _ _ h)
 
--- the columns from `left` on are stored, `rest` is the number without the digits of those, and `next` is the column left of them
+-- the columns from `left` on are stored, `rest` is the number without their digits, and `next` is the column left of them
 pub record Stored (d₀ d : List ℕ) (at width filler value left rest next : ℕ) : Type 0 where
   pub within : left ≤ width
   pub long : length d ≡ length d₀

@@ -11,7 +11,7 @@ pub const ZERO_DIGIT: u8 = 48;
 
 pub const SPACE: u8 = 32;
 
-// The column of what is left of a number where its lower digits are cut off: its last digit, or the filler where nothing is left.
+// The column of what is left of a number without its lower digits: the last digit of it, or the filler where nothing is left.
 fn column(filler: u8, rest: u64) -> u8
     ensures { λ r. ⌜ r ≡ columnOf filler rest ⌝ }
 {

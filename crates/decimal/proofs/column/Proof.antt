@@ -1,4 +1,6 @@
 -- `column` meets its contract: the digit where something is left of the number, else the filler.
+use Prim.Native.Nat.{_<_}
+use native.Mathlib.Omega.{arith}
 use borrow.Author.Needs.{needs}
 use Rattle.decimal.specs.Storing.{column-digit, column-filler}
 use Rattle.decimal.proofs.column.Statement.{statement}
@@ -11,7 +13,7 @@ add-result : tie.Need-add-result
 add-result c = search needs
 
 returns : tie.Need-returns
-returns c = search column-digit
+returns c = let some : 0 < c .before .args .rest = omega arith in search column-digit
 
 returns-2 : tie.Need-returns-2
 returns-2 c = search column-filler

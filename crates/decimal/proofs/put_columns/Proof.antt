@@ -1,4 +1,6 @@
 -- `put_columns` meets its contract. Invariant: the columns from `left` on are stored, and `next` is the column left of them.
+use Prim.Native.Nat.{_<_}
+use native.Mathlib.Omega.{arith}
 use borrow.Author.Needs.{needs}
 use Rattle.decimal.specs.Storing.{Stored, stored-none, stored-more, stored-all}
 use Rattle.decimal.proofs.put_columns.Statement.{statement}
@@ -35,7 +37,7 @@ loop-less : tie.Need-loop-less Inv-loop μ-loop
 loop-less c = search needs
 
 loop-again : tie.Need-loop-again Inv-loop μ-loop
-loop-again c = search stored-more
+loop-again c = let more : 0 < c .before .before .loop .left = omega arith in search stored-more
 
 same-length : tie.Need-same-length Inv-loop μ-loop
 same-length c = search needs
