@@ -2,3 +2,4 @@
 pub mod Page
 pub mod Call
 pub mod Lines
+pub mod Uncut
