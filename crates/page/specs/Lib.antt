@@ -3,3 +3,4 @@ pub mod Page
 pub mod Call
 pub mod Lines
 pub mod Uncut
+pub mod Determined

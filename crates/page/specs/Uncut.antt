@@ -1,6 +1,6 @@
 -- No number on the page of a lawful plan of a sound sheet is cut: each has no more digits than its field has columns, so that the columns say the number.
 -- The bounds are those of lawful timetables (crate rules_laws, specs/Fits.antt): members in tens, times up to the ceiling, figures up to so many ceilings.
-use Prim.Native.Nat.{ℕ, _+_, _*_, _^_, _≤_, _<_}
+use Prim.Native.Nat.{ℕ, _+_, _^_, _≤_, _<_}
 use mathlib.Core.Path.{_≡_}
 use native.Mathlib.Omega.{arith}
 use lib.ListN.{length}
