@@ -11,6 +11,7 @@ use Rattle.field.specs.Put.{put, put-one, joined}
 use Rattle.rules.specs.declared.Batch.{Batch}
 use Rattle.rules.specs.declared.Job.{Job}
 use Rattle.rules.specs.declared.Passes.{Passes}
+use Rattle.page.specs.Lines.{second-columns, blanks-columns}
 use Rattle.page.specs.Page.{lineFeed, lineBytes, headLine, memberLine, secondField, blanks, batchLine, jobLine, blockLine, batchLetter, jobLetter, blockLetter}
 
 -- a line with its line feed
@@ -21,52 +22,8 @@ lineLength = 33
 unfoldable pub lastFields : ℕ → ℕ → List ℕ
 lastFields third fourth = columns space 12 third ++ columns space 12 fourth ++ (lineFeed ∷ [])
 
--- how long the parts of a line are
-length-second : (value : ℕ) → length (secondField value) ≡ 4
-unfolding secondField
-length-second value = length-columns space 4 value
-
-length-blanks : length blanks ≡ 4
-unfolding blanks
-length-blanks = refl
-
 length-first : (letter value : ℕ) → length (letter ∷ columns space 3 value) ≡ 4
 length-first letter value = omega (arith, length-columns space 3 value)
-
-pub length-head : (letter figure : ℕ) → length (headLine letter figure) ≡ 32
-unfolding headLine
-length-head letter figure = omega (arith, length-columns space 31 figure)
-
-module _ (letter first : ℕ) (second : List ℕ) (third fourth : ℕ) where
-  pub length-member : length second ≡ 4 → length (memberLine letter first second third fourth) ≡ 32
-  unfolding memberLine
-  length-member h =
-      omega (
-        arith,
-        h,
-        length-append ((letter ∷ columns space 3 first) ++ second) (columns space 12 third ++ columns space 12 fourth),
-        length-append (letter ∷ columns space 3 first) second,
-        length-append (columns space 12 third) (columns space 12 fourth),
-        length-columns space 3 first,
-        length-columns space 12 third,
-        length-columns space 12 fourth,
-      )
-
-pub length-batch-line : (number : ℕ) (b : Batch) → length (batchLine number b) ≡ 32
-unfolding batchLine
-length-batch-line number b = length-member batchLetter number (secondField (b .last)) (b .start) (b .finish) (length-second (b .last))
-
-pub length-job-line : (j : Job) → length (jobLine j) ≡ 32
-unfolding jobLine
-length-job-line j = length-member jobLetter (j .desk) (secondField (j .number)) (j .scan) (j .start) (length-second (j .number))
-
-pub length-block-line : (number : ℕ) (p : Passes) → length (blockLine number p) ≡ 32
-unfolding blockLine
-length-block-line number p = length-member blockLetter number blanks (p .first) (p .second) length-blanks
-
-pub length-line : (line : List ℕ) → length line ≡ 32 → length (lineBytes line) ≡ lineLength
-unfolding lineBytes
-length-line line h = omega (arith, length-append line (lineFeed ∷ []), h)
 
 -- The stores. A head line: its letter, its figure, the line feed.
 module _ (d : List ℕ) (at letter : ℕ) where
@@ -158,13 +115,13 @@ module _ (d d₁ d₂ d₃ : List ℕ) (at : ℕ) where
       → d₃ ≡ put d at (lineBytes (memberLine letter first (secondField second) third fourth))
   unfolding secondField
   member-stored letter first second third fourth e₁ e₂ e₃ =
-      line-stored d d₁ d₂ d₃ at letter first (secondField second) third fourth (length-second second) e₁ e₂ e₃
+      line-stored d d₁ d₂ d₃ at letter first (secondField second) third fourth (second-columns second) e₁ e₂ e₃
 
   pub block-stored : (number : ℕ) (p : Passes) → d₁ ≡ put d at (blockLetter ∷ columns space 3 number) → d₂ ≡ put d₁ (at + 4) blanks
       → d₃ ≡ put d₂ (at + 8) (lastFields (p .first) (p .second))
       → d₃ ≡ put d at (lineBytes (blockLine number p))
   unfolding blockLine
-  block-stored number p e₁ e₂ e₃ = line-stored d d₁ d₂ d₃ at blockLetter number blanks (p .first) (p .second) length-blanks e₁ e₂ e₃
+  block-stored number p e₁ e₂ e₃ = line-stored d d₁ d₂ d₃ at blockLetter number blanks (p .first) (p .second) blanks-columns e₁ e₂ e₃
 
 module _ (d d₁ : List ℕ) (at : ℕ) where
   pub batch-stored : (number : ℕ) (b : Batch) → d₁ ≡ put d at (lineBytes (memberLine batchLetter number (secondField (b .last)) (b .start) (b .finish)))
