@@ -74,8 +74,7 @@ unfolding found statedPlan
 judged-stated sheet plan z =
     let r = judged-right sheet plan z in
     let sound = read-sound sheet (r .0) in
-    let e = right-judged sheet plan (r .0) (r .1) in
-    (
+    let e = right-judged sheet plan (r .0) (r .1) in (
       stated-lawful (readSheet sheet) plan sound (r .1),
       record {
         place = ap (λ (j : Judged). j .place) e;

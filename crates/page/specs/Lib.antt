@@ -8,3 +8,4 @@ pub mod Determined
 pub mod LineLaws
 pub mod Printed
 pub mod SectionLaws
+pub mod PageLaws

@@ -1,25 +1,26 @@
 -- The sections as they are stored: the lines of the members one behind the other, all of one length, behind the head line.
-use Prim.Native.Nat.{ℕ, _+_, _*_, _^_, _≤_, _<_}
-use mathlib.Core.Path.{_≡_, refl, sym, ap, _∙_}
-use mathlib.Core.List.{List, [], _∷_, _++_}
+use Prim.Native.Nat.{ℕ, _+_, _*_, _≤_, _<_}
+use mathlib.Core.Path.{_≡_, sym, ap, _∙_}
+use mathlib.Core.List.{List, _∷_}
+use native.Mathlib.Decide.{decLt}
 use native.Mathlib.Omega.{arith}
-use lib.ListN.{length}
-use Rattle.base.specs.Listed.{listed, listed-length}
-use Rattle.field.specs.Put.{put, put-none, length-put, joined, Written, then-written}
+use lib.ListN.{length, length-append}
+use Rattle.base.specs.Listed.{listed}
+use Rattle.field.specs.Put.{put, put-none, Written, then-written}
 use Rattle.field.specs.Members.{membersTo, Storing, storing-none, storing-more, storing-all, length-members}
 use Rattle.plan_format.specs.Format.{sizeOf, mosaicHeadForm, batchForm, sortingHeadForm, jobForm, flightHeadForm, passesForm}
 use Rattle.rules.specs.Plan.{membersBytes, ifPresent}
 use Rattle.rules.specs.declared.Batch.{Batch}
 use Rattle.rules.specs.declared.Job.{Job}
 use Rattle.rules.specs.declared.Passes.{Passes}
-use Rattle.rules_laws.specs.Joined.{members-listed, members-append}
+use Rattle.rules_laws.specs.Joined.{members-listed}
 use Rattle.rules_laws.specs.Present.{present-none, present-some}
 use Rattle.plan_read.specs.PlanRead.{batchFrom, jobFrom, passesFrom, BatchRead, JobRead, PassesRead}
 use Rattle.judge_layout.specs.declared.Part.{Part}
 use Rattle.page.specs.Page.{lineBytes, linesBytes, headLine, batchLine, jobLine, blockLine, mosaicHeadLetter, sortingHeadLetter, flightHeadLetter}
 use Rattle.page.specs.Lines.{length-line, head-columns, batch-columns, job-columns, block-columns}
 use Rattle.page.specs.LineLaws.{lineLength}
-use Rattle.page.specs.Printed.{batchLineFrom, jobLineFrom, blockLineFrom, mosaicPrinted, sortingPrinted, flightPrinted, PrintMembersPre, PrintSectionPre}
+use Rattle.page.specs.Printed.{batchLineFrom, jobLineFrom, blockLineFrom, mosaicPrinted, sortingPrinted, flightPrinted}
 
 -- The loops over the members: the lines of the first i are stored.
 abbrev pub LinesStored : (ℕ → List ℕ) → List ℕ → List ℕ → ℕ → ℕ → ℕ → Type 0
@@ -69,6 +70,20 @@ absent d at n lines h = rw (present-none n lines h) (record { buffer = put-none 
     none : at ≡ at + 0
     none = omega arith
 
+module _ (n : ℕ) (head : List ℕ) (line : ℕ → List ℕ) (h : length head ≡ 32) (wide : (i : ℕ) → length (line i) ≡ 32) where
+  members-long : length (linesBytes (listed n line)) ≡ lineLength * n
+  members-long = ap length (members-listed lineBytes n line) ∙ length-members lineBytes line lineLength (λ k. length-line (line k) (wide k)) n
+
+  section-long : length (linesBytes (ifPresent n (head ∷ listed n line))) ≤ lineLength + lineLength * n
+  unfolding membersBytes
+  section-long = go (decLt 0 n)
+    where
+      go : Dec (0 < n) → length (linesBytes (ifPresent n (head ∷ listed n line))) ≤ lineLength + lineLength * n
+      go (yes some) =
+          rw (present-some n (head ∷ listed n line) some)
+          (omega (arith, length-append (lineBytes head) (linesBytes (listed n line)), length-line head h, members-long))
+      go (no none) = rw (present-none n (head ∷ listed n line) (omega arith)) (omega arith)
+
 section : (d d₁ d₂ : List ℕ) (at n : ℕ) (head : List ℕ) (line : ℕ → List ℕ) → length head ≡ 32 → ((i : ℕ) → length (line i) ≡ 32) → 1 ≤ n
     → d₁ ≡ put d at (lineBytes head) → d₂ ≡ put d₁ (at + lineLength) (linesBytes (listed n line))
     → Written d d₂ at (linesBytes (ifPresent n (head ∷ listed n line))) (at + lineLength + lineLength * n)
@@ -77,10 +92,7 @@ section d d₁ d₂ at n head line h wide some e₁ e₂ =
     rw (present-some n (head ∷ listed n line) some)
     (then-written d d₁ d₂ at (at + lineLength) (at + lineLength + lineLength * n) (lineBytes head) (linesBytes (listed n line))
     (record { buffer = e₁; end = omega (arith, length-line head h) })
-    (record { buffer = e₂; end = omega (arith, long) }))
-  where
-    long : length (linesBytes (listed n line)) ≡ lineLength * n
-    long = ap length (members-listed lineBytes n line) ∙ length-members lineBytes line lineLength (λ k. length-line (line k) (wide k)) n
+    (record { buffer = e₂; end = omega (arith, members-long n head line h wide) }))
 
 module _ (plan : List ℕ) (part : Part) (figure : ℕ) (d : List ℕ) (at : ℕ) where
   pub mosaic-absent : part .members < 1 → Written d d at (linesBytes (mosaicPrinted plan part figure)) at
@@ -94,6 +106,15 @@ module _ (plan : List ℕ) (part : Part) (figure : ℕ) (d : List ℕ) (at : ℕ
   pub flight-absent : part .members < 1 → Written d d at (linesBytes (flightPrinted plan part figure)) at
   unfolding flightPrinted
   flight-absent h = absent d at (part .members) _ h
+
+  -- how long a section is at most
+  pub mosaic-long : length (linesBytes (mosaicPrinted plan part figure)) ≤ lineLength + lineLength * part .members
+  unfolding mosaicPrinted batchLineFrom
+  mosaic-long = section-long (part .members) _ _ (head-columns mosaicHeadLetter figure) (λ k. batch-columns (k + 1) _)
+
+  pub sorting-long : length (linesBytes (sortingPrinted plan part figure)) ≤ lineLength + lineLength * part .members
+  unfolding sortingPrinted jobLineFrom
+  sorting-long = section-long (part .members) _ _ (head-columns sortingHeadLetter figure) (λ k. job-columns _)
 
   module _ (d₁ d₂ : List ℕ) (some : 1 ≤ part .members) where
     pub mosaic-stored : d₁ ≡ put d at (lineBytes (headLine mosaicHeadLetter figure))
@@ -116,9 +137,3 @@ module _ (plan : List ℕ) (part : Part) (figure : ℕ) (d : List ℕ) (at : ℕ
     unfolding flightPrinted blockLineFrom
     flight-stored e₁ e₂ =
         section d d₁ d₂ at (part .members) _ _ (head-columns flightHeadLetter figure) (λ k. block-columns (k + 1) _) some e₁ e₂
-
-  -- what the lines of the members ask
-  module _ (h : 1 ≤ part .members) where
-    pub members-asked : (size skip : ℕ) (d₁ : List ℕ) → PrintSectionPre d at plan size part → length plan * 1 < 2 ^ 63 → skip ≤ 65535 → length d₁ ≡ length d
-        → PrintMembersPre d₁ (at + lineLength) (part .head + skip) size (part .members)
-    members-asked size skip d₁ a small l e = record { room = omega (arith, a .room, e); place = omega (arith, a .place, small, l) }

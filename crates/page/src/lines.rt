@@ -81,7 +81,15 @@ fn put_last(page: &mut [u8], at: usize, third: u64, fourth: u64)
 }
 
 // A member line whose second field is a number.
-fn put_member_line(page: &mut [u8], at: usize, letter: u8, first: u64, second: u64, third: u64, fourth: u64)
+fn put_member_line(
+    page: &mut [u8],
+    at: usize,
+    letter: u8,
+    first: u64,
+    second: u64,
+    third: u64,
+    fourth: u64,
+)
     requires { ⌜ at + lineLength ≤ length (now page) ⌝ }
     ensures { λ _. ⌜ now (page .exit) ≡ put (now (page .entry)) at (lineBytes (memberLine letter first (secondField second) third fourth)) ⌝ }
 {

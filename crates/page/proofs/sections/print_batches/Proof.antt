@@ -1,3 +1,8 @@
+-- `page::sections::print_batches` meets its contract: the lines of the first i batches are stored.
+use Prim.Native.Nat.{_-_}
+use Rattle.page.specs.Printed.{batchLineFrom}
+use Rattle.page.specs.SectionLaws.{LinesStored, lines-none, lines-all, batches-more}
+use borrow.Author.Needs.{needs}
 use Rattle.page.proofs.sections.print_batches.Statement.{statement}
 use Rattle.page.proofs.sections.print_batches.Tie as tie
 use Rattle.page.proofs.sections.print_batches.Reads as reads
@@ -6,62 +11,49 @@ use Rattle.page.proofs.lines.put_batch_line.Reads as put-batch-line-rea
 use Rattle.plan_read.proofs.batch_from.Reads as batch-from-reads
 
 abbrev Inv-loop : tie.InvT-loop
-Inv-loop page₀ at plan first n i₀ page i = ?
+Inv-loop page₀ at plan first n i₀ page i = LinesStored (batchLineFrom plan first) page₀ page at n i
 
 abbrev μ-loop : tie.MeasureT-loop
-μ-loop page₀ at plan first n i₀ page i = ?
+μ-loop page₀ at plan first n i₀ page i = n - i
 
--- src/sections.rt:37:5
 loop-holds : tie.Need-loop-holds Inv-loop μ-loop
-loop-holds c = ?
+loop-holds c = search lines-none
 
--- src/sections.rt:38:42
 mul-batch-from : tie.Need-mul-batch-from Inv-loop μ-loop
-mul-batch-from c = ?
+mul-batch-from c = search needs
 
--- src/sections.rt:38:34
 add-batch-from : tie.Need-add-batch-from Inv-loop μ-loop
-add-batch-from c = ?
+add-batch-from c = search needs
 
--- src/sections.rt:38:13
 batch-from-requires : tie.Need-batch-from-requires Inv-loop μ-loop
-batch-from-requires c κs = ?
+batch-from-requires c κs = search needs
 
--- src/sections.rt:39:35
 mul-put-batch-line : tie.Need-mul-put-batch-line Inv-loop μ-loop
-mul-put-batch-line c = ?
+mul-put-batch-line c = search needs
 
--- src/sections.rt:39:30
 add-put-batch-line : tie.Need-add-put-batch-line Inv-loop μ-loop
-add-put-batch-line c = ?
+add-put-batch-line c = search needs
 
--- src/sections.rt:39:52
 add-put-batch-line-2 : tie.Need-add-put-batch-line-2 Inv-loop μ-loop
-add-put-batch-line-2 c = ?
+add-put-batch-line-2 c = search needs
 
--- src/sections.rt:39:9
 put-batch-line-requires : tie.Need-put-batch-line-requires Inv-loop μ-loop
-put-batch-line-requires c κs = ?
+put-batch-line-requires c κs = search needs
 
--- src/sections.rt:40:9
 add-i : tie.Need-add-i Inv-loop μ-loop
-add-i c = ?
+add-i c = search needs
 
--- src/sections.rt:37:5
 loop-less : tie.Need-loop-less Inv-loop μ-loop
-loop-less c = ?
+loop-less c = search needs
 
--- src/sections.rt:37:5
 loop-again : tie.Need-loop-again Inv-loop μ-loop
-loop-again c = ?
+loop-again c = search batches-more
 
--- src/sections.rt:32:1
 same-length : tie.Need-same-length Inv-loop μ-loop
-same-length c = ?
+same-length c = search needs
 
--- src/sections.rt:32:1
 returns : tie.Need-returns Inv-loop μ-loop
-returns c = ?
+returns c = search lines-all
 
 pub print-batches-spec : {M : Type 1} → statement M
 print-batches-spec =

@@ -1,3 +1,8 @@
+-- `page::sections::print_blocks` meets its contract: the lines of the first i blocks are stored.
+use Prim.Native.Nat.{_-_}
+use Rattle.page.specs.Printed.{blockLineFrom}
+use Rattle.page.specs.SectionLaws.{LinesStored, lines-none, lines-all, blocks-more}
+use borrow.Author.Needs.{needs}
 use Rattle.page.proofs.sections.print_blocks.Statement.{statement}
 use Rattle.page.proofs.sections.print_blocks.Tie as tie
 use Rattle.page.proofs.sections.print_blocks.Reads as reads
@@ -6,62 +11,49 @@ use Rattle.page.proofs.lines.put_block_line.Reads as put-block-line-rea
 use Rattle.plan_read.proofs.passes_from.Reads as passes-from-reads
 
 abbrev Inv-loop : tie.InvT-loop
-Inv-loop page₀ at plan first n i₀ page i = ?
+Inv-loop page₀ at plan first n i₀ page i = LinesStored (blockLineFrom plan first) page₀ page at n i
 
 abbrev μ-loop : tie.MeasureT-loop
-μ-loop page₀ at plan first n i₀ page i = ?
+μ-loop page₀ at plan first n i₀ page i = n - i
 
--- src/sections.rt:63:5
 loop-holds : tie.Need-loop-holds Inv-loop μ-loop
-loop-holds c = ?
+loop-holds c = search lines-none
 
--- src/sections.rt:64:43
 mul-passes-from : tie.Need-mul-passes-from Inv-loop μ-loop
-mul-passes-from c = ?
+mul-passes-from c = search needs
 
--- src/sections.rt:64:35
 add-passes-from : tie.Need-add-passes-from Inv-loop μ-loop
-add-passes-from c = ?
+add-passes-from c = search needs
 
--- src/sections.rt:64:13
 passes-from-requires : tie.Need-passes-from-requires Inv-loop μ-loop
-passes-from-requires c κs = ?
+passes-from-requires c κs = search needs
 
--- src/sections.rt:65:35
 mul-put-block-line : tie.Need-mul-put-block-line Inv-loop μ-loop
-mul-put-block-line c = ?
+mul-put-block-line c = search needs
 
--- src/sections.rt:65:30
 add-put-block-line : tie.Need-add-put-block-line Inv-loop μ-loop
-add-put-block-line c = ?
+add-put-block-line c = search needs
 
--- src/sections.rt:65:52
 add-put-block-line-2 : tie.Need-add-put-block-line-2 Inv-loop μ-loop
-add-put-block-line-2 c = ?
+add-put-block-line-2 c = search needs
 
--- src/sections.rt:65:9
 put-block-line-requires : tie.Need-put-block-line-requires Inv-loop μ-loop
-put-block-line-requires c κs = ?
+put-block-line-requires c κs = search needs
 
--- src/sections.rt:66:9
 add-i : tie.Need-add-i Inv-loop μ-loop
-add-i c = ?
+add-i c = search needs
 
--- src/sections.rt:63:5
 loop-less : tie.Need-loop-less Inv-loop μ-loop
-loop-less c = ?
+loop-less c = search needs
 
--- src/sections.rt:63:5
 loop-again : tie.Need-loop-again Inv-loop μ-loop
-loop-again c = ?
+loop-again c = search blocks-more
 
--- src/sections.rt:58:1
 same-length : tie.Need-same-length Inv-loop μ-loop
-same-length c = ?
+same-length c = search needs
 
--- src/sections.rt:58:1
 returns : tie.Need-returns Inv-loop μ-loop
-returns c = ?
+returns c = search lines-all
 
 pub print-blocks-spec : {M : Type 1} → statement M
 print-blocks-spec =

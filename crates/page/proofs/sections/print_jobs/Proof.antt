@@ -1,3 +1,8 @@
+-- `page::sections::print_jobs` meets its contract: the lines of the first i strips are stored.
+use Prim.Native.Nat.{_-_}
+use Rattle.page.specs.Printed.{jobLineFrom}
+use Rattle.page.specs.SectionLaws.{LinesStored, lines-none, lines-all, jobs-more}
+use borrow.Author.Needs.{needs}
 use Rattle.page.proofs.sections.print_jobs.Statement.{statement}
 use Rattle.page.proofs.sections.print_jobs.Tie as tie
 use Rattle.page.proofs.sections.print_jobs.Reads as reads
@@ -6,58 +11,46 @@ use Rattle.page.proofs.lines.put_job_line.Reads as put-job-line-reads
 use Rattle.plan_read.proofs.job_from.Reads as job-from-reads
 
 abbrev Inv-loop : tie.InvT-loop
-Inv-loop page₀ at plan first n i₀ page i = ?
+Inv-loop page₀ at plan first n i₀ page i = LinesStored (jobLineFrom plan first) page₀ page at n i
 
 abbrev μ-loop : tie.MeasureT-loop
-μ-loop page₀ at plan first n i₀ page i = ?
+μ-loop page₀ at plan first n i₀ page i = n - i
 
--- src/sections.rt:50:5
 loop-holds : tie.Need-loop-holds Inv-loop μ-loop
-loop-holds c = ?
+loop-holds c = search lines-none
 
--- src/sections.rt:51:40
 mul-job-from : tie.Need-mul-job-from Inv-loop μ-loop
-mul-job-from c = ?
+mul-job-from c = search needs
 
--- src/sections.rt:51:32
 add-job-from : tie.Need-add-job-from Inv-loop μ-loop
-add-job-from c = ?
+add-job-from c = search needs
 
--- src/sections.rt:51:13
 job-from-requires : tie.Need-job-from-requires Inv-loop μ-loop
-job-from-requires c κs = ?
+job-from-requires c κs = search needs
 
--- src/sections.rt:52:33
 mul-put-job-line : tie.Need-mul-put-job-line Inv-loop μ-loop
-mul-put-job-line c = ?
+mul-put-job-line c = search needs
 
--- src/sections.rt:52:28
 add-put-job-line : tie.Need-add-put-job-line Inv-loop μ-loop
-add-put-job-line c = ?
+add-put-job-line c = search needs
 
--- src/sections.rt:52:9
 put-job-line-requires : tie.Need-put-job-line-requires Inv-loop μ-loop
-put-job-line-requires c κs = ?
+put-job-line-requires c κs = search needs
 
--- src/sections.rt:53:9
 add-i : tie.Need-add-i Inv-loop μ-loop
-add-i c = ?
+add-i c = search needs
 
--- src/sections.rt:50:5
 loop-less : tie.Need-loop-less Inv-loop μ-loop
-loop-less c = ?
+loop-less c = search needs
 
--- src/sections.rt:50:5
 loop-again : tie.Need-loop-again Inv-loop μ-loop
-loop-again c = ?
+loop-again c = search jobs-more
 
--- src/sections.rt:45:1
 same-length : tie.Need-same-length Inv-loop μ-loop
-same-length c = ?
+same-length c = search needs
 
--- src/sections.rt:45:1
 returns : tie.Need-returns Inv-loop μ-loop
-returns c = ?
+returns c = search lines-all
 
 pub print-jobs-spec : {M : Type 1} → statement M
 print-jobs-spec =
