@@ -197,6 +197,14 @@ def compare(what, found, due):
         wrong.append("%s\n  due   %r\n  found %r" % (what, due, found))
 
 
+def compare_bytes(what, found, due):
+    """Bytes that may be many: shown are those about the first difference."""
+    if found == due:
+        return
+    at = next((at for at, pair in enumerate(zip(found, due)) if pair[0] != pair[1]), min(len(found), len(due)))
+    compare("%s: byte %d of %d" % (what, at, len(due)), found[max(0, at - 33):at + 33], due[max(0, at - 33):at + 33])
+
+
 def refusal(number, place):
     return field(0xE0, word(number) + four(place))
 
@@ -216,8 +224,11 @@ def answer(number, place, page, room):
 
 def compare_call(folder, program, name, sheet, plan, number, place, page):
     """The function with buffers that are too small, 2 whatever the sheet and the plan, and with larger ones."""
-    due = [answer(2, 0, b"", room) for room in SMALL_ROOMS] + [answer(number, place, page, room) for room in ROOMS]
-    compare("%s: page buffers of %s bytes" % (name, SMALL_ROOMS + ROOMS), run(folder, program, sheet, plan, SMALL_ROOMS + ROOMS), b"".join(due))
+    found, at = run(folder, program, sheet, plan, SMALL_ROOMS + ROOMS), 0
+    for room in SMALL_ROOMS + ROOMS:
+        due = answer(2, 0, b"", room) if room < LEAST_ROOM else answer(number, place, page, room)
+        compare_bytes("%s: a page buffer of %d bytes" % (name, room), found[at:at + len(due)], due)
+        at += len(due)
 
 
 def compare_pairs():
@@ -232,7 +243,7 @@ def main(printer, function):
     with tempfile.TemporaryDirectory() as name:
         folder = pathlib.Path(name)
         for name, sheet, plan, page in PAGES:
-            compare("%s: the page" % name, run(folder, printer, sheet, plan), page)
+            compare_bytes("%s: the page" % name, run(folder, printer, sheet, plan), page)
             compare("%s: lines of 32 columns" % name, {len(line) for line in page.split(b"\n")[:-1]}, {32})
             compare_call(folder, function, name, sheet, plan, 0, 0, page)
         for name, sheet, plan, number, place in REFUSED:
