@@ -64,6 +64,7 @@ def longest_judged():
 
 def fixed():
     """Name and cases of the kinds that are the same for every seed."""
+    yield "pages that are the same for every seed", itertools.starmap(PageCase, pages.fixed())
     yield "every tiny mosaic", (PlanCase(sheet, least=of_timetables) for sheet in tiny.mosaics())
     yield "every tiny sorting", (PlanCase(sheet, least=of_timetables) for sheet in tiny.sortings())
     yield "every tiny flight", tiny_flights()
@@ -81,7 +82,6 @@ def fixed():
     yield "plans of more than 65,536 bytes", long_plans()
     yield "the longest sections", map(PlanCase, longest.planned())
     yield "plans of the longest sections, up to the ceiling", longest_judged()
-    yield "pages that are the same for every seed", itertools.starmap(PageCase, pages.fixed())
 
 
 def share(count, part):

@@ -29,12 +29,13 @@ from timetable import CEILING
 
 
 def buffers():
-    untrue = tiny.small_plan()[:3] + b"\xff" + tiny.small_plan()[4:]
-    broken = tiny.small_plan()[:-1] + b"\xff"
-    wrong = tiny.small_plan()[:-1]
-    rooms = sorted({max(0, LINE * lines + more) for lines in range(ROOM // LINE + 2) for more in (-1, 0, 1)})
-    for sheet, plan in [(tiny.SMALL, tiny.small_plan()), (tiny.SMALL, untrue), (tiny.SMALL, broken), (tiny.SMALL, wrong), (tiny.SMALL[:-1], tiny.small_plan())]:
-        yield from ((sheet, plan, room) for room in rooms)
+    """The lengths about the limit first."""
+    plan = tiny.small_plan()
+    untrue, broken, cut = plan[:3] + b"\xff" + plan[4:], plan[:-1] + b"\xff", plan[:-1]
+    rooms = {max(0, LINE * lines + more) for lines in range(ROOM // LINE + 2) for more in (-1, 0, 1)}
+    for room in sorted(rooms, key=lambda room: abs(room - ROOM)):
+        yield from ((tiny.SMALL, other, room) for other in (plan, untrue, broken, cut))
+        yield tiny.SMALL[:-1], plan, room
 
 
 def plan_rows():
@@ -92,7 +93,7 @@ def longest_plans():
 
 
 def fixed():
-    for kind in (buffers, plan_rows, sheet_rows, changes, digits, full_page, longest_plans):
+    for kind in (digits, full_page, buffers, plan_rows, sheet_rows, changes, longest_plans):
         yield from kind()
 
 
