@@ -48,6 +48,14 @@ struct times {
     double ours[MOST_INSTANCES], plain[MOST_INSTANCES], ratio[MOST_INSTANCES];
 };
 
+/* Adds the times of both sides on one instance. */
+static inline void add_times(struct times *t, double ours, double plain) {
+    t->ours[t->count] = ours;
+    t->plain[t->count] = plain;
+    t->ratio[t->count] = ours / plain;
+    t->count++;
+}
+
 /* Times both sides on one instance in turns. The least time of each side counts; a short call is repeated for a millisecond. */
 static inline void add_instance(struct times *t, work *ours, work *plain, void *instance) {
     int calls = (int)(1e-3 / (time_of(plain, instance, 1) + 1e-9)) + 1;
@@ -57,10 +65,7 @@ static inline void add_instance(struct times *t, work *ours, work *plain, void *
         a = x < a ? x : a;
         b = y < b ? y : b;
     }
-    t->ours[t->count] = a;
-    t->plain[t->count] = b;
-    t->ratio[t->count] = a / b;
-    t->count++;
+    add_times(t, a, b);
 }
 
 static inline int by_value(const void *a, const void *b) {

@@ -2,6 +2,7 @@
    blocks or 32 with an order), a small sheet, and sheets that are refused. Both must give the same answer and leave the same bytes in the buffer.
    rt staticlib viewer && gcc -O2 -Wall -Wextra -Werror -Iinclude -o target/bench_plan bench/plan.c target/staticlib/libviewer.a && target/bench_plan */
 #include "plan.h"
+#include "sheet_writer.h"
 #include <string.h>
 
 enum { SHEETS = 21, ORDER_FIELD = 11 };
@@ -52,34 +53,6 @@ struct call {
     struct incumbent best;
 };
 
-/* The bytes of the sections. Each of these writes at d and returns where it ended. */
-
-static uint8_t *put_mosaic(uint8_t *d, const struct mosaic *m) {
-    d = put(put(put_head(d, MOSAIC_HEAD, 3), 1, m->stations), 2, m->mount);
-    for (size_t j = 0; j < m->strips; j++) {
-        d = put_head(d, MOSAIC_STRIP, 2 * m->stations + 2);
-        for (size_t k = 0; k < m->stations; k++)
-            d = put(d, 2, m->station[4 * j + k]);
-        d = put(d, 2, m->bench[j]);
-    }
-    return d;
-}
-
-static uint8_t *put_sorting(uint8_t *d, const struct sorting *s) {
-    d = put(put_head(d, SORTING_HEAD, 1), 1, s->desks);
-    for (size_t i = 0; i < 18; i++)
-        if (i % 6 < s->counts[i / 6])
-            d = put(put(put(put_head(d, SORTING_STRIP, 5), 1, i / 6 + 1), 2, s->scan[i]), 2, s->desk[i]);
-    return d;
-}
-
-static uint8_t *put_flight(uint8_t *d, const struct flight *f) {
-    d = put_head(d, FLIGHT_HEAD, 0);
-    for (size_t i = 0; i < f->blocks; i++)
-        d = put(put(put(put_head(d, FLIGHT_BLOCK, 6), 2, f->first[i]), 2, f->delay[i]), 2, f->second[i]);
-    return f->ordered ? put(put_head(d, FLIGHT_ORDER, 8), 8, f->order) : d;
-}
-
 static void change_sections(struct sheet *s, enum change change) {
     if (change == ONE_MEMBER_EACH) {
         s->mosaic.strips = s->sorting.counts[0] = s->flight.blocks = 1;
@@ -107,7 +80,7 @@ static void make_call(struct call *x, const struct family *f) {
     s->sorting = random_sorting(f->sorting, MOST_TIME);
     s->flight = random_flight(f->flight, f->flight_times);
     change_sections(s, f->change);
-    x->length = (size_t)(put_flight(put_sorting(put_mosaic(x->sheet, &s->mosaic), &s->sorting), &s->flight) - x->sheet);
+    x->length = write_sheet(x->sheet, s);
     x->plan_length = SEVULAMON_PLAN_LENGTH;
     change_bytes(x, f->change);
     memset(x->ours_plan, 0xCC, sizeof x->ours_plan);

@@ -1,4 +1,4 @@
-/* Plans a sheet file, judges the plan, and prints the timetable. */
+/* Plans a sheet file, judges the plan, and prints the timetable: in words, and as the page for the wall. */
 #include "sevulamon.h"
 
 #include <inttypes.h>
@@ -35,7 +35,15 @@ static void print_field(uint8_t tag, const uint8_t *c) {
     }
 }
 
-/* Plans and judges a sheet, and prints both. Returns 0 where the sheet is planned and the judge allows the plan. */
+/* The page of a plan. Returns 0 where the judge allows the plan. */
+static int print_page(const uint8_t *sheet, size_t sheet_length, const uint8_t *plan, size_t plan_length) {
+    uint8_t page[SEVULAMON_PAGE_LENGTH];
+    struct sevulamon_answer answer = sevulamon_page(sheet, sheet_length, plan, plan_length, page, sizeof page);
+    fwrite(page, 1, answer.length, stdout);
+    return answer.number == SEVULAMON_ACCEPTED ? 0 : 1;
+}
+
+/* Plans and judges a sheet, and prints both and the page. Returns 0 where the sheet is planned and the judge allows the plan. */
 static int print_plan(const uint8_t *sheet, size_t length) {
     uint8_t plan[SEVULAMON_PLAN_LENGTH];
     struct sevulamon_answer answer = sevulamon_plan(sheet, length, plan, sizeof plan);
@@ -47,8 +55,8 @@ static int print_plan(const uint8_t *sheet, size_t length) {
         print_field(plan[at], plan + at + 3);
 
     struct sevulamon_judged judged = sevulamon_judge(sheet, length, plan, answer.length);
-    printf("judged: number %" PRIu64 ", figures %" PRIu64 " %" PRIu64 " %" PRIu64 "\n", judged.number, judged.mosaic, judged.sorting, judged.flight);
-    return judged.number == SEVULAMON_ACCEPTED ? 0 : 1;
+    printf("judged: number %" PRIu64 ", figures %" PRIu64 " %" PRIu64 " %" PRIu64 "\n\n", judged.number, judged.mosaic, judged.sorting, judged.flight);
+    return print_page(sheet, length, plan, answer.length);
 }
 
 int main(int argc, char **argv) {

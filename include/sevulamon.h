@@ -1,4 +1,4 @@
-/* The planner and the judge for C and C++. Link with libviewer.a.
+/* The planner, the judge and the page for C and C++. Link with libviewer.a.
  *
  * A sheet and a plan are rows of fields. A field is a tag (1 byte), the length of its content
  * (2 bytes) and the content. Numbers stand low byte first. docs/FORMAT.md says more, with examples.
@@ -28,6 +28,21 @@
  *                scanner's order  desk start (4)
  *   B0   12      flight head      figure (4): the end of the last pass; order number (8)
  *   B1   8       block            start of its first pass (4), of its second pass (4)
+ *
+ * The page: an allowed plan as text, one line for each field of the plan, in its order. Each line
+ * has 32 columns and a line feed. A head's line is a letter and the figure in 31 columns; a
+ * member's is a letter and fields of 3, 4, 12 and 12 columns. Numbers are decimal, right-aligned
+ * with spaces, without leading zeros. The order number is not printed.
+ *
+ *   line          1       2 to 4   5 to 8        9 to 20       21 to 32
+ *   mosaic head   m       the figure, in columns 2 to 32
+ *   batch         M       number   last strip    mount start   finish
+ *   sorting head  s       the figure
+ *   strip         S       desk     number at it  scan start    desk start
+ *   flight head   f       the figure
+ *   block         F       number   four spaces   first start   second start
+ *
+ * Batches and blocks are numbered from 1 in each section.
  */
 #ifndef SEVULAMON_H
 #define SEVULAMON_H
@@ -37,16 +52,21 @@
 
 /* The minor number rises with every change request that lands (docs/LANDINGS.md). */
 #define SEVULAMON_VERSION_MAJOR 1
-#define SEVULAMON_VERSION_MINOR 1
-#define SEVULAMON_VERSION "1.1"
+#define SEVULAMON_VERSION_MINOR 2
+#define SEVULAMON_VERSION "1.2"
 
 /* A plan buffer of this length is large enough for every sheet. A smaller one is refused with 2,
  * whatever the sheet. */
 #define SEVULAMON_PLAN_LENGTH 1095
 
-/* Bytes of stack that are enough for a thread that plans, and for one that only judges. Measured on
- * full sheets (40 strips, 6 + 6 + 6 strips, 8 free blocks or 32 in order) by the bytes of a painted
- * stack that a call changed: 90,700 for planning, 21,500 for judging. The rest is slack. */
+/* A page buffer of this length is large enough for every plan: 93 lines of 33 bytes. A smaller one
+ * is refused with 2, whatever the page would need. */
+#define SEVULAMON_PAGE_LENGTH 3069
+
+/* Bytes of stack that are enough for a thread that plans, and for one that only judges and prints
+ * pages. Measured on full sheets (40 strips, 6 + 6 + 6 strips, 8 free blocks or 32 in order) by the
+ * bytes of a painted stack that a call changed: 90,700 for planning, 21,500 for judging, (to be
+ * measured) for a page. The rest is slack. */
 #define SEVULAMON_PLAN_STACK 131072
 #define SEVULAMON_JUDGE_STACK 65536
 
@@ -58,7 +78,7 @@ extern "C" {
  * is supplied inside. Where nothing else is said, the place is the offset of the field's tag. */
 enum sevulamon_number {
     SEVULAMON_ACCEPTED = 0,
-    SEVULAMON_BUFFER_TOO_SMALL = 2,  /* place 0 */
+    SEVULAMON_BUFFER_TOO_SMALL = 2,  /* the plan's or the page's; place 0 */
     SEVULAMON_FIELD_CUT = 3,         /* under three bytes left, or content runs past the end */
     SEVULAMON_TAG_NOT_PERMITTED = 4, /* also an order field with no block before it */
     SEVULAMON_LENGTH_WRONG = 5,
@@ -75,8 +95,8 @@ enum sevulamon_number {
     SEVULAMON_FIGURE_UNTRUE = 14     /* judge: at the head that states it */
 };
 
-/* What planning answers. Accepted: number 0, place 0 and the plan's length. Refused: the number,
- * the place and length 0. */
+/* What planning and printing answer. Accepted: number 0, place 0 and the length written, of the
+ * plan or of the page. Refused: the number, the place and length 0. */
 struct sevulamon_answer {
     uint64_t number;
     size_t place;
@@ -94,12 +114,12 @@ struct sevulamon_judged {
     uint64_t flight;
 };
 
-/* Both functions take any bytes and any lengths, and return for all of them. Nothing is read or
+/* The functions take any bytes and any lengths, and return for all of them. Nothing is read or
  * written outside the buffers, so nothing at all through the pointer of a buffer of length 0. The
  * tests pass a null pointer there; beyond that no promise is made for a null pointer.
  *
  * There is no state behind the functions, so threads may call them at once. They may share a buffer
- * that is only read; a plan buffer belongs to one call at a time. */
+ * that is only read; one that is written, for a plan or a page, belongs to one call at a time. */
 
 /* Plans a sheet. An accepted call writes the plan at the start of the buffer and no byte behind it;
  * a refused one writes nothing. The two buffers must not overlap. */
@@ -109,6 +129,15 @@ struct sevulamon_answer sevulamon_plan(const uint8_t *sheet, size_t sheet_length
 /* Judges a plan for a sheet. Writes nothing, so its two buffers may overlap. */
 struct sevulamon_judged sevulamon_judge(const uint8_t *sheet, size_t sheet_length,
                                         const uint8_t *plan, size_t plan_length);
+
+/* Prints the page of a plan for a sheet, where the judge allows the plan. The lines are written at
+ * the start of the page buffer, and no byte behind the last line feed: the page is no C string. A
+ * buffer below SEVULAMON_PAGE_LENGTH is 2 at place 0, before sheet or plan is looked at. For a plan
+ * that the judge does not allow, the judge's number and place come back. A refused call writes
+ * nothing. The page buffer must not overlap the sheet or the plan; these two may overlap. */
+struct sevulamon_answer sevulamon_page(const uint8_t *sheet, size_t sheet_length,
+                                       const uint8_t *plan, size_t plan_length,
+                                       uint8_t *page, size_t page_length);
 
 #ifdef __cplusplus
 }

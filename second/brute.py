@@ -53,14 +53,17 @@ def least_sorting(sheet, most):
     return min(timetable.sorting_figure(sheet, timetable.jobs_of(sheet, desks, wait)) for desks in lists for wait in waits(2 * len(desks), most))
 
 
+def earliest_flights(sheet):
+    """Order and first starts, as early as the order allows, of every order that may be chosen and has a timetable."""
+    for order in proper_orders(len(sheet.blocks)) if sheet.order is None else [sheet.order]:
+        far = distances.in_order(sheet.blocks, order)
+        if far is not None:
+            yield order, distances.least(far, [0] * len(sheet.blocks))
+
+
 def least_flight(sheet):
     """Over every order that may be chosen; None where none has a timetable."""
-    blocks, ends = sheet.blocks, []
-    for order in proper_orders(len(blocks)) if sheet.order is None else [sheet.order]:
-        far = distances.in_order(blocks, order)
-        if far is not None:
-            ends.append(distances.end(blocks, distances.least(far, [0] * len(blocks))))
-    return min(ends, default=None)
+    return min((distances.end(sheet.blocks, firsts) for _, firsts in earliest_flights(sheet)), default=None)
 
 
 def lawful_passes(blocks, firsts):
@@ -84,6 +87,18 @@ def ends_by_order(blocks):
 def of_choices(sheet):
     """The least figures: 0 for an absent section, None for a flight whose order is impossible."""
     return (least_mosaic(sheet, 0) if sheet.strips else 0, least_sorting(sheet, 0) if sheet.jobs else 0, least_flight(sheet) if sheet.blocks else 0)
+
+
+def best_plan(sheet):
+    """A plan of least figures over all choices, or None where the given order is impossible."""
+    batches = [timetable.batches_of(sheet, lasts) for lasts in batchings(len(sheet.strips))] if sheet.strips else [[]]
+    jobs = [timetable.jobs_of(sheet, desks) for desks in interleavings(counts_of(sheet))] if sheet.jobs else [[]]
+    flights = list(earliest_flights(sheet)) if sheet.blocks else [(None, [])]
+    if not flights:
+        return None
+    order, firsts = min(flights, key=lambda flight: distances.end(sheet.blocks, flight[1]) if sheet.blocks else 0)
+    best_jobs = min(jobs, key=lambda rows: timetable.sorting_figure(sheet, rows))
+    return timetable.plan_of(sheet, min(batches, key=timetable.mosaic_figure), best_jobs, order, firsts)
 
 
 def of_timetables(sheet, ends=None):

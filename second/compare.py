@@ -1,7 +1,8 @@
-"""Cases, and their comparison with what a program answers. The program is harness.c over the two exported functions.
+"""Cases, and their comparison with what a program answers. The program is harness.c over the exported functions.
 
 A planning call is compared by value: number, place, length, every byte of the plan but which of several best choices it takes, and every other byte of
-the buffer and of the bytes behind it. A judging call is compared by its five numbers.
+the buffer and of the bytes behind it. A judging call is compared by its five numbers. A page call is compared by number, place, length and every byte of the
+buffer and behind it; of two pages of one sheet it is also asked whether they are equal exactly where the plans are.
 """
 import functools
 import itertools
@@ -11,6 +12,7 @@ import subprocess
 import best
 import distances
 import judge
+import page
 import reader
 import timetable
 
@@ -33,6 +35,8 @@ def earliest(sheet, plan):
 
 class PlanCase:
     """A sheet to be planned into a buffer of `room` bytes; `least` gives the figures due for a sound sheet."""
+
+    calls = 1
 
     def __init__(self, sheet, room=ROOM, least=best.best):
         self.sheet, self.room, self.least = sheet, room, least
@@ -82,6 +86,8 @@ class PlanCase:
 class JudgeCase:
     """A plan to be judged for a sheet."""
 
+    calls = 1
+
     def __init__(self, sheet, plan):
         self.sheet, self.plan = sheet, plan
 
@@ -125,6 +131,65 @@ class BrokenCase(JudgeCase):
         verdict = judge.judge(self.sheet, self.plan)
         assert verdict[:2] == (13, self.place), "the second program judges its own plan otherwise: %s\n%s" % (verdict, self.shown())
         return verdict
+
+
+class PageCase:
+    """A plan to be printed for a sheet, into a page buffer of `room` bytes."""
+
+    calls = 1
+
+    def __init__(self, sheet, plan, room=page.ROOM):
+        self.sheet, self.plan, self.room = sheet, plan, room
+
+    def request(self):
+        parts = (b"W", struct.pack("<I", len(self.sheet)), self.sheet, struct.pack("<I", len(self.plan)), self.plan, struct.pack("<I", self.room))
+        return b"".join(parts)
+
+    def answer_length(self):
+        return 24 + self.room + BEHIND
+
+    @functools.cached_property
+    def due(self):
+        return page.printed(self.sheet, self.plan, self.room)
+
+    def fault(self, answer):
+        numbers, buffer = struct.unpack_from("<3Q", answer), answer[24:]
+        number, place, lines = self.due
+        if numbers != (number, place, len(lines)):
+            return "number %d, place %d and length %d were due, not %d, %d and %d" % (number, place, len(lines), *numbers)
+        for at in range(0, len(lines), page.LINE):
+            if buffer[at:at + page.LINE] != lines[at:at + page.LINE]:
+                return "the line %s was due, not %s" % (lines[at:at + page.LINE], buffer[at:at + page.LINE])
+        return None if buffer[len(lines):] == FILL * (len(buffer) - len(lines)) else "a byte that is no part of a page was written"
+
+    def shown(self):
+        return "sheet %s\nplan %s\npage buffer of %d bytes" % (self.sheet.hex(), self.plan.hex(), self.room)
+
+
+class PagesCase:
+    """Two allowed plans of one sheet, both printed: the pages must be equal exactly where the plans' bytes are."""
+
+    calls = 2
+
+    def __init__(self, sheet, plan, other):
+        self.pages = PageCase(sheet, plan), PageCase(sheet, other)
+
+    def request(self):
+        return b"".join(one.request() for one in self.pages)
+
+    def answer_length(self):
+        return sum(one.answer_length() for one in self.pages)
+
+    def fault(self, answer):
+        one, other = self.pages
+        assert one.due[0] == other.due[0] == 0, "the second program turns its own plan back\n%s" % self.shown()
+        first, second = answer[:one.answer_length()], answer[one.answer_length():]
+        if (first == second) != (one.plan == other.plan):
+            return "two plans are equal and their pages are not, or the pages are and the plans are not"
+        return one.fault(first) or other.fault(second)
+
+    def shown(self):
+        return "\n".join(one.shown() for one in self.pages)
 
 
 def answers(program, cases):

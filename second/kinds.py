@@ -5,11 +5,12 @@ import random
 import best
 import brute
 import longest
+import pages
 import plans
 import reader
 import sheets
 import tiny
-from compare import AllowedCase, BrokenCase, JudgeCase, PlanCase, ROOM
+from compare import AllowedCase, BrokenCase, JudgeCase, PageCase, PagesCase, PlanCase, ROOM
 from reader import field
 
 CHUNK = 250
@@ -63,6 +64,7 @@ def longest_judged():
 
 def fixed():
     """Name and cases of the kinds that are the same for every seed."""
+    yield "pages that are the same for every seed", itertools.starmap(PageCase, pages.fixed())
     yield "every tiny mosaic", (PlanCase(sheet, least=of_timetables) for sheet in tiny.mosaics())
     yield "every tiny sorting", (PlanCase(sheet, least=of_timetables) for sheet in tiny.sortings())
     yield "every tiny flight", tiny_flights()
@@ -121,6 +123,20 @@ def plans_for_full(rng, count):
         yield from judged(rng, sheets.full_sheet(rng))
 
 
+def pages_for_small(rng, count):
+    for _ in range(share(count, 16)):
+        sheet = sheets.small_sheet(rng)
+        yield from itertools.starmap(PageCase, itertools.chain(pages.drawn(rng, sheet), pages.best(sheet)))
+        yield from itertools.starmap(PagesCase, pages.pairs(rng, sheet))
+
+
+def pages_for_full(rng, count):
+    for _ in range(share(count, 80)):
+        sheet = sheets.full_sheet(rng)
+        yield from itertools.starmap(PageCase, pages.drawn(rng, sheet))
+        yield from itertools.starmap(PagesCase, pages.pairs(rng, sheet))
+
+
 def large_sheets(rng, count):
     return (PlanCase(sheets.large_sheet(rng)) for _ in range(share(count, 10)))
 
@@ -153,7 +169,7 @@ def ordered_flights(rng, count):
 DRAWN = {
     "small sheets": small_sheets, "plans for small sheets": plans_for_small, "mosaics of 40 strips": mosaics, "sortings of 6 + 6 + 6 strips": sortings,
     "flights of 8 free blocks": free_flights, "flights of 32 blocks in order": ordered_flights, "large sheets": large_sheets,
-    "full sheets": full_sheets, "plans for full sheets": plans_for_full,
+    "full sheets": full_sheets, "plans for full sheets": plans_for_full, "pages for small sheets": pages_for_small, "pages for full sheets": pages_for_full,
 }
 
 

@@ -1,5 +1,5 @@
 #!/usr/bin/env python3
-"""A second planner and judge that shares no code with the first, run beside it.
+"""A second planner, judge and page that shares no code with the first, run beside it.
 
     second.py HARNESS [COUNT] [SEED]
 
@@ -10,10 +10,10 @@ difference ends the run with status 1 and is printed with the seed and the case.
     timetable.py   the rules: times of a choice, figures, plan bytes; distances.py: the flight's
     best.py        the least figures of sections of any size
     brute.py       the least figures of small sections, by trying everything
-    judge.py       the judge
+    judge.py       the judge; page.py: the page
     tiny.py        every tiny sheet and plan of bounded kinds
     longest.py     the longest sections, and their plans up to the ceiling
-    sheets.py      sheets that are drawn; plans.py: plans with idle time, and with faults
+    sheets.py      sheets that are drawn; plans.py: plans with idle time, and with faults; pages.py: plans that are printed
     kinds.py       all cases
     compare.py     what is due in each case, and whether an answer is that
     wrong.py       shows that every wrong program of wrong.txt is found; model/ is the right one that they are made from
@@ -34,7 +34,7 @@ def compare_all(program, count, seed):
         if difference:
             index, fault = difference
             sys.exit("differs: %s\nseed %d, count %d, %s, case %d\n%s" % (fault, seed, count, name, first + index, chunk[index].shown()))
-        calls[name] = calls.get(name, 0) + len(chunk)
+        calls[name] = calls.get(name, 0) + sum(case.calls for case in chunk)
     return calls
 
 

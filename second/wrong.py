@@ -1,9 +1,9 @@
 #!/usr/bin/env python3
-"""Wrong planners and judges, and that the second program finds every one.
+"""Wrong planners, judges and pages, and that the second program finds every one.
 
     wrong.py [COUNT] [SEED]
 
-builds the model (model/), a right planner and judge in plain C, and every wrong program of wrong.txt. All cases that second.py has (kinds.py) go through
+builds the model (model/), a right planner, judge and page in plain C, and every wrong program of wrong.txt. All cases that second.py has (kinds.py) go through
 the model, which must agree, and through each wrong program until it differs. Ends with status 1 where the model differs or a wrong program does not.
 """
 import pathlib
@@ -84,7 +84,7 @@ def main(count=COUNT, seed=SEED):
         model, wrong = build(pathlib.Path(folder), table)
         for name, _, chunk in kinds.chunks(int(count), int(seed)):
             run_chunk(chunk, "seed %s, %s" % (seed, name), model, wrong)
-            calls += len(chunk)
+            calls += sum(case.calls for case in chunk)
     print("%d calls agree with the model, %d of %d wrong programs found" % (calls, len(table) - len(wrong), len(table)))
     if wrong:
         sys.exit("not found: " + ", ".join(wrong))

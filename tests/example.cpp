@@ -1,4 +1,4 @@
-// A C++ program over the functions for C: plans the sheet of each pair of files, and compares the plan with the other file.
+// A C++ program over the functions for C: plans the sheet of each three files, prints the plan, and compares plan and page with the other two files.
 #include "sevulamon.h"
 
 #include <fstream>
@@ -19,13 +19,22 @@ static bool is_planned(const std::vector<uint8_t> &sheet, const std::vector<uint
     return answer.number == SEVULAMON_ACCEPTED && plan == due && judged.number == SEVULAMON_ACCEPTED;
 }
 
+static bool is_printed(const std::vector<uint8_t> &sheet, const std::vector<uint8_t> &plan, const std::vector<uint8_t> &due) {
+    std::vector<uint8_t> page(SEVULAMON_PAGE_LENGTH);
+    sevulamon_answer answer = sevulamon_page(sheet.data(), sheet.size(), plan.data(), plan.size(), page.data(), page.size());
+    page.resize(answer.length);
+    return answer.number == SEVULAMON_ACCEPTED && page == due;
+}
+
 int main(int argc, char **argv) {
-    bool all = argc > 2;
-    for (int i = 1; i + 1 < argc; i += 2)
-        if (!is_planned(bytes_of(argv[i]), bytes_of(argv[i + 1]))) {
-            std::cout << argv[i] << ": its plan is not " << argv[i + 1] << "\n";
+    bool all = argc > 3;
+    for (int i = 1; i + 2 < argc; i += 3) {
+        const std::vector<uint8_t> sheet = bytes_of(argv[i]), plan = bytes_of(argv[i + 1]), page = bytes_of(argv[i + 2]);
+        if (!is_planned(sheet, plan) || !is_printed(sheet, plan, page)) {
+            std::cout << argv[i] << ": its plan is not " << argv[i + 1] << ", or its page not " << argv[i + 2] << "\n";
             all = false;
         }
-    std::cout << (argc - 1) / 2 << " sheets planned from C++, version " SEVULAMON_VERSION "\n";
+    }
+    std::cout << (argc - 1) / 3 << " sheets planned and printed from C++, version " SEVULAMON_VERSION "\n";
     return all ? 0 : 1;
 }

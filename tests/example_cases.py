@@ -1,10 +1,11 @@
 #!/usr/bin/env python3
 """Compares the files of examples/ and the worked sheets of docs/FORMAT.md with each other and with what the programs write.
 
-Every .sheet has a .txt with its bytes, one field a line; every .plan is what plan_sheet writes for its sheet, every .timetable what the viewer prints;
-and the bytes of each file that docs/FORMAT.md shows, with their offsets, are those of the file.
+Every .sheet has a .txt with its bytes, one field a line; every .plan is what plan_sheet writes for its sheet and has a .page, which is what print_page writes
+for both; every .timetable is what the viewer prints, its page behind it; and the bytes of each file that docs/FORMAT.md shows, with their offsets, or the lines
+of a page, are those of the file.
 
-    example_cases.py PLANNER VIEWER
+    example_cases.py PLANNER PRINTER VIEWER
 """
 import pathlib
 import re
@@ -16,6 +17,7 @@ EXAMPLES = ROOT / "examples"
 FIELD = re.compile(r"[0-9A-F]{2}(?: [0-9A-F]{2})*")
 SHOWN = re.compile(r"`examples/(\S+)`:")
 SHOWN_FIELD = re.compile(r" +(\d+)  ([0-9A-F]{2}(?: [0-9A-F]{2})*)  ")
+SHOWN_LINE = re.compile(r" {4}([msfMSF].{31})")
 
 wrong = []
 
@@ -59,7 +61,7 @@ def compare_written(ending, written):
 
 
 def shown_files():
-    """The bytes of each file that docs/FORMAT.md shows. The offset of a field must be the number of bytes before it."""
+    """The bytes of each file that docs/FORMAT.md shows, in fields or as a page. The offset of a field must be the number of bytes before it."""
     shown, name = {}, None
     for line in (ROOT / "docs" / "FORMAT.md").read_text().splitlines():
         if SHOWN.fullmatch(line):
@@ -69,20 +71,33 @@ def shown_files():
             offset, content = SHOWN_FIELD.match(line).groups()
             compare("docs/FORMAT.md: offset of %s in %s" % (content, name), int(offset), len(shown[name]))
             shown[name] += bytes.fromhex(content)
+        elif name and name.endswith(".page") and SHOWN_LINE.fullmatch(line):
+            shown[name] += SHOWN_LINE.fullmatch(line).group(1).encode() + b"\n"
     return shown
 
 
-def main(planner, viewer):
+def compare_pages():
+    """A page for each plan, and each page also at the end of its timetable."""
+    compare("a page for each plan", sorted(path.stem for path in EXAMPLES.glob("*.page")), sorted(path.stem for path in EXAMPLES.glob("*.plan")))
+    for path in EXAMPLES.glob("*.page"):
+        page, timetable = path.read_bytes(), path.with_suffix(".timetable").read_bytes()
+        compare("%s: the page in its timetable" % path.name, timetable[-len(page):], page)
+
+
+def main(planner, printer, viewer):
     sheets = compare_sheets()
     plans = compare_written(".plan", lambda sheet: subprocess.run([planner], stdin=open(sheet, "rb"), stdout=subprocess.PIPE).stdout)
+    pages = compare_written(".page", lambda sheet: subprocess.run([printer, sheet, sheet.with_suffix(".plan")], stdout=subprocess.PIPE).stdout)
     timetables = compare_written(".timetable", lambda sheet: subprocess.run([viewer, sheet], stdout=subprocess.PIPE).stdout)
+    compare_pages()
     shown = shown_files()
     for name, content in shown.items():
         compare("docs/FORMAT.md: %s" % name, content, (EXAMPLES / name).read_bytes())
     for line in wrong:
         print(line)
-    print("examples: %d sheets, %d plans, %d timetables, %d files shown in docs/FORMAT.md, %d wrong" % (sheets, plans, timetables, len(shown), len(wrong)))
-    sys.exit(1 if wrong or min(sheets, plans, timetables, len(shown)) == 0 else 0)
+    counts = sheets, plans, pages, timetables, len(shown)
+    print("examples: %d sheets, %d plans, %d pages, %d timetables, %d files shown in docs/FORMAT.md, %d wrong" % (*counts, len(wrong)))
+    sys.exit(1 if wrong or min(counts) == 0 else 0)
 
 
 if __name__ == "__main__":

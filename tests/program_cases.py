@@ -22,8 +22,10 @@ USAGE = {
     "sheet_cases": "usage: sheet_cases < CASES\n",
     "judge_cases": "usage: judge_cases < CASES\n",
     "judge_plan": "usage: judge_plan SHEET PLAN\n",
+    "print_page": "usage: print_page SHEET PLAN\n",
 }
 READERS = ["plan_sheet", "sheet_cases", "judge_cases"]  # of standard input
+OF_FILES = ["judge_plan", "print_page"]  # programs that take the names of a sheet and a plan
 NOBODY = 65534
 
 tried = wrong = 0
@@ -120,44 +122,46 @@ def write_standard_output(program, arguments, stdin, folder):
         compare("%s: a disk that is full in the middle" % name, done, due[:30], fails(errno.EFBIG))
 
 
-def judge_files(program, folder):
-    """What judge_plan reads by name: each name in the place of the sheet, and then of the plan."""
-    data = CRATES / "judge_plan" / "data"
-    due = (CRATES / "judge_plan" / "stdout").read_bytes()
+def read_files(program, folder):
+    """What a program reads by name: each name in the place of the sheet, and then of the plan."""
+    own = program.name
+    data = CRATES / own / "data"
+    due = (CRATES / own / "stdout").read_bytes()
     sheet, plan = data / "sheet", data / "plan"
-    shutil.copy(sheet, folder / "unreadable")
-    os.chmod(folder / "unreadable", 0)
+    unreadable = folder / (own + " unreadable")
+    shutil.copy(sheet, unreadable)
+    os.chmod(unreadable, 0)
     as_nobody = dict(user=NOBODY, group=NOBODY, extra_groups=[]) if os.geteuid() == 0 else {}
     names = [
         ("a missing file", folder / "missing", errno.ENOENT),
         ("a directory", folder, errno.EISDIR),
-        ("a file for a directory", folder / "unreadable" / "sheet", errno.ENOTDIR),
-        ("an unreadable file", folder / "unreadable", errno.EACCES),
+        ("a file for a directory", unreadable / "sheet", errno.ENOTDIR),
+        ("an unreadable file", unreadable, errno.EACCES),
         ("an input error", "/proc/self/mem", errno.EIO),
     ]
-    compare("judge_plan: whole files", run([program, sheet, plan]), due)
+    compare("%s: whole files" % own, run([program, sheet, plan]), due)
     # The repository may be closed to nobody, so the good file is one of the folder.
     good = shutil.copy(sheet, folder / "good")
     os.chmod(good, 0o644)
     for kind, name, number in names:
-        line = failed("judge_plan", name, number)
-        compare("judge_plan: %s as sheet" % kind, run([program, name, good], **as_nobody), b"", line)
-        compare("judge_plan: %s as plan" % kind, run([program, good, name], **as_nobody), b"", line)
+        line = failed(own, name, number)
+        compare("%s: %s as sheet" % (own, kind), run([program, name, good], **as_nobody), b"", line)
+        compare("%s: %s as plan" % (own, kind), run([program, good, name], **as_nobody), b"", line)
     for kind, name, number in [("an empty name", "", errno.ENOENT), ("a name too long", "x" * 5000, errno.ENAMETOOLONG)]:
-        compare("judge_plan: %s as sheet" % kind, run([program, name, plan]), b"", failed("judge_plan", "SHEET", number))
-        compare("judge_plan: %s as plan" % kind, run([program, sheet, name]), b"", failed("judge_plan", "PLAN", number))
+        compare("%s: %s as sheet" % (own, kind), run([program, name, plan]), b"", failed(own, "SHEET", number))
+        compare("%s: %s as plan" % (own, kind), run([program, sheet, name]), b"", failed(own, "PLAN", number))
     for kind, arguments in [("no argument", []), ("a missing argument", [sheet]), ("an extra argument", [sheet, plan, plan])]:
-        compare("judge_plan: %s" % kind, run([program, *arguments]), b"", USAGE["judge_plan"])
+        compare("%s: %s" % (own, kind), run([program, *arguments]), b"", USAGE[own])
 
 
-def judge_pieces(program):
+def read_pieces(program):
     """A sheet and a plan that come in pieces, by the name of a pipe."""
-    data = CRATES / "judge_plan" / "data"
-    due = (CRATES / "judge_plan" / "stdout").read_bytes()
+    data = CRATES / program.name / "data"
+    due = (CRATES / program.name / "stdout").read_bytes()
     for kind in ["sheet", "plan"]:
         read_end = pieces((data / kind).read_bytes())
         names = [("/dev/fd/%d" % read_end) if name == kind else data / name for name in ["sheet", "plan"]]
-        compare("judge_plan: a %s in pieces" % kind, run([program, *names], pass_fds=[read_end]), due)
+        compare("%s: a %s in pieces" % (program.name, kind), run([program, *names], pass_fds=[read_end]), due)
         os.close(read_end)
 
 
@@ -170,10 +174,11 @@ def main(programs):
             stdin = lambda: pieces((CRATES / program / "stdin").read_bytes())
             read_standard_input(copies[program], folder)
             write_standard_output(copies[program], [], stdin, folder)
-        judge_files(copies["judge_plan"], folder)
-        judge_pieces(copies["judge_plan"])
-        data = CRATES / "judge_plan" / "data"
-        write_standard_output(copies["judge_plan"], [data / "sheet", data / "plan"], lambda: subprocess.DEVNULL, folder)
+        for program in OF_FILES:
+            data = CRATES / program / "data"
+            read_files(copies[program], folder)
+            read_pieces(copies[program])
+            write_standard_output(copies[program], [data / "sheet", data / "plan"], lambda: subprocess.DEVNULL, folder)
     print("%d runs of the programs on inputs and outputs that fail, %d wrong" % (tried, wrong))
     sys.exit(1 if wrong else 0)
 

@@ -1,5 +1,5 @@
-/* Four threads plan and judge the sheets of the given files at once, each on the stack that sevulamon.h names, and must get the answers that one thread
-   gets alone; then four judge on the smaller stack. Buffers of length 0 with a null pointer are tried first. */
+/* Four threads plan, judge and print the sheets of the given files at once, each on the stack that sevulamon.h names, and must get the answers that one thread
+   gets alone; then four judge and print on the smaller stack. Buffers of length 0 with a null pointer are tried first. */
 #include "sevulamon.h"
 
 #include <pthread.h>
@@ -9,9 +9,9 @@
 enum { THREADS = 4, MOST_SHEETS = 32, TURNS = 20, MOST_BYTES = 4096 };
 
 struct example {
-    uint8_t sheet[MOST_BYTES], plan[SEVULAMON_PLAN_LENGTH];
+    uint8_t sheet[MOST_BYTES], plan[SEVULAMON_PLAN_LENGTH], page[SEVULAMON_PAGE_LENGTH];
     size_t length;
-    struct sevulamon_answer answer;
+    struct sevulamon_answer answer, printed;
     struct sevulamon_judged judged;
 };
 
@@ -21,6 +21,12 @@ static size_t count;
 static int same_judging(const struct example *e) {
     struct sevulamon_judged judged = sevulamon_judge(e->sheet, e->length, e->plan, e->answer.length);
     return memcmp(&judged, &e->judged, sizeof judged) == 0;
+}
+
+static int same_printing(const struct example *e) {
+    uint8_t page[SEVULAMON_PAGE_LENGTH] = {0};
+    struct sevulamon_answer printed = sevulamon_page(e->sheet, e->length, e->plan, e->answer.length, page, sizeof page);
+    return memcmp(&printed, &e->printed, sizeof printed) == 0 && memcmp(page, e->page, sizeof page) == 0;
 }
 
 static int same_planning(const struct example *e) {
@@ -33,7 +39,7 @@ static int same_planning(const struct example *e) {
 
 static void *judge_all(void *wrong) {
     for (size_t i = 0; i < TURNS * count; i++)
-        if (!same_judging(&examples[i % count]))
+        if (!same_judging(&examples[i % count]) || !same_printing(&examples[i % count]))
             *(int *)wrong = 1;
     return NULL;
 }
@@ -69,16 +75,20 @@ static int read_example(struct example *e, const char *name) {
     fclose(file);
     e->answer = sevulamon_plan(e->sheet, e->length, e->plan, sizeof e->plan);
     e->judged = sevulamon_judge(e->sheet, e->length, e->plan, e->answer.length);
+    e->printed = sevulamon_page(e->sheet, e->length, e->plan, e->answer.length, e->page, sizeof e->page);
     return e->length > 0;
 }
 
 /* The empty sheet is 8, an empty plan 12, and a buffer of length 0 is too small. */
 static int null_pointers_taken(const struct example *e) {
-    uint8_t plan[SEVULAMON_PLAN_LENGTH];
+    uint8_t plan[SEVULAMON_PLAN_LENGTH], page[SEVULAMON_PAGE_LENGTH];
     return sevulamon_plan(NULL, 0, plan, sizeof plan).number == SEVULAMON_NO_MEMBERS
         && sevulamon_plan(e->sheet, e->length, NULL, 0).number == SEVULAMON_BUFFER_TOO_SMALL
         && sevulamon_judge(NULL, 0, e->plan, e->answer.length).number == SEVULAMON_NO_MEMBERS
-        && sevulamon_judge(e->sheet, e->length, NULL, 0).number == SEVULAMON_LAYOUT_WRONG;
+        && sevulamon_judge(e->sheet, e->length, NULL, 0).number == SEVULAMON_LAYOUT_WRONG
+        && sevulamon_page(NULL, 0, e->plan, e->answer.length, page, sizeof page).number == SEVULAMON_NO_MEMBERS
+        && sevulamon_page(e->sheet, e->length, NULL, 0, page, sizeof page).number == SEVULAMON_LAYOUT_WRONG
+        && sevulamon_page(e->sheet, e->length, e->plan, e->answer.length, NULL, 0).number == SEVULAMON_BUFFER_TOO_SMALL;
 }
 
 int main(int argc, char **argv) {
@@ -89,6 +99,6 @@ int main(int argc, char **argv) {
         }
     int wrong = count == 0 || !null_pointers_taken(&examples[0]);
     wrong |= run_threads(plan_all, SEVULAMON_PLAN_STACK) | run_threads(judge_all, SEVULAMON_JUDGE_STACK);
-    printf("%zu sheets planned and judged by %d threads at once: %s\n", count, THREADS, wrong ? "WRONG" : "as by one");
+    printf("%zu sheets planned, judged and printed by %d threads at once: %s\n", count, THREADS, wrong ? "WRONG" : "as by one");
     return wrong;
 }

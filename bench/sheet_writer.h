@@ -1,0 +1,40 @@
+/* The bytes of a sheet with all three sections, from what it says. */
+#ifndef BENCH_SHEET_WRITER_H
+#define BENCH_SHEET_WRITER_H
+
+#include "plan.h"
+
+/* Each of these writes at d and returns where it ended. */
+
+static inline uint8_t *put_mosaic(uint8_t *d, const struct mosaic *m) {
+    d = put(put(put_head(d, MOSAIC_HEAD, 3), 1, m->stations), 2, m->mount);
+    for (size_t j = 0; j < m->strips; j++) {
+        d = put_head(d, MOSAIC_STRIP, 2 * m->stations + 2);
+        for (size_t k = 0; k < m->stations; k++)
+            d = put(d, 2, m->station[4 * j + k]);
+        d = put(d, 2, m->bench[j]);
+    }
+    return d;
+}
+
+static inline uint8_t *put_sorting(uint8_t *d, const struct sorting *s) {
+    d = put(put_head(d, SORTING_HEAD, 1), 1, s->desks);
+    for (size_t i = 0; i < 18; i++)
+        if (i % 6 < s->counts[i / 6])
+            d = put(put(put(put_head(d, SORTING_STRIP, 5), 1, i / 6 + 1), 2, s->scan[i]), 2, s->desk[i]);
+    return d;
+}
+
+static inline uint8_t *put_flight(uint8_t *d, const struct flight *f) {
+    d = put_head(d, FLIGHT_HEAD, 0);
+    for (size_t i = 0; i < f->blocks; i++)
+        d = put(put(put(put_head(d, FLIGHT_BLOCK, 6), 2, f->first[i]), 2, f->delay[i]), 2, f->second[i]);
+    return f->ordered ? put(put_head(d, FLIGHT_ORDER, 8), 8, f->order) : d;
+}
+
+/* Returns the length. */
+static inline size_t write_sheet(uint8_t *sheet, const struct sheet *s) {
+    return (size_t)(put_flight(put_sorting(put_mosaic(sheet, &s->mosaic), &s->sorting), &s->flight) - sheet);
+}
+
+#endif

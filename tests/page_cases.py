@@ -1,0 +1,267 @@
+#!/usr/bin/env python3
+"""Prints plans with the program print_page and through the function for C, and compares: pages, refusals, and what a page buffer holds afterwards.
+
+The pages of the worked plans stand here as text. The larger ones are compared with `lines_of`, and every plan and sheet that judge_cases.py and sheet_cases.py
+turn back must get the same number and place, the page untouched.
+
+    page_cases.py PRINTER FUNCTION        FUNCTION is tests/page.c over the function for C
+"""
+import itertools
+import pathlib
+import subprocess
+import sys
+import tempfile
+
+import judge_cases as judged
+import sheet_cases as sheets
+from judge_cases import CEILING, batches, four, jobs, passes
+from sheet_cases import field, job, mosaic, order, sorting, strip, word
+
+LEAST_ROOM = 3069
+FILL, BEHIND = b"\xA5", 16
+SMALL_ROOMS = [0, 1, 32, 33, 1095, LEAST_ROOM - 33, LEAST_ROOM - 1]
+ROOMS = [LEAST_ROOM, LEAST_ROOM + 1, LEAST_ROOM + 33, 65536]
+
+PAGES = []
+REFUSED = []
+
+
+def printed(name, sheet, plan, *lines):
+    PAGES.append((name, sheet, plan, "".join(line + "\n" for line in lines).encode()))
+
+
+def refused(name, sheet, plan, number, place):
+    REFUSED.append((name, sheet, plan, number, place))
+
+
+def number_at(data, at, length):
+    return int.from_bytes(data[at:at + length], "little")
+
+
+# The letter of each field of a plan, and of each column of its line the width, and the offset and length in bytes of the number there: a length of 0 is for
+# the member's own number, None for blanks.
+FIELDS = {
+    0x90: ("m", [(31, 0, 4)]),
+    0x91: ("M", [(3, 0, 0), (4, 0, 1), (12, 1, 4), (12, 5, 4)]),
+    0xA0: ("s", [(31, 0, 4)]),
+    0xA1: ("S", [(3, 0, 1), (4, 1, 1), (12, 2, 4), (12, 6, 4)]),
+    0xB0: ("f", [(31, 0, 4)]),
+    0xB1: ("F", [(3, 0, 0), (4, 0, None), (12, 0, 4), (12, 4, 4)]),
+}
+
+
+def lines_of(plan):
+    """The page of an allowed plan."""
+    at, member, page = 0, 0, ""
+    while at < len(plan):
+        letter, columns = FIELDS[plan[at]]
+        member = 0 if letter.islower() else member + 1
+        page += letter
+        for width, offset, length in columns:
+            text = "" if length is None else str(number_at(plan, at + 3 + offset, length) if length else member)
+            page += " " * (width - len(text)) + text
+        page += "\n"
+        at += 3 + number_at(plan, at + 1, 2)
+    return page.encode()
+
+
+# Each section alone, all three, and two of them.
+MOSAIC_LINES = [
+    "m                             36",
+    "M  1   1           2           4",
+    "M  2   2           4           8",
+    "M  3   3           8          11",
+    "M  4   4          11          13",
+]
+SORTING_LINES = [
+    "s                             10",
+    "S  2   1           0           1",
+    "S  1   1           1           3",
+]
+FLIGHT_LINES = [
+    "f                              5",
+    "F  1               0           3",
+    "F  2               1           4",
+]
+JOBS = jobs(10, (2, 1, 0, 1), (1, 1, 1, 3))
+PASSES = passes(5, 0xC, (0, 3), (1, 4))
+printed("a mosaic", judged.M, judged.BEST, *MOSAIC_LINES)
+printed("a sorting", judged.S, JOBS, *SORTING_LINES)
+printed("a flight", judged.F, PASSES, *FLIGHT_LINES)
+printed("all three sections", judged.ALL, judged.PLAN, *MOSAIC_LINES, *SORTING_LINES, *FLIGHT_LINES)
+printed("mosaic and sorting", judged.M + judged.S, judged.BEST + JOBS, *MOSAIC_LINES, *SORTING_LINES)
+printed("mosaic and flight", judged.M + judged.F, judged.BEST + PASSES, *MOSAIC_LINES, *FLIGHT_LINES)
+printed("sorting and flight", judged.S + judged.F, JOBS + PASSES, *SORTING_LINES, *FLIGHT_LINES)
+
+# The batch's number is not that of its last strip; a desk's strips are not numbered as they are scanned.
+printed(
+    "batches 1, 2-3, 4", judged.M, batches(45, (1, 2, 4), (3, 7, 13), (4, 13, 15)),
+    "m                             45",
+    "M  1   1           2           4",
+    "M  2   3           7          13",
+    "M  3   4          13          15",
+)
+printed(
+    "three strips, two desks", judged.THREE, jobs(17, *judged.JOBS),
+    "s                             17",
+    "S  1   1           0           1",
+    "S  2   1           1           2",
+    "S  1   2           2           6",
+)
+printed(
+    "000's eight blocks", judged.E + order(0xF2C4), passes(30, 0xF2C4, *judged.EIGHT),
+    "f                             30",
+    "F  1               0           7",
+    "F  2               6          14",
+    "F  3               8          17",
+    "F  4               9          20",
+    "F  5              12          23",
+    "F  6              19          24",
+    "F  7              21          27",
+    "F  8              22          29",
+)
+
+# Numbers of one digit and of eight; a figure of nine.
+printed(
+    "a batch from 0 to 1", mosaic(1, 0) + strip(0, 1), batches(1, (1, 0, 1)),
+    "m                              1",
+    "M  1   1           0           1",
+)
+printed(
+    "a finish at the ceiling", judged.M, batches(4 * CEILING, (4, CEILING - 8, CEILING)),
+    "m                       40000000",
+    "M  1   4     9999992    10000000",
+)
+printed(
+    "40 strips in a batch up to the ceiling", mosaic(1, 0) + strip(0, 1) * 40, batches(40 * CEILING, (40, CEILING - 40, CEILING)),
+    "m                      400000000",
+    "M  1  40     9999960    10000000",
+)
+printed(
+    "a desk that finishes at the ceiling", sorting() + job(1, 1, 1), jobs(CEILING, (1, 1, 0, CEILING - 1)),
+    "s                       10000000",
+    "S  1   1           0     9999999",
+)
+printed(
+    "a pass that ends at the ceiling", judged.ONE, passes(CEILING, 2, (CEILING - 2, CEILING - 1)),
+    "f                       10000000",
+    "F  1         9999998     9999999",
+)
+for digits in range(1, 8):
+    start = int("123456789"[:digits])
+    printed(
+        "a batch that starts at %d" % start, mosaic(1, 0) + strip(0, 1), batches(start + 1, (1, start, start + 1)),
+        "m" + " " * (31 - digits) + "123456789"[:digits - 1] + str(digits + 1),
+        "M  1   1" + " " * (12 - digits) + "123456789"[:digits] + " " * (12 - digits) + "123456789"[:digits - 1] + str(digits + 1),
+    )
+
+# judge_cases.py has 40 batches, 18 strips and 32 blocks alone and together: the longest sections. Some of the 93 lines of all three.
+SOME_LINES = {
+    0: "m                      100800000",
+    1: "M  1   1       60000      180000",
+    10: "M 10  10     1140000     1260000",
+    40: "M 40  40     4740000     4860000",
+    41: "s                       11340000",
+    42: "S  1   1           0       60000",
+    59: "S  3   6     1020000     1080000",
+    60: "f                        5760000",
+    61: "F  1               0      120000",
+    92: "F 32         5580000     5700000",
+}
+
+# Every plan that is judged, and every sheet that is turned back.
+for name, sheet, plan, line in judged.CASES:
+    number, place = map(int, line.split()[:2])
+    if number == 0:
+        PAGES.append((name, sheet, plan, lines_of(plan)))
+    else:
+        refused(name, sheet, plan, number, place)
+for name, sheet, line in sheets.CASES:
+    number, place = map(int, line.split()[:2])
+    if number != 0:
+        refused(name, sheet, judged.PLAN, number, place)
+refused("a plan with an order that is impossible", judged.A + order(0xC), passes(9, 0xA, (0, 1), (2, 8)), 13, 0)
+
+# The program takes the first 65,536 bytes of each file, the function all of them: (sheet, plan, by the program, by the function).
+MEMBER = judged.BEST[-12:]
+LONG_FILES = [
+    ("a field of the sheet past the bytes that are taken", field(0x10, bytes(65535)), judged.PLAN, (3, 0), (5, 0)),
+    ("a member past the bytes that are taken", judged.M, judged.BEST + MEMBER * 5457, (12, 7 + 12 * 5460), (13, len(judged.BEST))),
+]
+
+wrong = []
+
+
+def compare(what, found, due):
+    if found != due:
+        wrong.append("%s\n  due   %r\n  found %r" % (what, due, found))
+
+
+def compare_bytes(what, found, due):
+    """Bytes that may be many: shown are those about the first difference."""
+    if found == due:
+        return
+    at = next((at for at, pair in enumerate(zip(found, due)) if pair[0] != pair[1]), min(len(found), len(due)))
+    compare("%s: byte %d of %d" % (what, at, len(due)), found[max(0, at - 33):at + 33], due[max(0, at - 33):at + 33])
+
+
+def refusal(number, place):
+    return field(0xE0, word(number) + four(place))
+
+
+def run(folder, program, sheet, plan, rooms=()):
+    """What a program writes for a sheet and a plan."""
+    names = [folder / "sheet", folder / "plan"]
+    for name, content in zip(names, (sheet, plan)):
+        name.write_bytes(content)
+    return subprocess.run([program, *names, *map(str, rooms)], stdout=subprocess.PIPE, check=True).stdout
+
+
+def answer(number, place, page, room):
+    """What tests/page.c writes for one length."""
+    return b"%d %d %d\n" % (number, place, len(page)) + page + FILL * (room + BEHIND - len(page))
+
+
+def compare_call(folder, program, name, sheet, plan, number, place, page):
+    """The function with buffers that are too small, 2 whatever the sheet and the plan, and with larger ones."""
+    found, at = run(folder, program, sheet, plan, SMALL_ROOMS + ROOMS), 0
+    for room in SMALL_ROOMS + ROOMS:
+        due = answer(2, 0, b"", room) if room < LEAST_ROOM else answer(number, place, page, room)
+        compare_bytes("%s: a page buffer of %d bytes" % (name, room), found[at:at + len(due)], due)
+        at += len(due)
+
+
+def compare_pairs():
+    """Of two allowed plans for one sheet the pages are equal exactly when the plans are."""
+    pairs = [(one, other) for one, other in itertools.combinations(PAGES, 2) if one[1] == other[1]]
+    for one, other in pairs:
+        compare("%s and %s: equal pages" % (one[0], other[0]), one[3] == other[3], one[2] == other[2])
+    return len(pairs)
+
+
+def main(printer, function):
+    with tempfile.TemporaryDirectory() as name:
+        folder = pathlib.Path(name)
+        for name, sheet, plan, page in PAGES:
+            compare_bytes("%s: the page" % name, run(folder, printer, sheet, plan), page)
+            compare("%s: lines of 32 columns" % name, {len(line) for line in page.split(b"\n")[:-1]}, {32})
+            compare_call(folder, function, name, sheet, plan, 0, 0, page)
+        for name, sheet, plan, number, place in REFUSED:
+            compare("%s: the refusal" % name, run(folder, printer, sheet, plan), refusal(number, place))
+            compare_call(folder, function, name, sheet, plan, number, place, b"")
+        for name, sheet, plan, by_program, by_function in LONG_FILES:
+            compare("%s: the program" % name, run(folder, printer, sheet, plan), refusal(*by_program))
+            compare_call(folder, function, name, sheet, plan, *by_function, b"")
+    lines = lines_of(judged.LONG_PLAN).decode().splitlines()
+    compare("the longest page", (len(lines), {at: lines[at] for at in SOME_LINES}), (93, SOME_LINES))
+    numbers = sorted({number for _, _, _, number, _ in REFUSED})
+    compare("the numbers that are tried", numbers, [*range(3, 11), 12, 13, 14])
+    pairs = compare_pairs()
+    for line in wrong:
+        print(line)
+    print("%d pages printed and %d plans refused by %s, %d pairs of pages, %d wrong" % (len(PAGES), len(REFUSED) + len(LONG_FILES), printer, pairs, len(wrong)))
+    sys.exit(1 if wrong else 0)
+
+
+if __name__ == "__main__":
+    main(*sys.argv[1:])
