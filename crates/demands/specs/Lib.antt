@@ -1,16 +1,17 @@
 -- The three demands on the planner and the judge, in their own words and order, as theorems about calls; behind them what the change requests of 02 ask to be
 -- shown. What a theorem asks of a call is what the contract of the function gives: `Called` of `planner::plan` (planner, Call.antt), `Viewed` of
--- `sevulamon_plan` (viewer, Viewed.antt), and `j ≡ judged sheet plan` of `judge::judge` and `sevulamon_judge` (judge, Judged.antt). When a plan is allowed is
+-- `sevulamon_plan` (viewer, Viewed.antt), `j ≡ judged sheet plan` of `judge::judge` and `sevulamon_judge` (judge, Judged.antt), and `Paged` of `page::page` and
+-- `sevulamon_page` (page, Call.antt). When a plan is allowed is
 -- said by the rules alone (rules: Mosaic, Sorting, Flight, Plan). Rows of bytes are lists of numbers; where a law needs that they are below 256, as those of
 -- every lent slice are, it says so (`AreBytes`).
-use Prim.Native.Nat.{ℕ, _≤_, _<_}
+use Prim.Native.Nat.{ℕ, _*_, _≤_, _<_}
 use mathlib.Core.Path.{_≡_, refl, sym, ap, subst, _∙_}
 use mathlib.Core.Bool.{true}
 use mathlib.Core.List.{List}
 use lib.ListN.{length, drop}
 use native.Mathlib.Omega.{arith}
-use Rattle.sheet.specs.Limits.{ceiling, tableLength, planLength}
-use Rattle.sheet.specs.Refusals.{orderImpossible}
+use Rattle.sheet.specs.Limits.{ceiling, tableLength, planLength, pageLength}
+use Rattle.sheet.specs.Refusals.{orderImpossible, bufferTooSmall}
 use Rattle.sheet.specs.Read.{readSheet}
 use Rattle.sheet.specs.Theorems.{read-sound}
 use Rattle.sheet.specs.Table.{RefusedFor}
@@ -21,7 +22,7 @@ use Rattle.sheet.specs.Sound.{SheetSound}
 use Rattle.sheet.specs.declared.FlightSection.{FlightSection}
 use Rattle.sheet.specs.declared.Sheet.{Sheet}
 use Rattle.order.specs.Order.{Proper}
-use Rattle.base.specs.Answer.{answer}
+use Rattle.base.specs.Answer.{answer, written}
 use Rattle.base.specs.declared.Answer.{Answer}
 use Rattle.base.specs.LeastFigure.{NoLarger, LeastFigure, same-least}
 use Rattle.rules.specs.Mosaic.{batchAt, MosaicUnder, MosaicLawful, mosaicFigure}
@@ -30,24 +31,30 @@ use Rattle.rules.specs.Flight.{passesAt, FlightUnder, FlightLawful, Keeps, Orde
 use Rattle.rules.specs.declared.Batch.{Batch}
 use Rattle.rules.specs.declared.Job.{Job}
 use Rattle.rules.specs.declared.Passes.{Passes}
-use Rattle.rules.specs.Plan.{Plan, PlanUnder, AllowedFor}
+use Rattle.rules.specs.Plan.{Plan, planBytes, PlanUnder, AllowedFor}
 use Rattle.plan_format.specs.ByteLaws.{AreBytes}
 use Rattle.rules_laws.specs.Determined.{plan-most, plan-determined}
 use Rattle.judge.specs.Judged.{turnedBack, found, judged}
 use Rattle.judge.specs.declared.Judged.{Judged}
 use Rattle.judge_laws.specs.Fault.{Fault}
-use Rattle.judge_laws.specs.Theorems.{FiguresTrue, FiguresGiven, judge-allows, allowed-judged, allowed-found, judged-figures, figures-given, fault-judged}
-use Rattle.judge_laws.specs.Theorems.{judged-fault}
+use Rattle.judge_laws.specs.Theorems.{FiguresTrue, FiguresGiven, judge-allows, allowed-judged, allowed-found, allowed-stated, judged-figures, figures-given}
+use Rattle.judge_laws.specs.Theorems.{fault-judged, judged-fault}
 use Rattle.mosaic.specs.Plan.{lasts}
 use Rattle.mosaic.specs.Theorems.{mosaic-ceiling}
 use Rattle.sorting.specs.Theorems.{sorting-ceiling}
 use Rattle.flight.specs.Theorems.{flight-ceiling}
 use Rattle.planner.specs.Call.{chosenPlan, clearedTo, tableAfter, Called}
-use Rattle.planner.specs.Outcomes.{Large, Accepted, written, call-accepted, call-refused, call-small, call-cleared, ourBytes}
+use Rattle.planner.specs.Outcomes.{Large, Accepted, call-accepted, call-refused, call-small, call-cleared, ourBytes}
 use Rattle.planner.specs.TurnedBack.{TurnedBack, turned-back, turned-back-only, eleven-only, else-accepted}
 use Rattle.planner.specs.Theorems.{figureOfMosaic, figureOfSorting, figureOfFlight, Least, Impossible, plan-lawful, plan-least-mosaic, plan-least-sorting}
 use Rattle.planner.specs.Theorems.{plan-least-flight, plan-early-mosaic, plan-early-sorting, plan-early-flight, plan-earliest}
 use Rattle.viewer.specs.Viewed.{Viewed}
+use Rattle.page.specs.Page.{pageLines, pageBytes}
+use Rattle.page.specs.Call.{pageOf, Paged}
+use Rattle.page.specs.Lines.{InLines, page-in-lines, page-length, page-most}
+use Rattle.page.specs.Uncut.{PageUncut, page-uncut}
+use Rattle.page.specs.Determined.{page-determines}
+use Rattle.page.specs.Outcomes.{PagePrinted, page-accepted, page-left, page-too-small, page-not-allowed, page-allowed}
 
 -- TERMS.
 
@@ -342,3 +349,84 @@ module _ (sheet : List ℕ) (sound : readSheet sheet .number ≡ 0) where
   impossible-at-all none c ps law kept =
       let w = ceiling-enough-flight c (readSheet sheet .flight .order) ps law kept (whole .flight .given (none .given)) in
       none .none (w .timetable) (w .obeys .0) (w .obeys .1)
+
+-- REQ 02. A page call: the sheet, the plan and the page buffer at entry, the page buffer at exit, and the answer. What the page of a timetable is, line by line
+-- and column by column, says page, Page.antt; `written r pageAfter` is what the call has written, the first bytes of the buffer, as many as the answer says.
+module _ (sheet plan page pageAfter : List ℕ) (r : Answer) (call : Paged sheet plan page pageAfter r) where
+  -- "Number 2 is given also for a page buffer below 3,069 bytes, before the judge is tried."
+  pub small-page-is-two : length page < pageLength → r ≡ answer bufferTooSmall 0 0
+  small-page-is-two = page-too-small sheet plan page pageAfter r call
+
+  module _ (large : pageLength ≤ length page) (j : Judged) (judging : j ≡ judged sheet plan) where
+    -- "Only a plan the judge allows is printed;" "for any other the judge's number and place come back" ..
+    pub judge-comes-back : (j .number ≡ 0 → ⊥) → r ≡ answer (j .number) (j .place) 0
+    judge-comes-back h = rw judging (page-not-allowed sheet plan page pageAfter r call large (λ q. h (ap (λ (x : Judged). x .number) judging ∙ q)))
+
+    pub allowed-is-printed : j .number ≡ 0 → r .number ≡ 0
+    allowed-is-printed z = page-allowed sheet plan page pageAfter r call large (sym (ap (λ (x : Judged). x .number) judging) ∙ z)
+
+  -- .. "and the page is untouched", with 2 as well.
+  pub refused-leaves-the-page : (r .number ≡ 0 → ⊥) → (pageAfter ≡ page) × (r .length ≡ 0)
+  refused-leaves-the-page = page-left sheet plan page pageAfter r call
+
+  module _ (z : r .number ≡ 0) where
+    paged : PagePrinted sheet plan page pageAfter r
+    paged = page-accepted sheet plan page pageAfter r call z
+
+    -- What is printed is an allowed plan. A plan is a row of bytes.
+    pub printed-is-allowed : AreBytes plan → AllowedFor sheet plan
+    printed-is-allowed bytes = judge-allows sheet plan bytes (paged .no-fault)
+
+    -- "No byte past the last line is written. This call .. also returns the length written."
+    pub nothing-past-the-last-line : (r .place ≡ 0) × (drop (r .length) pageAfter ≡ drop (r .length) page)
+    nothing-past-the-last-line = (paged .place, paged .behind)
+
+    module _ (a : AllowedFor sheet plan) where
+      -- What is written is the page of the plan's timetable ..
+      pub page-is-printed : (written r pageAfter ≡ pageBytes (readSheet sheet) (a .allowed .plan)) × (r .length ≡ length (written r pageAfter))
+      unfolding pageOf
+      page-is-printed = (
+        paged .bytes ∙ ap (pageBytes (readSheet sheet)) (allowed-stated sheet plan a),
+        paged .long ∙ ap length (sym (paged .bytes)),
+      )
+
+      -- .. "in lines of exactly 32 columns and a line feed", so that its length is 33 times the lines, and at most 3,069.
+      pub printed-in-lines : InLines (pageLines (readSheet sheet) (a .allowed .plan)) (written r pageAfter)
+      printed-in-lines =
+          subst (InLines (pageLines (readSheet sheet) (a .allowed .plan))) (sym (page-is-printed .0)) (page-in-lines (readSheet sheet) (a .allowed .plan))
+
+      pub page-long : (r .length ≡ 33 * length (pageLines (readSheet sheet) (a .allowed .plan))) × (r .length ≤ pageLength)
+      page-long = (long ∙ page-length (readSheet sheet) (a .allowed .plan), omega (arith, long, most))
+        where
+          long : r .length ≡ length (pageBytes (readSheet sheet) (a .allowed .plan))
+          long = page-is-printed .1 ∙ ap length (page-is-printed .0)
+
+          most : length (pageBytes (readSheet sheet) (a .allowed .plan)) ≤ pageLength
+          most = page-most (readSheet sheet) (a .allowed .plan) (read-sound sheet (a .sound)) (a .allowed .lawful)
+
+      -- No number is cut: each fits its columns and is read back from them.
+      pub no-number-cut : PageUncut (readSheet sheet) (a .allowed .plan)
+      no-number-cut = page-uncut (readSheet sheet) (a .allowed .plan) (read-sound sheet (a .sound)) (a .allowed .lawful)
+
+-- "Of two allowed plans for one sheet, the pages are equal exactly when the plans' bytes are."
+module _ (sheet p q page₁ page₂ after₁ after₂ : List ℕ) (r₁ r₂ : Answer) (call₁ : Paged sheet p page₁ after₁ r₁) (call₂ : Paged sheet q page₂ after₂ r₂)
+    (z₁ : r₁ .number ≡ 0) (z₂ : r₂ .number ≡ 0) (a : AllowedFor sheet p) (b : AllowedFor sheet q) where
+  first-page : written r₁ after₁ ≡ pageBytes (readSheet sheet) (a .allowed .plan)
+  first-page = page-is-printed sheet p page₁ after₁ r₁ call₁ z₁ a .0
+
+  second-page : written r₂ after₂ ≡ pageBytes (readSheet sheet) (b .allowed .plan)
+  second-page = page-is-printed sheet q page₂ after₂ r₂ call₂ z₂ b .0
+
+  pub equal-pages-equal-plans : written r₁ after₁ ≡ written r₂ after₂ → p ≡ q
+  equal-pages-equal-plans e =
+      a .allowed .layout
+      ∙ ap (planBytes (readSheet sheet))
+      (page-determines (readSheet sheet) (read-sound sheet (a .sound)) (a .allowed .plan) (b .allowed .plan) (a .allowed .lawful) (b .allowed .lawful) (sym first-page ∙ e ∙ second-page))
+      ∙ sym (b .allowed .layout)
+
+  pub equal-plans-equal-pages : p ≡ q → written r₁ after₁ ≡ written r₂ after₂
+  equal-plans-equal-pages e =
+      first-page
+      ∙ ap (pageBytes (readSheet sheet))
+      (plan-determined (readSheet sheet) (read-sound sheet (a .sound)) (a .allowed .plan) (b .allowed .plan) (a .allowed .lawful) (b .allowed .lawful) (sym (a .allowed .layout) ∙ e ∙ b .allowed .layout))
+      ∙ sym second-page

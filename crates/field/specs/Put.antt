@@ -7,8 +7,8 @@ use mathlib.Core.List.{List, [], _∷_, _++_}
 use native.Mathlib.Nat.{add-zero}
 use native.Mathlib.Numerals.{add-one}
 use native.Mathlib.Omega.{arith}
-use lib.ListN.{length, set, drop, length-append}
-use lib.Seq.{sets, sets-eq, length-sets, set-comm}
+use lib.ListN.{length, set, take, drop, length-append}
+use lib.Seq.{sets, sets-eq, length-sets, set-comm, take-append-seam, drop-append-seam}
 
 -- d with the bytes at the offset, and all others as they were
 unfoldable pub put : List ℕ → ℕ → List ℕ → List ℕ
@@ -68,6 +68,11 @@ pub record Written (before after : List ℕ) (at : ℕ) (bytes : List ℕ) (behi
 pub then-written : (d d₁ d₂ : List ℕ) (at at₁ at₂ : ℕ) (xs ys : List ℕ) → Written d d₁ at xs at₁ → Written d₁ d₂ at₁ ys at₂ → Written d d₂ at (xs ++ ys) at₂
 then-written d d₁ d₂ at at₁ at₂ xs ys w₁ w₂ =
     record { buffer = joined d d₁ d₂ at at₁ xs ys (w₁ .buffer) (w₂ .buffer) (w₁ .end); end = omega (arith, w₁ .end, w₂ .end, length-append xs ys) }
+
+-- the bytes that a buffer begins with, and what stands behind them
+pub held : (bytes before after : List ℕ) (n : ℕ) → n ≡ length bytes → after ≡ holding bytes before → (take n after ≡ bytes) × (drop n after ≡ drop n before)
+unfolding holding
+held bytes before after n e h = rw (e, h) (take-append-seam bytes (drop (length bytes) before), drop-append-seam bytes (drop (length bytes) before))
 
 pub holding-none : (d : List ℕ) → d ≡ holding [] d
 unfolding holding

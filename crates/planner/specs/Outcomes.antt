@@ -3,19 +3,18 @@ use Prim.Native.Nat.{ℕ, _≤_, _<_}
 use mathlib.Core.Path.{_≡_, refl, sym, ap, _∙_}
 use mathlib.Core.Bool.{Bool, true, false}
 use mathlib.Core.List.{List}
-use lib.ListN.{length, take, drop}
-use lib.Seq.{take-append-seam, drop-append-seam}
+use lib.ListN.{length, drop}
 use lib.Dec.{ltb, eqb}
 use borrow.Author.Tests.{ltb-true, ltb-false, eqb-true, eqb-false}
 use native.Mathlib.Omega.{arith}
-use Rattle.field.specs.Put.{holding, holding-none}
+use Rattle.field.specs.Put.{holding, holding-none, held}
 use Rattle.sheet.specs.Limits.{tableLength, planLength}
 use Rattle.sheet.specs.Refusals.{tableTooSmall, bufferTooSmall, orderImpossible}
 use Rattle.sheet.specs.Read.{readSheet}
 use Rattle.rules.specs.Plan.{planBytes}
 use Rattle.flight.specs.Choice.{isPossible}
 use Rattle.planner.specs.Call.{chosenPlan, sheetAnswer, sheetPlan, answerOf, plannedBytes, clearedTo, tableAfter, Called}
-use Rattle.base.specs.Answer.{answer}
+use Rattle.base.specs.Answer.{answer, written}
 use Rattle.base.specs.declared.Answer.{Answer}
 
 -- "Buffers are large enough where neither 1 nor 2 is given, the working table counted among them."
@@ -69,10 +68,6 @@ module _ (sheet plan table planAfter tableEnd : List ℕ) (r : Answer) (call : C
   pub call-outcome : Outcome sheet plan table planAfter tableEnd r
   call-outcome = way _ _ _ _ refl refl refl refl
 
--- The bytes that an accepted call has written: the first of the plan buffer, as many as its answer says.
-unfoldable pub written : Answer → List ℕ → List ℕ
-written r planAfter = take (r .length) planAfter
-
 -- An accepted call: its sheet is sound and possible, its buffers were large enough, and what it has written is the sheet's plan.
 pub record Accepted (sheet plan table planAfter : List ℕ) (r : Answer) : Type 0 where
   pub large : Large plan table
@@ -82,11 +77,6 @@ pub record Accepted (sheet plan table planAfter : List ℕ) (r : Answer) : Type 
   pub bytes : written r planAfter ≡ ourBytes sheet
   pub long : length (written r planAfter) ≡ r .length
   pub behind : drop (r .length) planAfter ≡ drop (r .length) plan
-
-held : (bytes plan planAfter : List ℕ) (n : ℕ) → n ≡ length bytes → planAfter ≡ holding bytes plan
-    → (take n planAfter ≡ bytes) × (drop n planAfter ≡ drop n plan)
-unfolding holding
-held bytes plan planAfter n e h = rw (e, h) (take-append-seam bytes (drop (length bytes) plan), drop-append-seam bytes (drop (length bytes) plan))
 
 module _ (sheet plan table planAfter tableEnd : List ℕ) (r : Answer) (call : Called sheet plan table planAfter tableEnd r) where
   pub call-accepted : r .number ≡ 0 → Accepted sheet plan table planAfter r
