@@ -2,7 +2,7 @@
 -- those are the page of the timetable that it states. Then each way out of a call is its answer.
 use Prim.Native.Nat.{ℕ, _+_, _*_, _≤_, _<_}
 use mathlib.Core.Path.{_≡_, refl, sym, ap, ap₂, subst, _∙_}
-use mathlib.Core.Bool.{true, false, cond}
+use mathlib.Core.Bool.{Bool, true, false, cond}
 use mathlib.Core.List.{List, [], _∷_, _++_}
 use native.Mathlib.Decide.{decLt}
 use native.Mathlib.Omega.{arith}
@@ -228,7 +228,14 @@ module _ (sheet plan : List ℕ) (e : Examined) (ex : e ≡ examined sheet plan)
 module _ (sheet plan page : List ℕ) where
   pub page-small : length page < pageLength → Paged sheet plan page page (answer bufferTooSmall 0 0)
   unfolding pageAnswer pagedBytes
-  page-small h = record { answer = rw (lt-ltb (length page) pageLength h); buffer = rw (lt-ltb (length page) pageLength h) (holding-none page) }
+  page-small h =
+      record {
+        answer = sym (ap (λ (b : Bool). cond b (answer bufferTooSmall 0 0) (printedAnswer sheet plan)) small);
+        buffer = rw small (holding-none page);
+      }
+    where
+      small : ltb (length page) pageLength ≡ true
+      small = lt-ltb (length page) pageLength h
 
   module _ (large : pageLength ≤ length page) (e : Examined) (ex : e ≡ examined sheet plan) where
     pub page-refused : (e .judged .number ≡ 0 → ⊥) → Paged sheet plan page page (answer (e .judged .number) (e .judged .place) 0)

@@ -46,6 +46,6 @@ pub fn page(sheet: &[u8], plan: &[u8], page: &mut [u8]) -> Answer
     Answer {
         number: 0,
         place: 0,
-        length,
+        length: length,
     }
 }

@@ -47,7 +47,9 @@ loop-less : tie.Need-loop-less Inv-loop μ-loop
 loop-less c = search needs
 
 loop-again : tie.Need-loop-again Inv-loop μ-loop
-loop-again c = search blocks-more
+loop-again c =
+    blocks-more _ _ _ _ _ _ _ _ _ (c .before .before .before .before .before .before .loop .inv) (c .before .before .before .before .before .loop-test .taken)
+    (c .before .before .before .before .passes-from .ensures) (c .before .before .put-block-line .ensures)
 
 same-length : tie.Need-same-length Inv-loop μ-loop
 same-length c = search needs

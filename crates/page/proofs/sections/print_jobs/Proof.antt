@@ -44,7 +44,9 @@ loop-less : tie.Need-loop-less Inv-loop μ-loop
 loop-less c = search needs
 
 loop-again : tie.Need-loop-again Inv-loop μ-loop
-loop-again c = search jobs-more
+loop-again c =
+    jobs-more _ _ _ _ _ _ _ _ _ (c .before .before .before .before .before .before .loop .inv) (c .before .before .before .before .before .loop-test .taken)
+    (c .before .before .before .before .job-from .ensures) (c .before .before .put-job-line .ensures)
 
 same-length : tie.Need-same-length Inv-loop μ-loop
 same-length c = search needs
