@@ -28,7 +28,11 @@ same-length : tie.Need-same-length
 same-length c = search needs
 
 returns : tie.Need-returns
-returns c = search block-stored
+returns c =
+    block-stored _ _ _ _ _ _ _
+    (c .before .before .before .before .before .before .before .before .before .before .put-first .ensures)
+    (c .before .before .before .before .before .before .put-blanks .ensures)
+    (c .before .before .put-last .ensures)
 
 pub put-block-line-spec : {M : Type 1} → statement M
 put-block-line-spec =

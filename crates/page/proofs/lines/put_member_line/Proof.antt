@@ -28,7 +28,11 @@ same-length : tie.Need-same-length
 same-length c = search needs
 
 returns : tie.Need-returns
-returns c = search member-stored
+returns c =
+    member-stored _ _ _ _ _ _ _ _ _ _
+    (c .before .before .before .before .before .before .before .before .before .before .put-first .ensures)
+    (c .before .before .before .before .before .before .put-columns .ensures)
+    (c .before .before .put-last .ensures)
 
 pub put-member-line-spec : {M : Type 1} → statement M
 put-member-line-spec =
