@@ -39,8 +39,8 @@ module _ (d : List ℕ) (at letter : ℕ) where
   pub head-feed : (d₁ : List ℕ) → at + lineLength ≤ length d → length d₁ ≡ length (set d at letter) → at + 32 < length d₁
   head-feed d₁ h e = omega (arith, e, length-set d at letter)
 
-  pub head-kept : (d₁ : List ℕ) → length d₁ ≡ length (set d at letter) → length (set d₁ (at + 32) lineFeed) ≡ length d
-  head-kept d₁ e = length-set d₁ (at + 32) lineFeed ∙ e ∙ length-set d at letter
+  pub head-kept : (d₁ : List ℕ) (last : ℕ) → length d₁ ≡ length (set d at letter) → length (set d₁ (at + 32) last) ≡ length d
+  head-kept d₁ last e = length-set d₁ (at + 32) last ∙ e ∙ length-set d at letter
 
   letter-joined : (d₁ : List ℕ) (width value : ℕ) → d₁ ≡ put (set d at letter) (at + 1) (columns space width value)
       → d₁ ≡ put d at (letter ∷ columns space width value)
@@ -79,8 +79,8 @@ blanks-stored d at =
     (put-one _ (at + 3) space)
     refl
 
-pub last-kept : (d d₁ d₂ : List ℕ) (at : ℕ) → length d₁ ≡ length d → length d₂ ≡ length d₁ → length (set d₂ (at + 24) lineFeed) ≡ length d
-last-kept d d₁ d₂ at e₁ e₂ = length-set d₂ (at + 24) lineFeed ∙ e₂ ∙ e₁
+pub last-kept : (d d₁ d₂ : List ℕ) (at last : ℕ) → length d₁ ≡ length d → length d₂ ≡ length d₁ → length (set d₂ (at + 24) last) ≡ length d
+last-kept d d₁ d₂ at last e₁ e₂ = length-set d₂ (at + 24) last ∙ e₂ ∙ e₁
 
 pub last-stored : (d d₁ d₂ : List ℕ) (at third fourth : ℕ) → d₁ ≡ put d at (columns space 12 third) → d₂ ≡ put d₁ (at + 12) (columns space 12 fourth)
     → set d₂ (at + 24) lineFeed ≡ put d at (lastFields third fourth)

@@ -13,16 +13,23 @@ print-mosaic-requires : tie.Need-print-mosaic-requires
 print-mosaic-requires c κs = search needs
 
 print-sorting-requires : tie.Need-print-sorting-requires
-print-sorting-requires c κs = search sorting-asked
+print-sorting-requires c κs = sorting-asked _ _ _ (c .before .before .before .before .before .before .before .pre) _ _ (c .before .before .before .print-mosaic .ensures)
 
 print-flight-requires : tie.Need-print-flight-requires
-print-flight-requires c κs = search flight-asked
+print-flight-requires c κs =
+    flight-asked _ _ _ (c .before .before .before .before .before .before .before .before .before .before .before .pre) _ _
+    (c .before .before .before .before .before .before .before .print-mosaic .ensures) _ _
+    (c .before .before .before .print-sorting .ensures)
 
 same-length : tie.Need-same-length
 same-length c = search needs
 
 returns : tie.Need-returns
-returns c = search sections-stored
+returns c =
+    sections-stored _ _ _ (c .before .before .before .before .before .before .before .before .before .before .before .before .before .before .pre) _ _
+    (c .before .before .before .before .before .before .before .before .before .before .print-mosaic .ensures) _ _
+    (c .before .before .before .before .before .before .print-sorting .ensures) _ _
+    (c .before .before .print-flight .ensures)
 
 pub print-sections-spec : {M : Type 1} → statement M
 print-sections-spec =
