@@ -177,16 +177,16 @@ blanks-feed = one (space ∷ space ∷ space ∷ []) (one (space ∷ space ∷ [
 batch-is-line : (number : ℕ) (b : Batch) → Line (batchLine number b)
 unfolding batchLine
 batch-is-line number b =
-    member-is-line batchLetter number (secondField (b .last)) (b .start) (b .finish) (second-columns (b .last)) (λ f. omega arith) (second-feed (b .last))
+    member-is-line batchLetter number (secondField (b .last)) _ _ (second-columns (b .last)) (λ f. omega arith) (second-feed (b .last))
 
 job-is-line : (j : Job) → Line (jobLine j)
 unfolding jobLine
 job-is-line j =
-    member-is-line jobLetter (j .desk) (secondField (j .number)) (j .scan) (j .start) (second-columns (j .number)) (λ f. omega arith) (second-feed (j .number))
+    member-is-line jobLetter (j .desk) (secondField (j .number)) _ _ (second-columns (j .number)) (λ f. omega arith) (second-feed (j .number))
 
 block-is-line : (number : ℕ) (p : Passes) → Line (blockLine number p)
 unfolding blockLine
-block-is-line number p = member-is-line blockLetter number blanks (p .first) (p .second) blanks-columns (λ f. omega arith) blanks-feed
+block-is-line number p = member-is-line blockLetter number blanks _ _ blanks-columns (λ f. omega arith) blanks-feed
 
 pub batch-columns : (number : ℕ) (b : Batch) → length (batchLine number b) ≡ 32
 batch-columns number b = batch-is-line number b .columns
