@@ -1,3 +1,4 @@
--- What reading leaves in a buffer, and what is stored in one.
+-- What reading leaves in a buffer, what is stored in one, and what a program writes for an answer.
 pub mod Input
 pub mod Text
+pub mod Reply

@@ -1,5 +1,6 @@
-// What the programs share: an input is read to its end, an answer is written whole, and what failed is said on standard error.
+// What the programs share: an input is read to its end, an answer is put together and written whole, and what failed is said on standard error.
 // No contract can say what a read delivers or whether a write succeeds: those are C's. It says what of the buffer counts.
+pub mod reply;
 pub mod text;
 
 ghost use mathlib.Core.Path.{_≡_};
@@ -51,6 +52,24 @@ pub fn read_whole(file: i32, program: &[u8], name: &[u8], buffer: &mut [u8]) -> 
         length,
         failed: false,
     }
+}
+
+// Reads the file that an argument names. In a message `word` stands for a name that is empty or too long.
+pub fn read_argument(program: &[u8], argument: usize, word: &[u8], buffer: &mut [u8]) -> Received
+    ensures { λ r. ⌜ Whole (now (buffer .exit)) r ⌝ }
+{
+    let mut name = io::buffer();
+    let length = os::arg(argument, &mut name);
+    if os::errno() != 0 {
+        return read_whole(-1, program, word, buffer);
+    }
+    let file = os::open_read(&name[..length]);
+    if length == 0 {
+        return read_whole(file, program, word, buffer);
+    }
+    let received = read_whole(file, program, &name[..length], buffer);
+    libc::close(file);
+    received
 }
 
 // One read, behind the bytes that have been read. The programs handle no signal, so none interrupts it.

@@ -1,21 +1,18 @@
 // Reads a sheet from standard input, at most its first 65,536 bytes, and writes its plan, or the field of its refusal.
-use plan_format::REFUSAL_SIZE;
+use files::reply::put_reply;
 use sheet::limits::PLAN_LENGTH;
 use sheet::limits::TABLE_LENGTH;
+ghost use Rattle.files.specs.Reply.{Replied};
 ghost use Rattle.planner.specs.Outcomes.{Large};
-ghost use Rattle.plan_sheet.specs.Reply.{Replied};
+ghost use Rattle.plan_sheet.specs.Reply.{sheetReply};
 
 // What the program writes for a sheet, at the start of a plan buffer. Returns its length.
 fn reply(sheet: &[u8], out: &mut [u8], table: &mut [u64]) -> usize
     requires { ⌜ Large (now out) (now table) ⌝ }
-    ensures { λ r. ⌜ Replied (now (sheet .entry)) (now (out .entry)) (now (out .exit)) r ⌝ }
+    ensures { λ r. ⌜ Replied (sheetReply (now (sheet .entry))) (now (out .entry)) (now (out .exit)) r ⌝ }
 {
     let answer = planner::plan(sheet, out, table);
-    if answer.number == 0 {
-        return answer.length;
-    }
-    plan_fields::heads::put_refusal(out, answer.number, answer.place as u64);
-    REFUSAL_SIZE
+    put_reply(out, answer)
 }
 
 fn main() {

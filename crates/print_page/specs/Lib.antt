@@ -1,0 +1,3 @@
+-- What the program writes for a sheet and a plan.
+pub mod Reply
+pub mod Laws
