@@ -75,6 +75,14 @@ module _ (s : List ℕ) (at width left value b : ℕ) (a : Added s at width left
       let g = r .fits in
       omega (arith, pow-mono {i = 8 * (width - left)} {j = 56} (omega arith))
 
+-- the same with a byte that is read within the row
+module _ (s : List ℕ) (at width left value : ℕ) (a : Added s at width left value) (more : 0 < left) (small : getD s (at + (left - 1)) 0 < 256) where
+  pub within-more : Added s at width (left - 1) (getD s (at + (left - 1)) 0 + 256 * value)
+  within-more = added-more s at width left value (getD s (at + (left - 1)) 0) a more (byte-read s (at + (left - 1)) _ refl small)
+
+  pub within-fits : width ≤ 8 → getD s (at + (left - 1)) 0 + 256 * value < 2 ^ 64
+  within-fits h = added-fits s at width left value (getD s (at + (left - 1)) 0) a more (byte-read s (at + (left - 1)) _ refl small) h
+
 -- so that the next byte can be added without wrapping
 pub scaled-fits : (s : List ℕ) (at width left value : ℕ) → Added s at width left value → 0 < left → width ≤ 8 → 256 * value < 2 ^ 64
 scaled-fits s at width left value a more h =

@@ -24,6 +24,20 @@ pub fn byte(s: &[u8], at: usize) -> u64
     if at < s.len() { s[at] as u64 } else { 0 }
 }
 
+// The number in `width` bytes from an offset on, all of them within the slice: each is read without a test.
+fn number_within(s: &[u8], at: usize, width: usize) -> u64
+    requires { ⌜ (width ≤ 8) × (at + width ≤ length (now s)) ⌝ }
+    ensures { λ r. ⌜ NumberRead (now (s .entry)) at width r ⌝ }
+{
+    let mut sum: u64 = 0;
+    let mut left = width;
+    while 0 < left {
+        left -= 1;
+        sum = s[at + left] as u64 + 256 * sum;
+    }
+    sum
+}
+
 // The number in `width` bytes from an offset on.
 pub fn number(s: &[u8], at: usize, width: usize) -> u64
     requires { ⌜ width ≤ 8 ⌝ }
@@ -31,6 +45,9 @@ pub fn number(s: &[u8], at: usize, width: usize) -> u64
 {
     if s.len() <= at {
         return 0;
+    }
+    if width <= s.len() - at {
+        return number_within(s, at, width);
     }
     let mut value: u64 = 0;
     let mut left = width;

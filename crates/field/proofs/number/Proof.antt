@@ -1,4 +1,4 @@
--- `number` meets its contract. Invariant: the bytes from the one at `left` on have been added up. So the value fits at every turn.
+-- `number` meets its contract. Within the row it is `number_within`; else, invariant: the bytes from the one at `left` on have been added up. So the value fits at every turn.
 use Rattle.field.specs.Numbers.{scaled-fits}
 use native.Mathlib.Omega.{arith}
 use borrow.Author.Needs.{needs}
@@ -14,6 +14,15 @@ abbrev μ-loop : tie.MeasureT-loop
 
 returns : tie.Need-returns Inv-loop μ-loop
 returns c = search past-read
+
+sub-if2 : tie.Need-sub-if2 Inv-loop μ-loop
+sub-if2 c = search needs
+
+number-within-requires : tie.Need-number-within-requires Inv-loop μ-loop
+number-within-requires c κs = search needs
+
+returns-2 : tie.Need-returns-2 Inv-loop μ-loop
+returns-2 c = search needs
 
 loop-holds : tie.Need-loop-holds Inv-loop μ-loop
 loop-holds c = search added-none
@@ -39,8 +48,8 @@ loop-less c = omega arith
 loop-again : tie.Need-loop-again Inv-loop μ-loop
 loop-again c = search added-more
 
-returns-2 : tie.Need-returns-2 Inv-loop μ-loop
-returns-2 c = search added-all
+returns-3 : tie.Need-returns-3 Inv-loop μ-loop
+returns-3 c = search added-all
 
 pub number-spec : {M : Type 1} → statement M
 number-spec =
@@ -49,6 +58,9 @@ number-spec =
     Inv-loop
     μ-loop
     returns
+    sub-if2
+    number-within-requires
+    returns-2
     loop-holds
     sub-left
     add-byte
@@ -57,4 +69,4 @@ number-spec =
     add-value
     loop-less
     loop-again
-    returns-2)
+    returns-3)
