@@ -38,7 +38,7 @@
  *   mosaic head   m       the figure, in columns 2 to 32
  *   batch         M       number   last strip    mount start   finish
  *   sorting head  s       the figure
- *   strip         S       desk     number at it  scan start    desk start
+ *   strip         S       desk     number there  scan start    desk start
  *   flight head   f       the figure
  *   block         F       number   four spaces   first start   second start
  *
@@ -133,8 +133,9 @@ struct sevulamon_judged sevulamon_judge(const uint8_t *sheet, size_t sheet_lengt
 /* Prints the page of a plan for a sheet, where the judge allows the plan. The lines are written at
  * the start of the page buffer, and no byte behind the last line feed: the page is no C string. A
  * buffer below SEVULAMON_PAGE_LENGTH is 2 at place 0, before sheet or plan is looked at. For a plan
- * that the judge does not allow, the judge's number and place come back. A refused call writes
- * nothing. The page buffer must not overlap the sheet or the plan; these two may overlap. */
+ * that the judge does not allow, the judge's number and place come back: that of 3 to 10 in the
+ * sheet, that of 12 to 14 in the plan. A refused call writes nothing. The page buffer must not
+ * overlap the sheet or the plan; these two may overlap. */
 struct sevulamon_answer sevulamon_page(const uint8_t *sheet, size_t sheet_length,
                                        const uint8_t *plan, size_t plan_length,
                                        uint8_t *page, size_t page_length);

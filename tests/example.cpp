@@ -1,4 +1,4 @@
-// A C++ program over the functions for C: plans the sheet of each three files, prints the plan, and compares plan and page with the other two files.
+// A C++ program over the functions for C: takes its files by threes: plans the sheet, prints the plan, and compares plan and page with the other two files.
 #include "sevulamon.h"
 
 #include <fstream>

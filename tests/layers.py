@@ -2,7 +2,8 @@
 """Writes a page of the crates, layer by layer from bytes to C, from crates.txt, and checks who rests on whom.
 
 In crates.txt a line `## NAME: what it is` begins a layer; lower layers come first. A crate may rest on crates of its own and of lower layers alone.
-Neither the judge nor the planner rests on a crate of the other, directly or through others.
+Neither the judge nor the planner rests on a crate of the other, directly or through others; nor do the page and the programs that judge or print
+rest on a crate of the planner.
 
     layers.py           writes docs/CRATES.md
     layers.py --check   fails where docs/CRATES.md is not what would be written, or where a crate rests on what it must not
@@ -15,10 +16,14 @@ ROOT = pathlib.Path(__file__).resolve().parent.parent
 PAGE = ROOT / "docs/CRATES.md"
 APART = ("The judge", "The planner")
 
+# What else must have no part of the planner beneath it: a layer, and programs.
+NO_PLANNER = ("The page",)
+NO_PLANNER_PROGRAMS = ("judge_plan", "judge_cases", "print_page")
+
 HEAD = """# The crates
 
 Layers from bytes to C. A crate rests only on crates of its own layer and of layers above it in this page, and neither the judge nor the planner rests on
-a crate of the other. One line a crate: what it is, and the crates that it rests on. Written by tests/layers.py from crates.txt and from the first sentence of each crate, and checked by it.
+a crate of the other; no part of the planner is beneath the page or the programs that judge or print. One line a crate: what it is, and the crates that it rests on. Written by tests/layers.py from crates.txt and from the first sentence of each crate, and checked by it.
 """
 
 
@@ -63,6 +68,10 @@ def faults(layers, rests):
             if crate in apart.get(one, ()):
                 for name in sorted(reached(crate, rests) & apart.get(other, set())):
                     yield "%s rests on %s: the judge and the planner must not rest on each other" % (crate, name)
+    free = {crate for name, _, crates in layers if name in NO_PLANNER for crate in crates} | set(NO_PLANNER_PROGRAMS)
+    for crate in sorted(free):
+        for name in sorted(reached(crate, rests) & apart.get("The planner", set())):
+            yield "%s rests on %s: no part of the planner must be beneath it" % (crate, name)
 
 
 def purpose(crate):

@@ -229,10 +229,11 @@ def compare_call(folder, program, name, sheet, plan, number, place, page):
         due = answer(2, 0, b"", room) if room < LEAST_ROOM else answer(number, place, page, room)
         compare_bytes("%s: a page buffer of %d bytes" % (name, room), found[at:at + len(due)], due)
         at += len(due)
+    compare("%s: bytes behind the last answer" % name, found[at:], b"")
 
 
 def compare_pairs():
-    """Of two allowed plans for one sheet the pages are equal exactly when the plans are."""
+    """Of two allowed plans for one sheet the pages are equal exactly when the plans are. The pages due stand for those printed, which equal them."""
     pairs = [(one, other) for one, other in itertools.combinations(PAGES, 2) if one[1] == other[1]]
     for one, other in pairs:
         compare("%s and %s: equal pages" % (one[0], other[0]), one[3] == other[3], one[2] == other[2])

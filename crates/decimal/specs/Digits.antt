@@ -19,7 +19,7 @@ digitsWithin zero value = []
 digitsWithin (suc steps) value =
     elim (ltb value 10) [ true ↦ (zeroDigit + value) ∷ [] | false ↦ digitsWithin steps (value / 10) ++ (zeroDigit + value % 10) ∷ [] ]
 
--- a number has no more digits than itself and 1
+-- a number has at most value + 1 digits
 unfoldable pub digitsOf : ℕ → List ℕ
 digitsOf value = digitsWithin (suc value) value
 

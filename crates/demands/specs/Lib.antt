@@ -350,20 +350,24 @@ module _ (sheet : List ℕ) (sound : readSheet sheet .number ≡ 0) where
       let w = ceiling-enough-flight c (readSheet sheet .flight .order) ps law kept (whole .flight .given (none .given)) in
       none .none (w .timetable) (w .obeys .0) (w .obeys .1)
 
--- REQ 02. A page call: the sheet, the plan and the page buffer at entry, the page buffer at exit, and the answer. What the page of a timetable is, line by line
--- and column by column, says page, Page.antt; `written r pageAfter` is what the call has written, the first bytes of the buffer, as many as the answer says.
+-- REQ 02. A page call: the sheet, the plan and the page buffer at entry, the page buffer at exit, and the answer. Page.antt of crate page says what the page of a
+-- timetable is, line by line and column by column. `written r pageAfter` is what the call has written: the first bytes of the buffer, as many as the answer says.
 module _ (sheet plan page pageAfter : List ℕ) (r : Answer) (call : Paged sheet plan page pageAfter r) where
   -- "Number 2 is given also for a page buffer below 3,069 bytes, before the judge is tried."
   pub small-page-is-two : length page < pageLength → r ≡ answer bufferTooSmall 0 0
   small-page-is-two = page-too-small sheet plan page pageAfter r call
 
-  module _ (large : pageLength ≤ length page) (j : Judged) (judging : j ≡ judged sheet plan) where
-    -- "Only a plan the judge allows is printed;" "for any other the judge's number and place come back" ..
-    pub judge-comes-back : (j .number ≡ 0 → ⊥) → r ≡ answer (j .number) (j .place) 0
-    judge-comes-back h = rw judging (page-not-allowed sheet plan page pageAfter r call large (λ q. h (ap (λ (x : Judged). x .number) judging ∙ q)))
+  -- "Only a plan the judge allows is printed;" and each such plan is, where the buffer is large enough.
+  pub only-allowed-is-printed : (j : Judged) → j ≡ judged sheet plan → r .number ≡ 0 → j .number ≡ 0
+  only-allowed-is-printed j judging z = ap (λ (x : Judged). x .number) judging ∙ page-accepted sheet plan page pageAfter r call z .no-fault
 
+  module _ (large : pageLength ≤ length page) (j : Judged) (judging : j ≡ judged sheet plan) where
     pub allowed-is-printed : j .number ≡ 0 → r .number ≡ 0
     allowed-is-printed z = page-allowed sheet plan page pageAfter r call large (sym (ap (λ (x : Judged). x .number) judging) ∙ z)
+
+    -- "for any other the judge's number and place come back" ..
+    pub judge-comes-back : (j .number ≡ 0 → ⊥) → r ≡ answer (j .number) (j .place) 0
+    judge-comes-back h = rw judging (page-not-allowed sheet plan page pageAfter r call large (λ q. h (ap (λ (x : Judged). x .number) judging ∙ q)))
 
   -- .. "and the page is untouched", with 2 as well.
   pub refused-leaves-the-page : (r .number ≡ 0 → ⊥) → (pageAfter ≡ page) × (r .length ≡ 0)
@@ -404,7 +408,7 @@ module _ (sheet plan page pageAfter : List ℕ) (r : Answer) (call : Paged sheet
           most : length (pageBytes (readSheet sheet) (a .allowed .plan)) ≤ pageLength
           most = page-most (readSheet sheet) (a .allowed .plan) (read-sound sheet (a .sound)) (a .allowed .lawful)
 
-      -- No number is cut: each fits its columns and is read back from them.
+      -- No number is cut: each fits its columns, stands in them "right-aligned with spaces, no leading zeros", and is read back from them.
       pub no-number-cut : PageUncut (readSheet sheet) (a .allowed .plan)
       no-number-cut = page-uncut (readSheet sheet) (a .allowed .plan) (read-sound sheet (a .sound)) (a .allowed .lawful)
 
@@ -418,15 +422,17 @@ module _ (sheet p q page₁ page₂ after₁ after₂ : List ℕ) (r₁ r₂ : A
   second-page = page-is-printed sheet q page₂ after₂ r₂ call₂ z₂ b .0
 
   pub equal-pages-equal-plans : written r₁ after₁ ≡ written r₂ after₂ → p ≡ q
-  equal-pages-equal-plans e =
-      a .allowed .layout
-      ∙ ap (planBytes (readSheet sheet))
-      (page-determines (readSheet sheet) (read-sound sheet (a .sound)) (a .allowed .plan) (b .allowed .plan) (a .allowed .lawful) (b .allowed .lawful) (sym first-page ∙ e ∙ second-page))
-      ∙ sym (b .allowed .layout)
+  equal-pages-equal-plans e = a .allowed .layout ∙ ap (planBytes (readSheet sheet)) same ∙ sym (b .allowed .layout)
+    where
+      same : a .allowed .plan ≡ b .allowed .plan
+      same =
+          page-determines (readSheet sheet) (read-sound sheet (a .sound)) (a .allowed .plan) (b .allowed .plan) (a .allowed .lawful) (b .allowed .lawful)
+          (sym first-page ∙ e ∙ second-page)
 
   pub equal-plans-equal-pages : p ≡ q → written r₁ after₁ ≡ written r₂ after₂
-  equal-plans-equal-pages e =
-      first-page
-      ∙ ap (pageBytes (readSheet sheet))
-      (plan-determined (readSheet sheet) (read-sound sheet (a .sound)) (a .allowed .plan) (b .allowed .plan) (a .allowed .lawful) (b .allowed .lawful) (sym (a .allowed .layout) ∙ e ∙ b .allowed .layout))
-      ∙ sym second-page
+  equal-plans-equal-pages e = first-page ∙ ap (pageBytes (readSheet sheet)) same ∙ sym second-page
+    where
+      same : a .allowed .plan ≡ b .allowed .plan
+      same =
+          plan-determined (readSheet sheet) (read-sound sheet (a .sound)) (a .allowed .plan) (b .allowed .plan) (a .allowed .lawful) (b .allowed .lawful)
+          (sym (a .allowed .layout) ∙ e ∙ b .allowed .layout)

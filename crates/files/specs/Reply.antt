@@ -31,7 +31,7 @@ pub record ReplyPre (out : List ℕ) (a : Answer) : Type 0 where
   pub within : a .length ≤ length out
 
 -- what a call leaves that writes at the start of a buffer: its answer has the length of its bytes, and where it is refused there are none
-pub record Left (bytes out after : List ℕ) (a : Answer) : Type 0 where
+pub record CallLeaves (bytes out after : List ℕ) (a : Answer) : Type 0 where
   pub buffer : after ≡ holding bytes out
   pub length-is : a .length ≡ length bytes
   pub none : (a .number ≡ 0 → ⊥) → bytes ≡ []
@@ -73,7 +73,7 @@ module _ (out : List ℕ) (a : Answer) (asked : ReplyPre out a) where
       size = sym (length-refusal (a .number) (a .place))
 
 -- A call, and `put_reply` behind it.
-module _ (bytes out after : List ℕ) (a : Answer) (left : Left bytes out after a) where
+module _ (bytes out after : List ℕ) (a : Answer) (left : CallLeaves bytes out after a) where
   pub reply-asked : sizeOf refusalForm ≤ length out → ReplyPre after a
   reply-asked h =
       record {

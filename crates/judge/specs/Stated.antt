@@ -12,7 +12,6 @@ use Rattle.rules.specs.declared.Passes.{Passes}
 use Rattle.plan_read.specs.PlanRead.{orderFrom, batchesFrom, jobsFrom, blocksFrom}
 use Rattle.judge_layout.specs.Layout.{mosaicPart, sortingPart, flightPart}
 
--- what a plan states, read from its bytes; the order of a flight that is absent is the one given, or that of no pass
 unfoldable pub statedBatches : Sheet → List ℕ → List Batch
 statedBatches s plan = batchesFrom plan (mosaicPart s plan .head + sizeOf mosaicHeadForm) (mosaicPart s plan .members)
 
@@ -22,6 +21,7 @@ statedJobs s plan = jobsFrom plan (sortingPart s plan .head + sizeOf sortingHead
 unfoldable pub statedPasses : Sheet → List ℕ → List Passes
 statedPasses s plan = blocksFrom plan (flightPart s plan .head + sizeOf flightHeadForm) (flightPart s plan .members)
 
+-- without blocks: the order that the sheet has, or 0
 unfoldable pub statedOrder : Sheet → List ℕ → ℕ
 statedOrder s plan = cond (ltb 0 (s .flight .blocks)) (orderFrom plan (flightPart s plan .head)) (cond (s .flight .ordered) (s .flight .order) 0)
 

@@ -52,6 +52,7 @@ fn turn_back(number: u64, place: usize) -> Judged
     }
 }
 
+// No section: what a sheet that is turned back has.
 fn no_part() -> Part
     ensures { λ r. ⌜ r ≡ noPart ⌝ }
 {

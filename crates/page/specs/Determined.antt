@@ -29,7 +29,7 @@ use Rattle.rules_laws.specs.Present.{present-some, present-length}
 use Rattle.page.specs.Page.{headLine, memberLine, secondField, blanks, batchLetter, jobLetter, blockLetter, batchLine, jobLine, blockLine}
 use Rattle.page.specs.Page.{mosaicHeadLetter, sortingHeadLetter, flightHeadLetter, mosaicLines, sortingLines, flightLines, pageLines, pageBytes}
 use Rattle.page.specs.Lines.{InLines, second-columns, blanks-columns, mosaic-count, sorting-count, flight-count}
-use Rattle.page.specs.Lines.{mosaicPart, sortingPart, flightPart, page-parts, page-in-lines, parts-length}
+use Rattle.page.specs.Lines.{mosaicOfPage, sortingOfPage, flightOfPage, page-parts, page-in-lines, parts-length}
 use Rattle.page.specs.Uncut.{Uncut, uncut-same, PageUncut, page-uncut}
 
 -- bytes are in lines in one way only
@@ -125,41 +125,41 @@ module _ (s : Sheet) (sound : SheetSound s) (p q : Plan) (P : PlanLawful s p) (Q
   blocks-count : length (p .passes) ≡ length (q .passes)
   blocks-count = P .flight .every-block ∙ sym (Q .flight .every-block)
 
-  sorting-long : length (sortingPart s p) ≡ length (sortingPart s q)
+  sorting-long : length (sortingOfPage s p) ≡ length (sortingOfPage s q)
   sorting-long =
       present-same (stripsInAll (s .sorting)) _ _
       (sorting-count (sortingFigure (s .sorting) (p .jobs)) (p .jobs)
       ∙ ap (λ (k : ℕ). k + 1) jobs-count
       ∙ sym (sorting-count (sortingFigure (s .sorting) (q .jobs)) (q .jobs)))
 
-  flight-long : length (flightPart s p) ≡ length (flightPart s q)
+  flight-long : length (flightOfPage s p) ≡ length (flightOfPage s q)
   flight-long =
       present-same (s .flight .blocks) _ _
       (flight-count (flightFigure (s .flight) (p .passes)) (p .passes)
       ∙ ap (λ (k : ℕ). k + 1) blocks-count
       ∙ sym (flight-count (flightFigure (s .flight) (q .passes)) (q .passes)))
 
-  mosaic-long : length (mosaicPart s p) ≡ length (mosaicPart s q)
+  mosaic-long : length (mosaicOfPage s p) ≡ length (mosaicOfPage s q)
   mosaic-long = omega (arith, parts-length s p, parts-length s q, ap length lines-same, sorting-long, flight-long)
 
-  front-long : length (mosaicPart s p ++ sortingPart s p) ≡ length (mosaicPart s q ++ sortingPart s q)
+  front-long : length (mosaicOfPage s p ++ sortingOfPage s p) ≡ length (mosaicOfPage s q ++ sortingOfPage s q)
   front-long =
-      omega (arith, length-append (mosaicPart s p) (sortingPart s p), length-append (mosaicPart s q) (sortingPart s q), mosaic-long, sorting-long)
+      omega (arith, length-append (mosaicOfPage s p) (sortingOfPage s p), length-append (mosaicOfPage s q) (sortingOfPage s q), mosaic-long, sorting-long)
 
-  parts-same : mosaicPart s p ++ sortingPart s p ++ flightPart s p ≡ mosaicPart s q ++ sortingPart s q ++ flightPart s q
+  parts-same : mosaicOfPage s p ++ sortingOfPage s p ++ flightOfPage s p ≡ mosaicOfPage s q ++ sortingOfPage s q ++ flightOfPage s q
   parts-same = sym (page-parts s p) ∙ lines-same ∙ page-parts s q
 
-  front-same : mosaicPart s p ++ sortingPart s p ≡ mosaicPart s q ++ sortingPart s q
-  front-same = fronts-same (mosaicPart s p ++ sortingPart s p) (mosaicPart s q ++ sortingPart s q) (flightPart s p) (flightPart s q) front-long parts-same
+  front-same : mosaicOfPage s p ++ sortingOfPage s p ≡ mosaicOfPage s q ++ sortingOfPage s q
+  front-same = fronts-same (mosaicOfPage s p ++ sortingOfPage s p) (mosaicOfPage s q ++ sortingOfPage s q) (flightOfPage s p) (flightOfPage s q) front-long parts-same
 
-  mosaic-same : mosaicPart s p ≡ mosaicPart s q
-  mosaic-same = fronts-same (mosaicPart s p) (mosaicPart s q) (sortingPart s p) (sortingPart s q) mosaic-long front-same
+  mosaic-same : mosaicOfPage s p ≡ mosaicOfPage s q
+  mosaic-same = fronts-same (mosaicOfPage s p) (mosaicOfPage s q) (sortingOfPage s p) (sortingOfPage s q) mosaic-long front-same
 
-  sorting-same : sortingPart s p ≡ sortingPart s q
-  sorting-same = backs-same (mosaicPart s p) (mosaicPart s q) (sortingPart s p) (sortingPart s q) mosaic-long front-same
+  sorting-same : sortingOfPage s p ≡ sortingOfPage s q
+  sorting-same = backs-same (mosaicOfPage s p) (mosaicOfPage s q) (sortingOfPage s p) (sortingOfPage s q) mosaic-long front-same
 
-  flight-same : flightPart s p ≡ flightPart s q
-  flight-same = backs-same (mosaicPart s p ++ sortingPart s p) (mosaicPart s q ++ sortingPart s q) (flightPart s p) (flightPart s q) front-long parts-same
+  flight-same : flightOfPage s p ≡ flightOfPage s q
+  flight-same = backs-same (mosaicOfPage s p ++ sortingOfPage s p) (mosaicOfPage s q ++ sortingOfPage s q) (flightOfPage s p) (flightOfPage s q) front-long parts-same
 
   -- no number of either is cut
   uncutP : PageUncut s p
@@ -174,7 +174,7 @@ module _ (s : Sheet) (sound : SheetSound s) (p q : Plan) (P : PlanLawful s p) (Q
   batches-count : length (p .batches) ≡ length (q .batches)
   batches-count = go (decLt 0 (s .mosaic .strips))
     where
-      long : 0 < s .mosaic .strips → (r : Plan) → length (mosaicPart s r) ≡ length (r .batches) + 1
+      long : 0 < s .mosaic .strips → (r : Plan) → length (mosaicOfPage s r) ≡ length (r .batches) + 1
       long h r =
           ap length (present-some (s .mosaic .strips) (mosaicLines (mosaicFigure (s .mosaic) (r .batches)) (r .batches)) h)
           ∙ mosaic-count (mosaicFigure (s .mosaic) (r .batches)) (r .batches)

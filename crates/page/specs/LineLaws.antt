@@ -12,11 +12,8 @@ use Rattle.rules.specs.declared.Batch.{Batch}
 use Rattle.rules.specs.declared.Job.{Job}
 use Rattle.rules.specs.declared.Passes.{Passes}
 use Rattle.page.specs.Lines.{second-columns, blanks-columns}
-use Rattle.page.specs.Page.{lineFeed, lineBytes, headLine, memberLine, secondField, blanks, batchLine, jobLine, blockLine, batchLetter, jobLetter, blockLetter}
-
--- a line with its line feed
-abbrev pub lineLength : ℕ
-lineLength = 33
+use Rattle.page.specs.Page.{lineFeed, lineLength, lineBytes, headLine, memberLine, secondField, blanks, batchLine, jobLine, blockLine}
+use Rattle.page.specs.Page.{batchLetter, jobLetter, blockLetter}
 
 -- the third and the fourth field of a member line, and the line feed
 unfoldable pub lastFields : ℕ → ℕ → List ℕ

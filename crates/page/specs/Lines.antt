@@ -230,25 +230,25 @@ flight-lines figure ps =
     section-lines (length ps) flightHeadLetter figure (λ i. blockLine (i + 1) (passesAt ps i)) (λ f. omega arith) (λ i. block-is-line (i + 1) (passesAt ps i))
 
 -- the lines of each section of a page
-abbrev pub mosaicPart : Sheet → Plan → List (List ℕ)
-mosaicPart s p = ifPresent (s .mosaic .strips) (mosaicLines (mosaicFigure (s .mosaic) (p .batches)) (p .batches))
+abbrev pub mosaicOfPage : Sheet → Plan → List (List ℕ)
+mosaicOfPage s p = ifPresent (s .mosaic .strips) (mosaicLines (mosaicFigure (s .mosaic) (p .batches)) (p .batches))
 
-abbrev pub sortingPart : Sheet → Plan → List (List ℕ)
-sortingPart s p = ifPresent (stripsInAll (s .sorting)) (sortingLines (sortingFigure (s .sorting) (p .jobs)) (p .jobs))
+abbrev pub sortingOfPage : Sheet → Plan → List (List ℕ)
+sortingOfPage s p = ifPresent (stripsInAll (s .sorting)) (sortingLines (sortingFigure (s .sorting) (p .jobs)) (p .jobs))
 
-abbrev pub flightPart : Sheet → Plan → List (List ℕ)
-flightPart s p = ifPresent (s .flight .blocks) (flightLines (flightFigure (s .flight) (p .passes)) (p .passes))
+abbrev pub flightOfPage : Sheet → Plan → List (List ℕ)
+flightOfPage s p = ifPresent (s .flight .blocks) (flightLines (flightFigure (s .flight) (p .passes)) (p .passes))
 
 module _ (s : Sheet) (p : Plan) where
-  pub page-parts : pageLines s p ≡ mosaicPart s p ++ sortingPart s p ++ flightPart s p
+  pub page-parts : pageLines s p ≡ mosaicOfPage s p ++ sortingOfPage s p ++ flightOfPage s p
   unfolding pageLines
   page-parts = refl
 
   pub page-lines : Each [] Line (pageLines s p)
   unfolding pageLines
   page-lines =
-      each-append [] Line (mosaicPart s p ++ sortingPart s p) (flightPart s p)
-      (each-append [] Line (mosaicPart s p) (sortingPart s p)
+      each-append [] Line (mosaicOfPage s p ++ sortingOfPage s p) (flightOfPage s p)
+      (each-append [] Line (mosaicOfPage s p) (sortingOfPage s p)
       (each-present [] Line (s .mosaic .strips) _ (mosaic-lines (mosaicFigure (s .mosaic) (p .batches)) (p .batches)))
       (each-present [] Line (stripsInAll (s .sorting)) _ (sorting-lines (sortingFigure (s .sorting) (p .jobs)) (p .jobs))))
       (each-present [] Line (s .flight .blocks) _ (flight-lines (flightFigure (s .flight) (p .passes)) (p .passes)))
@@ -266,13 +266,13 @@ module _ (s : Sheet) (p : Plan) where
   pub page-length : length (pageBytes s p) ≡ 33 * length (pageLines s p)
   page-length = page-in-lines .long
 
-  pub parts-length : length (pageLines s p) ≡ length (mosaicPart s p) + length (sortingPart s p) + length (flightPart s p)
+  pub parts-length : length (pageLines s p) ≡ length (mosaicOfPage s p) + length (sortingOfPage s p) + length (flightOfPage s p)
   parts-length =
       omega (
         arith,
         ap length page-parts,
-        length-append (mosaicPart s p ++ sortingPart s p) (flightPart s p),
-        length-append (mosaicPart s p) (sortingPart s p),
+        length-append (mosaicOfPage s p ++ sortingOfPage s p) (flightOfPage s p),
+        length-append (mosaicOfPage s p) (sortingOfPage s p),
       )
 
   module _ (sound : SheetSound s) (L : PlanLawful s p) where

@@ -19,6 +19,10 @@ use Rattle.rules.specs.declared.Passes.{Passes}
 abbrev pub lineFeed : ℕ
 lineFeed = 10
 
+-- so that each takes 33 bytes
+abbrev pub lineLength : ℕ
+lineLength = 33
+
 unfoldable pub lineBytes : List ℕ → List ℕ
 lineBytes line = line ++ (lineFeed ∷ [])
 

@@ -9,8 +9,7 @@ use Rattle.rules.specs.Plan.{ifPresent}
 use Rattle.plan_read.specs.PlanRead.{batchFrom, jobFrom, passesFrom}
 use Rattle.judge_layout.specs.declared.Part.{Part}
 use Rattle.judge.specs.declared.Examined.{Examined}
-use Rattle.page.specs.Page.{headLine, batchLine, jobLine, blockLine, mosaicHeadLetter, sortingHeadLetter, flightHeadLetter}
-use Rattle.page.specs.LineLaws.{lineLength}
+use Rattle.page.specs.Page.{lineLength, headLine, batchLine, jobLine, blockLine, mosaicHeadLetter, sortingHeadLetter, flightHeadLetter}
 
 -- the line of member i, from 0, of those that stand in a plan from an offset on
 unfoldable pub batchLineFrom : List ℕ → ℕ → ℕ → List ℕ
@@ -42,7 +41,7 @@ examinedLines plan e =
     ++ sortingPrinted plan (e .sorting) (e .judged .sorting)
     ++ flightPrinted plan (e .flight) (e .judged .flight)
 
--- n members, each of a size, that stand from an offset on which can be counted to; and room for their lines
+-- n members of one size from an offset on, all below 2^64, and room for their lines
 pub record PrintMembersPre (page : List ℕ) (at first size n : ℕ) : Type 0 where
   pub room : at + lineLength * n ≤ length page
   pub place : first + size * n < 2 ^ 64

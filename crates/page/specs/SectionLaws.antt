@@ -17,9 +17,8 @@ use Rattle.rules_laws.specs.Joined.{members-listed}
 use Rattle.rules_laws.specs.Present.{present-none, present-some}
 use Rattle.plan_read.specs.PlanRead.{batchFrom, jobFrom, passesFrom, BatchRead, JobRead, PassesRead}
 use Rattle.judge_layout.specs.declared.Part.{Part}
-use Rattle.page.specs.Page.{lineBytes, linesBytes, headLine, batchLine, jobLine, blockLine, mosaicHeadLetter, sortingHeadLetter, flightHeadLetter}
+use Rattle.page.specs.Page.{lineLength, lineBytes, linesBytes, headLine, batchLine, jobLine, blockLine, mosaicHeadLetter, sortingHeadLetter, flightHeadLetter}
 use Rattle.page.specs.Lines.{length-line, head-columns, batch-columns, job-columns, block-columns}
-use Rattle.page.specs.LineLaws.{lineLength}
 use Rattle.page.specs.Printed.{batchLineFrom, jobLineFrom, blockLineFrom, mosaicPrinted, sortingPrinted, flightPrinted}
 
 -- The loops over the members: the lines of the first i are stored.

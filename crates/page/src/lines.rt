@@ -10,8 +10,8 @@ ghost use Prim.Native.Nat.{_+_, _≤_};
 ghost use lib.ListN.{length};
 ghost use Rattle.decimal.specs.Columns.{space, columns};
 ghost use Rattle.field.specs.Put.{put};
-ghost use Rattle.page.specs.Page.{lineBytes, headLine, memberLine, secondField, blanks, batchLine, jobLine, blockLine};
-ghost use Rattle.page.specs.LineLaws.{lineLength, lastFields};
+ghost use Rattle.page.specs.Page.{lineLength, lineBytes, headLine, memberLine, secondField, blanks, batchLine, jobLine, blockLine};
+ghost use Rattle.page.specs.LineLaws.{lastFields};
 
 const LINE_FEED: u8 = 10;
 

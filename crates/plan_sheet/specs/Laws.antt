@@ -15,7 +15,7 @@ use Rattle.sheet.specs.declared.Sheet.{Sheet}
 use Rattle.flight.specs.Choice.{isPossible}
 use Rattle.planner.specs.Call.{Called, answerOf, plannedBytes, sheetAnswer, sheetPlan}
 use Rattle.planner.specs.Outcomes.{Large}
-use Rattle.files.specs.Reply.{replyBytes, Replied, ReplyPre, Left, reply-asked, replied}
+use Rattle.files.specs.Reply.{replyBytes, Replied, ReplyPre, CallLeaves, reply-asked, replied}
 use Rattle.plan_sheet.specs.Reply.{sheetReply}
 
 -- the length that is answered is the plan's, and a sheet that is refused has no plan
@@ -35,7 +35,7 @@ module _ (sheet out table after tableEnd : List ℕ) (a : Answer) (large : Large
   unfolding plannedBytes
   plan-is = rw (le-ltb (length table) tableLength (large .table-large), le-ltb (length out) planLength (large .plan-large)) at (called .buffer)
 
-  plan-left : Left (sheetPlan (readSheet sheet)) out after a
+  plan-left : CallLeaves (sheetPlan (readSheet sheet)) out after a
   plan-left =
       let both = sized (readSheet sheet) _ _ refl refl in
       rw answer-is (record { buffer = plan-is; length-is = both .0; none = both .1 })

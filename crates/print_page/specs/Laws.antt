@@ -12,7 +12,7 @@ use Rattle.field.specs.Put.{holding}
 use Rattle.sheet.specs.Limits.{pageLength}
 use Rattle.judge.specs.Judged.{judged}
 use Rattle.page.specs.Call.{Paged, pageAnswer, pagedBytes, printedAnswer, printed}
-use Rattle.files.specs.Reply.{replyBytes, Replied, ReplyPre, Left, reply-asked, replied}
+use Rattle.files.specs.Reply.{replyBytes, Replied, ReplyPre, CallLeaves, reply-asked, replied}
 use Rattle.print_page.specs.Reply.{pageReply}
 
 -- the length that is answered is the page's, and a plan that is refused has no page
@@ -31,7 +31,7 @@ module _ (sheet plan out after : List ℕ) (a : Answer) (large : pageLength ≤ 
   unfolding pagedBytes
   page-is = rw (le-ltb (length out) pageLength large) at (called .buffer)
 
-  page-left : Left (printed sheet plan) out after a
+  page-left : CallLeaves (printed sheet plan) out after a
   page-left =
       let both = sized sheet plan _ refl in
       rw answer-is (record { buffer = page-is; length-is = both .0; none = both .1 })
