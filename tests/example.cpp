@@ -1,4 +1,4 @@
-// A C++ program over the functions for C: takes its files by threes: plans the sheet, prints the plan, and compares plan and page with the other two files.
+// A C++ program over the functions for C. Of every three files it plans the sheet, prints the plan, and compares plan and page with the other two.
 #include "sevulamon.h"
 
 #include <fstream>
