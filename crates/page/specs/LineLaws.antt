@@ -76,6 +76,9 @@ blanks-stored d at =
     (put-one _ (at + 3) space)
     refl
 
+pub last-feed : (d d₁ d₂ : List ℕ) (at : ℕ) → at + 25 ≤ length d → length d₁ ≡ length d → length d₂ ≡ length d₁ → at + 24 < length d₂
+last-feed d d₁ d₂ at h e₁ e₂ = omega (arith, e₁, e₂)
+
 pub last-kept : (d d₁ d₂ : List ℕ) (at last : ℕ) → length d₁ ≡ length d → length d₂ ≡ length d₁ → length (set d₂ (at + 24) last) ≡ length d
 last-kept d d₁ d₂ at last e₁ e₂ = length-set d₂ (at + 24) last ∙ e₂ ∙ e₁
 

@@ -1,5 +1,5 @@
 -- `page::lines::put_last` meets its contract: two times and the line feed, one behind the other.
-use Rattle.page.specs.LineLaws.{last-kept, last-stored}
+use Rattle.page.specs.LineLaws.{last-feed, last-kept, last-stored}
 use borrow.Author.Needs.{needs}
 use Rattle.page.proofs.lines.put_last.Statement.{statement}
 use Rattle.page.proofs.lines.put_last.Tie as tie
@@ -23,7 +23,7 @@ add-page : tie.Need-add-page
 add-page c = search needs
 
 slice-write-page : tie.Need-slice-write-page
-slice-write-page c = search needs
+slice-write-page c = search last-feed
 
 same-length : tie.Need-same-length
 same-length c = search last-kept
