@@ -18,11 +18,10 @@ use Rattle.sheet.specs.declared.Sheet.{Sheet}
 use Rattle.rules.specs.Mosaic.{noBatch, batchAt, mosaicFigure}
 use Rattle.rules.specs.Sorting.{noJob, jobAt, sortingFigure}
 use Rattle.rules.specs.Flight.{noPasses, passesAt, Keeps, flightFigure}
-use Rattle.rules.specs.Plan.{Plan, PlanLawful, planBytes, ifPresent}
+use Rattle.rules.specs.Plan.{Plan, PlanLawful, ifPresent}
 use Rattle.rules.specs.declared.Batch.{Batch}
 use Rattle.rules.specs.declared.Job.{Job}
 use Rattle.rules.specs.declared.Passes.{Passes}
-use Rattle.rules_laws.specs.Determined.{plan-determined}
 use Rattle.rules_laws.specs.Fits.{batches-most, jobs-all}
 use Rattle.rules_laws.specs.OrderKept.{order-determined}
 use Rattle.rules_laws.specs.Present.{present-some, present-length}
@@ -263,11 +262,3 @@ module _ (s : Sheet) (sound : SheetSound s) (p q : Plan) (P : PlanLawful s p) (Q
 
   pub page-determines : p ≡ q
   page-determines = λ i. record { batches = batches-same i; jobs = jobs-same i; order = order-same i; passes = passes-same i }
-
--- "Of two allowed plans for one sheet, the pages are equal exactly when the plans' bytes are."
-pub page-same : (s : Sheet) → SheetSound s → (p q : Plan) → PlanLawful s p → PlanLawful s q
-    → (pageBytes s p ≡ pageBytes s q → planBytes s p ≡ planBytes s q) × (planBytes s p ≡ planBytes s q → pageBytes s p ≡ pageBytes s q)
-page-same s sound p q P Q = (
-  λ e. ap (planBytes s) (page-determines s sound p q P Q e),
-  λ e. ap (pageBytes s) (plan-determined s sound p q P Q e),
-)

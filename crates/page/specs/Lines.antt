@@ -257,12 +257,6 @@ module _ (s : Sheet) (p : Plan) where
   unfolding pageBytes
   page-in-lines = in-lines (pageLines s p) page-lines
 
-  pub line-columns : (i : ℕ) → i < length (pageLines s p) → length (getD (pageLines s p) i []) ≡ 32
-  line-columns i h = page-in-lines .columns i h
-
-  pub line-no-feed : (i k : ℕ) → i < length (pageLines s p) → k < 32 → getD (getD (pageLines s p) i []) k 0 ≢ lineFeed
-  line-no-feed i k h b = page-in-lines .no-feed i k h b
-
   pub page-length : length (pageBytes s p) ≡ 33 * length (pageLines s p)
   page-length = page-in-lines .long
 

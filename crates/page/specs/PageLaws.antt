@@ -1,7 +1,7 @@
 -- The whole page: its sections stored one behind the other have room and are the lines of the plan that was examined; and where the judge allows the plan,
 -- those are the page of the timetable that it states. Then each way out of a call is its answer.
 use Prim.Native.Nat.{ℕ, _+_, _*_, _≤_, _<_}
-use mathlib.Core.Path.{_≡_, refl, sym, ap, ap₂, subst, _∙_}
+use mathlib.Core.Path.{_≡_, sym, ap, ap₂, subst, _∙_}
 use mathlib.Core.Bool.{Bool, true, false, cond}
 use mathlib.Core.List.{List, [], _∷_, _++_}
 use native.Mathlib.Decide.{decLt}
@@ -12,7 +12,7 @@ use borrow.Author.Tests.{lt-ltb, le-ltb, eq-eqb, ne-eqb}
 use Rattle.base.specs.Answer.{answer}
 use Rattle.base.specs.Listed.{listed, listed-same}
 use Rattle.field.specs.Put.{put, put-whole, length-put, holding, holding-none, Written, then-written}
-use Rattle.sheet.specs.Limits.{pageLength, mostStrips, mostDesks, mostStripsOfDesk, mostBlocks}
+use Rattle.sheet.specs.Limits.{pageLength}
 use Rattle.sheet.specs.Refusals.{bufferTooSmall}
 use Rattle.sheet.specs.Read.{readSheet}
 use Rattle.sheet.specs.Sound.{SheetSound, stripsInAll}
@@ -22,7 +22,7 @@ use Rattle.plan_format.specs.Format.{sizeOf, mosaicHeadForm, batchForm, sorting
 use Rattle.rules.specs.Mosaic.{noBatch, batchAt, batchBefore, mosaicFigure, MosaicLawful}
 use Rattle.rules.specs.Sorting.{noJob, jobAt, sortingFigure}
 use Rattle.rules.specs.Flight.{noPasses, passesAt, flightFigure}
-use Rattle.rules.specs.Plan.{membersBytes, ifPresent, PlanLawful}
+use Rattle.rules.specs.Plan.{ifPresent, PlanLawful}
 use Rattle.rules.specs.declared.Batch.{Batch}
 use Rattle.sheet.specs.declared.MosaicSection.{MosaicSection}
 use Rattle.rules_laws.specs.Fits.{batches-most, jobs-all, jobs-most}

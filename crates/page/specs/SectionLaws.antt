@@ -7,7 +7,7 @@ use native.Mathlib.Omega.{arith}
 use lib.ListN.{length, length-append}
 use Rattle.base.specs.Listed.{listed}
 use Rattle.field.specs.Put.{put, put-none, Written, then-written}
-use Rattle.field.specs.Members.{membersTo, Storing, storing-none, storing-more, storing-all, length-members}
+use Rattle.field.specs.Members.{Storing, storing-none, storing-more, storing-all, length-members}
 use Rattle.plan_format.specs.Format.{sizeOf, mosaicHeadForm, batchForm, sortingHeadForm, jobForm, flightHeadForm, passesForm}
 use Rattle.rules.specs.Plan.{membersBytes, ifPresent}
 use Rattle.rules.specs.declared.Batch.{Batch}
