@@ -50,10 +50,10 @@ use Rattle.planner.specs.Theorems.{plan-least-flight, plan-early-mosaic, plan-e
 use Rattle.viewer.specs.Viewed.{Viewed}
 use Rattle.page.specs.Page.{pageLines, pageBytes}
 use Rattle.page.specs.Call.{pageOf, Paged}
-use Rattle.page.specs.Lines.{InLines, page-in-lines, page-length, page-most}
-use Rattle.page.specs.Uncut.{PageUncut, page-uncut}
-use Rattle.page.specs.Determined.{page-determines}
-use Rattle.page.specs.Outcomes.{PagePrinted, page-accepted, page-left, page-too-small, page-not-allowed, page-allowed}
+use Rattle.page_laws.specs.Lines.{InLines, page-in-lines, page-length, page-most}
+use Rattle.page_laws.specs.Uncut.{PageUncut, page-uncut}
+use Rattle.page_laws.specs.Determined.{page-determines}
+use Rattle.page_laws.specs.Outcomes.{PagePrinted, page-accepted, page-left, page-too-small, page-not-allowed, page-allowed}
 
 -- TERMS.
 
@@ -350,7 +350,8 @@ module _ (sheet : List ℕ) (sound : readSheet sheet .number ≡ 0) where
       none .none (w .timetable) (w .obeys .0) (w .obeys .1)
 
 -- REQ 02. A page call: the sheet, the plan and the page buffer at entry, the page buffer at exit, and the answer. Page.antt of crate page says what the page of a
--- timetable is, line by line and column by column. `written r pageAfter` is what the call has written: the first bytes of the buffer, as many as the answer says.
+-- timetable is, line by line, and Line.antt of crate page_lines what a line is, column by column. `written r pageAfter` is what the call has written: the first
+-- bytes of the buffer, as many as the answer says.
 module _ (sheet plan page pageAfter : List ℕ) (r : Answer) (call : Paged sheet plan page pageAfter r) where
   -- "Number 2 is given also for a page buffer below 3,069 bytes, before the judge is tried."
   pub small-page-is-two : length page < pageLength → r ≡ answer bufferTooSmall 0 0

@@ -1,76 +1,19 @@
--- The page of a plan (02, Req 02): its lines, column by column, and its bytes. It is a function of the sheet's sections and of the plan's timetable; a column
--- is a byte, letters, digits and spaces as in ASCII. The flight's order number is not printed.
+-- The page of a plan (02, Req 02): its lines, which crate page_lines says column by column (specs/Line.antt), and its bytes. It is a function of the sheet's
+-- sections and of the plan's timetable. The flight's order number is not printed.
 use Prim.Native.Nat.{ℕ, _+_}
-use mathlib.Core.List.{List, [], _∷_, _++_}
+use mathlib.Core.List.{List, _∷_, _++_}
 use lib.ListN.{length}
 use Rattle.base.specs.Listed.{listed}
-use Rattle.decimal.specs.Columns.{space, columns}
 use Rattle.sheet.specs.Sound.{stripsInAll}
 use Rattle.sheet.specs.declared.Sheet.{Sheet}
 use Rattle.rules.specs.Mosaic.{batchAt, mosaicFigure}
 use Rattle.rules.specs.Sorting.{jobAt, sortingFigure}
 use Rattle.rules.specs.Flight.{passesAt, flightFigure}
-use Rattle.rules.specs.Plan.{Plan, membersBytes, ifPresent}
+use Rattle.rules.specs.Plan.{Plan, ifPresent}
 use Rattle.rules.specs.declared.Batch.{Batch}
 use Rattle.rules.specs.declared.Job.{Job}
 use Rattle.rules.specs.declared.Passes.{Passes}
-
--- "lines of exactly 32 columns and a line feed"
-abbrev pub lineFeed : ℕ
-lineFeed = 10
-
--- so that each takes 33 bytes
-abbrev pub lineLength : ℕ
-lineLength = 33
-
-unfoldable pub lineBytes : List ℕ → List ℕ
-lineBytes line = line ++ (lineFeed ∷ [])
-
--- "m, s or f", "M, S or F"
-abbrev pub mosaicHeadLetter : ℕ
-mosaicHeadLetter = 109
-
-abbrev pub sortingHeadLetter : ℕ
-sortingHeadLetter = 115
-
-abbrev pub flightHeadLetter : ℕ
-flightHeadLetter = 102
-
-abbrev pub batchLetter : ℕ
-batchLetter = 77
-
-abbrev pub jobLetter : ℕ
-jobLetter = 83
-
-abbrev pub blockLetter : ℕ
-blockLetter = 70
-
--- "A head line is m, s or f and the figure right-aligned in 31 columns."
-unfoldable pub headLine : ℕ → ℕ → List ℕ
-headLine letter figure = letter ∷ columns space 31 figure
-
--- "A member line is M, S or F, then fields of 3, 4, 12 and 12 columns, right-aligned with spaces, no leading zeros." The second field is given by its columns.
-unfoldable pub memberLine : ℕ → ℕ → List ℕ → ℕ → ℕ → List ℕ
-memberLine letter first second third fourth = (letter ∷ columns space 3 first) ++ second ++ (columns space 12 third ++ columns space 12 fourth)
-
-unfoldable pub secondField : ℕ → List ℕ
-secondField value = columns space 4 value
-
--- "four blanks"
-unfoldable pub blanks : List ℕ
-blanks = space ∷ space ∷ space ∷ space ∷ []
-
--- "M: batch number, last strip, start, finish."
-unfoldable pub batchLine : ℕ → Batch → List ℕ
-batchLine number b = memberLine batchLetter number (secondField (b .last)) (b .start) (b .finish)
-
--- "S: desk, number within the desk, scan start, desk start."
-unfoldable pub jobLine : Job → List ℕ
-jobLine j = memberLine jobLetter (j .desk) (secondField (j .number)) (j .scan) (j .start)
-
--- "F: block number, four blanks, first start, second start."
-unfoldable pub blockLine : ℕ → Passes → List ℕ
-blockLine number p = memberLine blockLetter number blanks (p .first) (p .second)
+use Rattle.page_lines.specs.Line.{linesBytes, headLine, batchLine, jobLine, blockLine, mosaicHeadLetter, sortingHeadLetter, flightHeadLetter}
 
 -- the lines of each section: its head line, then a line for each member in the plan's order; batches and blocks are numbered from 1
 unfoldable pub mosaicLines : ℕ → List Batch → List (List ℕ)
@@ -89,9 +32,6 @@ pageLines s p =
     ++ ifPresent (stripsInAll (s .sorting)) (sortingLines (sortingFigure (s .sorting) (p .jobs)) (p .jobs))
     ++ ifPresent (s .flight .blocks) (flightLines (flightFigure (s .flight) (p .passes)) (p .passes))
 
--- the bytes of lines, and the page
-abbrev pub linesBytes : List (List ℕ) → List ℕ
-linesBytes lines = membersBytes lineBytes lines
-
+-- the page: the bytes of its lines
 unfoldable pub pageBytes : Sheet → Plan → List ℕ
 pageBytes s p = linesBytes (pageLines s p)

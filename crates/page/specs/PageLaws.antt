@@ -1,17 +1,17 @@
 -- The whole page: its sections stored one behind the other have room and are the lines of the plan that was examined; and where the judge allows the plan,
 -- those are the page of the timetable that it states. Then each way out of a call is its answer.
-use Prim.Native.Nat.{ℕ, _+_, _*_, _≤_, _<_}
+use Prim.Native.Nat.{ℕ, _+_, _≤_, _<_}
 use mathlib.Core.Path.{_≡_, sym, ap, ap₂, subst, _∙_}
 use mathlib.Core.Bool.{Bool, true, false, cond}
 use mathlib.Core.List.{List, [], _∷_, _++_}
 use native.Mathlib.Decide.{decLt}
 use native.Mathlib.Omega.{arith}
-use lib.ListN.{length}
+use lib.ListN.{length, length-append}
 use lib.Dec.{ltb, eqb}
 use borrow.Author.Tests.{lt-ltb, le-ltb, eq-eqb, ne-eqb}
 use Rattle.base.specs.Answer.{answer}
 use Rattle.base.specs.Listed.{listed, listed-same}
-use Rattle.field.specs.Put.{put, put-whole, length-put, holding, holding-none, Written, then-written}
+use Rattle.field.specs.Put.{put, put-whole, length-put, holding-none, Written, then-written}
 use Rattle.sheet.specs.Limits.{pageLength}
 use Rattle.sheet.specs.Refusals.{bufferTooSmall}
 use Rattle.sheet.specs.Read.{readSheet}
@@ -32,23 +32,47 @@ use Rattle.plan_read.specs.PlanRead.{batchFrom, jobFrom, passesFrom}
 use Rattle.plan_read.specs.Laws.{member-at, length-from}
 use Rattle.judge_layout.specs.Layout.{mosaicPart, sortingPart, flightPart}
 use Rattle.judge_layout.specs.Laws.{parts-fit}
-use Rattle.judge_layout.specs.declared.Part.{Part}
 use Rattle.judge.specs.Judged.{judged}
 use Rattle.judge.specs.Stated.{statedBatches, statedJobs, statedPasses, statedPlan}
 use Rattle.judge.specs.Examined.{examinedPlan, examined, judged-by}
 use Rattle.judge.specs.declared.Examined.{Examined}
 use Rattle.judge_laws.specs.Outcomes.{judged-right}
 use Rattle.judge_laws.specs.Theorems.{FiguresTrue, judged-stated}
-use Rattle.page.specs.Page.{linesBytes, headLine, batchLine, jobLine, blockLine, mosaicHeadLetter, sortingHeadLetter, flightHeadLetter}
+use Rattle.page_lines.specs.Line.{linesBytes, headLine, batchLine, jobLine, blockLine, mosaicHeadLetter, sortingHeadLetter, flightHeadLetter}
+use Rattle.page_sections.specs.Printed.{batchLineFrom, jobLineFrom, blockLineFrom, mosaicPrinted, sortingPrinted, flightPrinted, PrintSectionPre}
+use Rattle.page_sections.specs.SectionLaws.{mosaic-long, sorting-long, flight-long}
 use Rattle.page.specs.Page.{mosaicLines, sortingLines, flightLines, pageLines, pageBytes}
 use Rattle.page.specs.Call.{pageOf, printedAnswer, printed, pageAnswer, pagedBytes, Paged}
-use Rattle.page.specs.Lines.{page-most}
-use Rattle.page.specs.Printed.{batchLineFrom, jobLineFrom, blockLineFrom, mosaicPrinted, sortingPrinted, flightPrinted, examinedLines}
-use Rattle.page.specs.Printed.{PrintSectionPre, PrintSectionsPre}
-use Rattle.page.specs.SectionLaws.{mosaic-long, sorting-long}
+use Rattle.page.specs.Printed.{examinedLines, PrintSectionsPre}
 
 -- The sections one behind the other.
+lines-apart : (plan : List ℕ) (e : Examined) → linesBytes (examinedLines plan e)
+    ≡ linesBytes (mosaicPrinted plan (e .mosaic) (e .judged .mosaic)) ++ linesBytes (sortingPrinted plan (e .sorting) (e .judged .sorting)) ++ linesBytes (flightPrinted plan (e .flight) (e .judged .flight))
+unfolding examinedLines
+lines-apart plan e =
+    members-append _ (mosaicPrinted plan (e .mosaic) (e .judged .mosaic) ++ sortingPrinted plan (e .sorting) (e .judged .sorting)) (flightPrinted plan (e .flight) (e .judged .flight))
+    ∙ ap (λ (l : List ℕ). l ++ linesBytes (flightPrinted plan (e .flight) (e .judged .flight)))
+    (members-append _ (mosaicPrinted plan (e .mosaic) (e .judged .mosaic)) (sortingPrinted plan (e .sorting) (e .judged .sorting)))
+
 module _ (page plan : List ℕ) (e : Examined) (asked : PrintSectionsPre page plan e) where
+  -- all of them have room
+  lines-fit : length (linesBytes (examinedLines plan e)) ≤ length page
+  lines-fit =
+      omega (
+        arith,
+        ap length (lines-apart plan e),
+        length-append (linesBytes (mosaicPrinted plan (e .mosaic) (e .judged .mosaic)) ++ linesBytes (sortingPrinted plan (e .sorting) (e .judged .sorting)))
+            (linesBytes (flightPrinted plan (e .flight) (e .judged .flight))),
+        length-append (linesBytes (mosaicPrinted plan (e .mosaic) (e .judged .mosaic))) (linesBytes (sortingPrinted plan (e .sorting) (e .judged .sorting))),
+        mosaic-long plan (e .mosaic) (e .judged .mosaic) [] 0,
+        sorting-long plan (e .sorting) (e .judged .sorting) [] 0,
+        flight-long plan (e .flight) (e .judged .flight) [] 0,
+        asked .room,
+        asked .batches,
+        asked .jobs,
+        asked .blocks,
+      )
+
   module _ (d₁ : List ℕ) (at₁ : ℕ) (w₁ : Written page d₁ 0 (linesBytes (mosaicPrinted plan (e .mosaic) (e .judged .mosaic))) at₁) where
     first-long : length d₁ ≡ length page
     first-long = ap length (w₁ .buffer) ∙ length-put page 0 (linesBytes (mosaicPrinted plan (e .mosaic) (e .judged .mosaic)))
@@ -86,17 +110,9 @@ module _ (page plan : List ℕ) (e : Examined) (asked : PrintSectionsPre page pl
 
       pub sections-stored : (d₃ : List ℕ) (at₃ : ℕ) → Written d₂ d₃ at₂ (linesBytes (flightPrinted plan (e .flight) (e .judged .flight))) at₃
           → Written page d₃ 0 (linesBytes (examinedLines plan e)) at₃
-      unfolding examinedLines
       sections-stored d₃ at₃ w₃ =
-          subst (λ (l : List ℕ). Written page d₃ 0 l at₃) (sym apart)
+          subst (λ (l : List ℕ). Written page d₃ 0 l at₃) (sym (lines-apart plan e))
           (then-written page d₂ d₃ 0 at₂ at₃ _ _ (then-written page d₁ d₂ 0 at₁ at₂ _ _ w₁ w₂) w₃)
-        where
-          apart : linesBytes (examinedLines plan e)
-              ≡ linesBytes (mosaicPrinted plan (e .mosaic) (e .judged .mosaic)) ++ linesBytes (sortingPrinted plan (e .sorting) (e .judged .sorting)) ++ linesBytes (flightPrinted plan (e .flight) (e .judged .flight))
-          apart =
-              members-append _ (mosaicPrinted plan (e .mosaic) (e .judged .mosaic) ++ sortingPrinted plan (e .sorting) (e .judged .sorting)) (flightPrinted plan (e .flight) (e .judged .flight))
-              ∙ ap (λ (l : List ℕ). l ++ linesBytes (flightPrinted plan (e .flight) (e .judged .flight)))
-              (members-append _ (mosaicPrinted plan (e .mosaic) (e .judged .mosaic)) (sortingPrinted plan (e .sorting) (e .judged .sorting)))
 
 -- A section is present by its members as by the sheet.
 same-presence : {A : Type 0} (m n : ℕ) (l : List A) → (0 < m → 0 < n) → (0 < n → 0 < m) → ifPresent m l ≡ ifPresent n l
@@ -220,9 +236,8 @@ module _ (sheet plan : List ℕ) (e : Examined) (ex : e ≡ examined sheet plan)
   unfolding examinedLines pageOf pageBytes pageLines statedPlan
   lines-are = ap linesBytes (ap₂ _++_ (ap₂ _++_ mosaic-printed sorting-printed) flight-printed)
 
-  page-fits : length (pageOf sheet plan) ≤ pageLength
-  unfolding pageOf
-  page-fits = page-most (readSheet sheet) (statedPlan (readSheet sheet) plan) whole lawful
+  page-fits : (page : List ℕ) → pageLength ≤ length page → length (pageOf sheet plan) ≤ length page
+  page-fits page large = subst (λ (l : List ℕ). length l ≤ length page) lines-are (lines-fit page plan e (print-asked page large))
 
 -- The ways out of a call.
 module _ (sheet plan page : List ℕ) where
@@ -258,7 +273,7 @@ module _ (sheet plan page : List ℕ) where
           answer = rw (le-ltb (length page) pageLength large, right) (ap (λ (k : ℕ). answer 0 0 k) long);
           buffer =
               rw (le-ltb (length page) pageLength large, right)
-              (w .buffer ∙ ap (put page 0) is ∙ put-whole page (pageOf sheet plan) (omega (arith, page-fits sheet plan e ex z, large)));
+              (w .buffer ∙ ap (put page 0) is ∙ put-whole page (pageOf sheet plan) (page-fits sheet plan e ex z page large));
         }
       where
         is : linesBytes (examinedLines plan e) ≡ pageOf sheet plan

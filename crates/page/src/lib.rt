@@ -1,15 +1,15 @@
 // The page of a plan for the bench wall (02, Req 02): a plan that the judge allows, printed in lines of 32 columns.
-mod lines;
-mod sections;
-
 use base::Answer;
 use judge::Examined;
 use judge::examine;
+use page_sections::print_flight;
+use page_sections::print_mosaic;
+use page_sections::print_sorting;
 use sheet::limits::PAGE_LENGTH;
 use sheet::numbers::BUFFER_TOO_SMALL;
 ghost use mathlib.Core.Path.{_≡_};
 ghost use Rattle.field.specs.Put.{Written};
-ghost use Rattle.page.specs.Page.{linesBytes};
+ghost use Rattle.page_lines.specs.Line.{linesBytes};
 ghost use Rattle.page.specs.Call.{Paged};
 ghost use Rattle.page.specs.Printed.{PrintSectionsPre, examinedLines};
 
@@ -18,9 +18,9 @@ fn print_sections(page: &mut [u8], plan: &[u8], e: Examined) -> usize
     requires { ⌜ PrintSectionsPre (now page) (now plan) e ⌝ }
     ensures { λ r. ⌜ Written (now (page .entry)) (now (page .exit)) 0 (linesBytes (examinedLines (now (plan .entry)) e)) r ⌝ }
 {
-    let sorting_at = sections::print_mosaic(page, 0, plan, e.mosaic, e.judged.mosaic);
-    let flight_at = sections::print_sorting(page, sorting_at, plan, e.sorting, e.judged.sorting);
-    sections::print_flight(page, flight_at, plan, e.flight, e.judged.flight)
+    let sorting_at = print_mosaic(page, 0, plan, e.mosaic, e.judged.mosaic);
+    let flight_at = print_sorting(page, sorting_at, plan, e.sorting, e.judged.sorting);
+    print_flight(page, flight_at, plan, e.flight, e.judged.flight)
 }
 
 // Prints a plan that the judge allows for a sheet: the page stands at the start of the buffer, unless the call is refused.

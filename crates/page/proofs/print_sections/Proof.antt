@@ -5,9 +5,9 @@ use Rattle.page.proofs.print_sections.Statement.{statement}
 use Rattle.page.proofs.print_sections.Tie as tie
 use Rattle.page.proofs.print_sections.Reads as reads
 use Rattle.page.proofs.print_sections.Lts as lts
-use Rattle.page.proofs.sections.print_flight.Reads as print-flight-reads
-use Rattle.page.proofs.sections.print_mosaic.Reads as print-mosaic-reads
-use Rattle.page.proofs.sections.print_sorting.Reads as print-sorting-reads
+use Rattle.page_sections.proofs.print_flight.Reads as print-flight-reads
+use Rattle.page_sections.proofs.print_mosaic.Reads as print-mosaic-reads
+use Rattle.page_sections.proofs.print_sorting.Reads as print-sorting-reads
 
 print-mosaic-requires : tie.Need-print-mosaic-requires
 print-mosaic-requires c κs = search needs
