@@ -47,12 +47,12 @@ member-columns letter first second third fourth four =
 
 pub batch-columns : (number : ℕ) (b : Batch) → length (batchLine number b) ≡ 32
 unfolding batchLine
-batch-columns number b = member-columns batchLetter number (secondField (b .last)) (b .start) (b .finish) (second-columns (b .last))
+batch-columns number b = member-columns batchLetter number (secondField (b .last)) _ _ (second-columns (b .last))
 
 pub job-columns : (j : Job) → length (jobLine j) ≡ 32
 unfolding jobLine
-job-columns j = member-columns jobLetter (j .desk) (secondField (j .number)) (j .scan) (j .start) (second-columns (j .number))
+job-columns j = member-columns jobLetter (j .desk) (secondField (j .number)) _ _ (second-columns (j .number))
 
 pub block-columns : (number : ℕ) (p : Passes) → length (blockLine number p) ≡ 32
 unfolding blockLine
-block-columns number p = member-columns blockLetter number blanks (p .first) (p .second) blanks-columns
+block-columns number p = member-columns blockLetter number blanks _ _ blanks-columns
