@@ -8,6 +8,9 @@ use Rattle.plan_format.specs.Format.{formBytes, mosaicHeadForm, batchForm, sort
 use Rattle.sheet.specs.Limits.{ceiling}
 use Rattle.sheet.specs.Read.{readSheet}
 use Rattle.sheet.specs.Sound.{stripsInAll}
+use Rattle.sheet.specs.declared.MosaicSection.{MosaicSection}
+use Rattle.sheet.specs.declared.SortingSection.{SortingSection}
+use Rattle.sheet.specs.declared.FlightSection.{FlightSection}
 use Rattle.sheet.specs.declared.Sheet.{Sheet}
 use Rattle.rules.specs.Mosaic.{MosaicUnder, mosaicFigure}
 use Rattle.rules.specs.Sorting.{SortingUnder, sortingFigure}
@@ -67,12 +70,19 @@ pub record Plan : Type 0 where
   pub order : ℕ
   pub passes : List Passes
 
--- its bytes, "states each figure as that section's rules give it"
+-- the bytes of a section, "states each figure as that section's rules give it"
+abbrev pub mosaicPart : MosaicSection → List Batch → List ℕ
+mosaicPart m bs = ifPresent (m .strips) (mosaicBytes (mosaicFigure m bs) bs)
+
+abbrev pub sortingPart : SortingSection → List Job → List ℕ
+sortingPart s js = ifPresent (stripsInAll s) (sortingBytes (sortingFigure s js) js)
+
+abbrev pub flightPart : FlightSection → ℕ → List Passes → List ℕ
+flightPart f order ps = ifPresent (f .blocks) (flightBytes (flightFigure f ps) order ps)
+
+-- the plan's bytes
 unfoldable pub planBytes : Sheet → Plan → List ℕ
-planBytes s p =
-    ifPresent (s .mosaic .strips) (mosaicBytes (mosaicFigure (s .mosaic) (p .batches)) (p .batches))
-    ++ ifPresent (stripsInAll (s .sorting)) (sortingBytes (sortingFigure (s .sorting) (p .jobs)) (p .jobs))
-    ++ ifPresent (s .flight .blocks) (flightBytes (flightFigure (s .flight) (p .passes)) (p .order) (p .passes))
+planBytes s p = mosaicPart (s .mosaic) (p .batches) ++ sortingPart (s .sorting) (p .jobs) ++ flightPart (s .flight) (p .order) (p .passes)
 
 -- a plan "gives a timetable of each" section, "in flight with the number of the order kept", under the ceiling c
 pub record PlanUnder (c : ℕ) (s : Sheet) (p : Plan) : Type 0 where
