@@ -6,7 +6,8 @@
 use Prim.Native.Nat.{ℕ, _*_, _≤_, _<_}
 use mathlib.Core.Path.{_≡_, refl, sym, ap, subst, _∙_}
 use mathlib.Core.Bool.{true}
-use mathlib.Core.List.{List}
+use mathlib.Core.List.{List, _++_}
+use mathlib.Core.Logic.{_⊎_}
 use lib.ListN.{length, drop}
 use native.Mathlib.Omega.{arith}
 use Rattle.sheet.specs.Limits.{ceiling, tableLength, planLength, pageLength}
@@ -26,11 +27,12 @@ use Rattle.base.specs.declared.Answer.{Answer}
 use Rattle.base.specs.LeastFigure.{NoLarger, LeastFigure, same-least}
 use Rattle.rules.specs.Mosaic.{batchAt, MosaicUnder, MosaicLawful, mosaicFigure}
 use Rattle.rules.specs.Sorting.{jobAt, SortingUnder, SortingLawful, sortingFigure}
+use Rattle.rules.specs.ScannerList.{scannerList, ComesBefore, SortingTaken}
 use Rattle.rules.specs.Flight.{passesAt, FlightUnder, FlightLawful, Keeps, OrderAllowed, flightFigure}
 use Rattle.rules.specs.declared.Batch.{Batch}
 use Rattle.rules.specs.declared.Job.{Job}
 use Rattle.rules.specs.declared.Passes.{Passes}
-use Rattle.rules.specs.Plan.{Plan, planBytes, PlanUnder, AllowedFor}
+use Rattle.rules.specs.Plan.{Plan, mosaicPart, sortingPart, flightPart, planBytes, PlanUnder, AllowedFor}
 use Rattle.plan_format.specs.ByteLaws.{AreBytes}
 use Rattle.rules_laws.specs.Determined.{plan-most, plan-determined}
 use Rattle.judge.specs.Judged.{turnedBack, found, judged}
@@ -46,7 +48,7 @@ use Rattle.planner.specs.Call.{chosenPlan, clearedTo, tableAfter, Called}
 use Rattle.planner.specs.Outcomes.{Large, Accepted, call-accepted, call-refused, call-small, call-cleared, ourBytes}
 use Rattle.planner.specs.TurnedBack.{TurnedBack, turned-back, turned-back-only, eleven-only, else-accepted}
 use Rattle.planner.specs.Theorems.{figureOfMosaic, figureOfSorting, figureOfFlight, Least, Impossible, plan-lawful, plan-least-mosaic, plan-least-sorting}
-use Rattle.planner.specs.Theorems.{plan-least-flight, plan-early-mosaic, plan-early-sorting, plan-early-flight, plan-earliest}
+use Rattle.planner.specs.Theorems.{plan-least-flight, plan-early-mosaic, plan-early-sorting, plan-early-flight, plan-earliest, plan-taken, taken-determined}
 use Rattle.viewer.specs.Viewed.{Viewed}
 use Rattle.page.specs.Page.{pageLines, pageBytes}
 use Rattle.page.specs.Call.{pageOf, Paged}
@@ -241,9 +243,8 @@ module _ (sheet plan table planAfter tableEnd : List ℕ) (r : Answer) (call : C
         → batchAt (ours .allowed .plan .batches) i .start ≤ batchAt (a .allowed .plan .batches) i .start
     mounts-early = rw (ours-chosen ours) (plan-early-mosaic sheet q a)
 
-    -- .. or our scanner order ..
-    pub jobs-early : ((i : ℕ) → i < length (a .allowed .plan .jobs) → jobAt (a .allowed .plan .jobs) i .desk ≡ jobAt (ours .allowed .plan .jobs) i .desk)
-        → (i : ℕ) → i < length (a .allowed .plan .jobs)
+    -- .. or our scanner list ..
+    pub jobs-early : scannerList (a .allowed .plan .jobs) ≡ scannerList (ours .allowed .plan .jobs) → (i : ℕ) → i < length (a .allowed .plan .jobs)
         → (jobAt (ours .allowed .plan .jobs) i .scan ≤ jobAt (a .allowed .plan .jobs) i .scan)
         × (jobAt (ours .allowed .plan .jobs) i .start ≤ jobAt (a .allowed .plan .jobs) i .start)
     jobs-early = rw (ours-chosen ours) (plan-early-sorting sheet q a)
@@ -436,3 +437,39 @@ module _ (sheet p q page₁ page₂ after₁ after₂ : List ℕ) (r₁ r₂ : A
       same =
           plan-determined (readSheet sheet) (read-sound sheet (a .sound)) (a .allowed .plan) (b .allowed .plan) (a .allowed .lawful) (b .allowed .lawful)
           (sym (a .allowed .layout) ∙ e ∙ b .allowed .layout)
+
+-- REQ 03. "Among best sorting plans take the one whose scanner list has the lower desk number at the first place where they part." What a scanner list is, which
+-- of two comes before the other, and what is asked of the sorting that is taken is said on the rules' page ScannerList.antt. An accepted planning call:
+module _ (sheet plan table planAfter tableEnd : List ℕ) (r : Answer) (call : Called sheet plan table planAfter tableEnd r) (z : r .number ≡ 0)
+    (ours : AllowedFor sheet (written r planAfter)) where
+  -- Our sorting is what is to be taken ..
+  pub sorting-is-taken : SortingTaken (readSheet sheet .sorting) (ours .allowed .plan .jobs)
+  sorting-is-taken = rw (ours-chosen sheet plan table planAfter tableEnd r call z ours) (plan-taken sheet (ours .sound))
+
+  -- .. so every allowed plan of the sheet whose sorting figure equals ours has our scanner list, or one that comes after it.
+  pub scanner-list-first : (q : List ℕ) (a : AllowedFor sheet q)
+      → figureOfSorting (readSheet sheet) (a .allowed .plan) ≡ figureOfSorting (readSheet sheet) (ours .allowed .plan)
+      → (scannerList (a .allowed .plan .jobs) ≡ scannerList (ours .allowed .plan .jobs))
+      ⊎ ComesBefore (scannerList (ours .allowed .plan .jobs)) (scannerList (a .allowed .plan .jobs))
+  unfolding figureOfSorting
+  scanner-list-first q a same = sorting-is-taken .first (a .allowed .plan .jobs) (a .allowed .lawful .sorting) same
+
+  -- "Scanner orders are then no longer left to the program.": whatever sorting is to be taken is ours, strip by strip and start by start ..
+  pub sorting-determined : (js : List Job) → SortingTaken (readSheet sheet .sorting) js → js ≡ ours .allowed .plan .jobs
+  sorting-determined js taken = taken-determined sheet (ours .sound) js (ours .allowed .plan .jobs) taken sorting-is-taken
+
+  -- .. and so the rules alone determine the bytes of our plan's sorting, between those of its mosaic and its flight.
+  pub sorting-bytes-determined : (js : List Job) → SortingTaken (readSheet sheet .sorting) js
+      → written r planAfter
+      ≡ mosaicPart (readSheet sheet .mosaic) (ours .allowed .plan .batches)
+      ++ sortingPart (readSheet sheet .sorting) js
+      ++ flightPart (readSheet sheet .flight) (ours .allowed .plan .order) (ours .allowed .plan .passes)
+  unfolding planBytes
+  sorting-bytes-determined js taken = rw (sorting-determined js taken) (ours .allowed .layout)
+
+-- "Same sheet, same scanner list": whoever plans, of any two allowed plans of a sheet whose sortings are to be taken the sortings are the same bytes.
+pub same-sheet-same-list : (sheet p q : List ℕ) (a : AllowedFor sheet p) (b : AllowedFor sheet q) → SortingTaken (readSheet sheet .sorting) (a .allowed .plan .jobs)
+    → SortingTaken (readSheet sheet .sorting) (b .allowed .plan .jobs)
+    → sortingPart (readSheet sheet .sorting) (a .allowed .plan .jobs) ≡ sortingPart (readSheet sheet .sorting) (b .allowed .plan .jobs)
+same-sheet-same-list sheet p q a b s t =
+    ap (sortingPart (readSheet sheet .sorting)) (taken-determined sheet (a .sound) (a .allowed .plan .jobs) (b .allowed .plan .jobs) s t)

@@ -15,12 +15,14 @@ use Rattle.sheet.specs.Theorems.{read-sound}
 use Rattle.sheet.specs.declared.Sheet.{Sheet}
 use Rattle.rules.specs.Mosaic.{batchAt, mosaicFigure}
 use Rattle.rules.specs.Sorting.{jobAt, sortingFigure}
+use Rattle.rules.specs.ScannerList.{scannerList, SortingTaken}
 use Rattle.rules.specs.Flight.{passesAt, FlightLawful, Keeps, OrderAllowed, flightFigure}
 use Rattle.rules.specs.Plan.{Plan, PlanUnder, PlanLawful, AllowedFor}
+use Rattle.rules.specs.declared.Job.{Job}
 use Rattle.rules.specs.declared.Passes.{Passes}
 use Rattle.mosaic.specs.Plan.{lasts}
 use Rattle.mosaic.specs.Theorems.{mosaic-lawful, mosaic-figure, mosaic-least, mosaic-earliest}
-use Rattle.sorting.specs.Theorems.{sorting-lawful, sorting-figure, sorting-least, sorting-earliest}
+use Rattle.sorting.specs.Theorems.{sorting-lawful, sorting-figure, sorting-least, sorting-earliest, sorting-taken, taken-once}
 use Rattle.flight.specs.Choice.{isPossible, chosenOrder}
 use Rattle.flight.specs.Chosen.{chosen-given}
 use Rattle.flight.specs.Theorems.{flight-lawful, flight-figure, flight-least, flight-earliest, flight-impossible, flight-free}
@@ -89,6 +91,14 @@ module _ (sheet : List ℕ) (sound : readSheet sheet .number ≡ 0) where
         order = h .2;
       }
 
+  -- Its sorting is the one to be taken (02, Req 03), and every one that is to be taken is this.
+  pub plan-taken : SortingTaken (readSheet sheet .sorting) (chosenPlan (readSheet sheet) .jobs)
+  unfolding chosenPlan
+  plan-taken = sorting-taken (readSheet sheet .sorting) (whole .sorting)
+
+  pub taken-determined : (js ks : List Job) → SortingTaken (readSheet sheet .sorting) js → SortingTaken (readSheet sheet .sorting) ks → js ≡ ks
+  taken-determined = taken-once (readSheet sheet .sorting) (whole .sorting)
+
   -- No plan that obeys the rules under any ceiling has a smaller figure in any section.
   pub plan-least-mosaic : Least figureOfMosaic (readSheet sheet) (chosenPlan (readSheet sheet))
   unfolding Least figureOfMosaic chosenPlan
@@ -118,10 +128,9 @@ module _ (sheet q : List ℕ) (a : AllowedFor sheet q) where
   plan-early-mosaic same i l =
       mosaic-earliest (readSheet sheet .mosaic) (whole sheet (a .sound) .mosaic) (a .allowed .plan .batches) (a .allowed .lawful .mosaic) same i l
 
-  -- .. or our scanner order ..
-  pub plan-early-sorting :
-      ((i : ℕ) → i < length (a .allowed .plan .jobs) → jobAt (a .allowed .plan .jobs) i .desk ≡ jobAt (chosenPlan (readSheet sheet) .jobs) i .desk)
-      → (i : ℕ) → i < length (a .allowed .plan .jobs)
+  -- .. or our scanner list ..
+  pub plan-early-sorting : scannerList (a .allowed .plan .jobs) ≡ scannerList (chosenPlan (readSheet sheet) .jobs) → (i : ℕ)
+      → i < length (a .allowed .plan .jobs)
       → (jobAt (chosenPlan (readSheet sheet) .jobs) i .scan ≤ jobAt (a .allowed .plan .jobs) i .scan)
       × (jobAt (chosenPlan (readSheet sheet) .jobs) i .start ≤ jobAt (a .allowed .plan .jobs) i .start)
   unfolding chosenPlan

@@ -4,6 +4,7 @@
 pub mod Finish
 pub mod MosaicRunning
 pub mod SortingRunning
+pub mod ScannerList
 pub mod FlightRunning
 pub mod Equivalent
 pub mod Members

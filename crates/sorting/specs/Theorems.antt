@@ -1,16 +1,21 @@
 -- What the planner's choice is, against the rules of the sorting (crate rules), for every sound section.
 use mathlib.Core.Path.{_≡_, refl, sym, ap, _∙_}
 use mathlib.Core.List.{List, [], _∷_}
+use mathlib.Core.Logic.{_⊎_, inl, inr}
 use Prim.Native.Nat.{ℕ, _*_, _≤_, _<_}
 use native.Mathlib.Omega.{arith}
 use lib.ListN.{length, getD}
+use lib.Seq.{ext-getD}
 use Rattle.sheet.specs.Limits.{mostDesks, mostStripsOfDesk}
 use Rattle.sheet.specs.declared.SortingSection.{SortingSection}
 use Rattle.sheet.specs.Sound.{SortingSound}
 use Rattle.rules.specs.declared.Job.{Job}
 use Rattle.base.specs.Sums.{sumOver}
 use Rattle.base.specs.LeastFigure.{NoLarger}
-use Rattle.rules.specs.Sorting.{jobAt, deskFinish, SortingUnder, SortingLawful, sortingFigure}
+use Rattle.rules.specs.Sorting.{noJob, jobAt, deskFinish, SortingUnder, SortingLawful, sortingFigure}
+use Rattle.rules.specs.ScannerList.{scannerList, ComesBefore, SortingTaken}
+use Rattle.rules_laws.specs.ScannerList.{list-length, list-at, same-list, same-desks, Parts, first-parting, before-one-way, same-numbers}
+use Rattle.rules_laws.specs.ScannerList.{same-job}
 use Rattle.interleaving.specs.Search.{startState}
 use Rattle.interleaving.specs.Consistent.{consistent-start}
 use Rattle.sorting.specs.Plan.{instanceOf, leastFigure, chosenJobs}
@@ -39,23 +44,74 @@ sorting-ceiling s sound js law = record {
   no-larger = omega (arith, sorting-figure s sound, sorting-least s sound js law);
 }
 
--- Each scan and each desk job starts as early as the scanner list allows: no sooner in any timetable with the same desk at each place.
-pub sorting-earliest : (s : SortingSection) → SortingSound s → (js : List Job) → SortingLawful s js
-    → ((i : ℕ) → i < length js → jobAt js i .desk ≡ jobAt (chosenJobs s) i .desk)
-    → (i : ℕ) → i < length js → (jobAt (chosenJobs s) i .scan ≤ jobAt js i .scan) × (jobAt (chosenJobs s) i .start ≤ jobAt js i .start)
-sorting-earliest s sound js law same i l = lawful-later s sound js law same i l
-
--- Of all timetables of the least figure it has the first scanner list in desk order: where another one parts from it first, the chosen desk has the lower
--- number.
-pub sorting-first : (s : SortingSection) → SortingSound s → (js : List Job) → SortingLawful s js → sortingFigure s js ≡ leastFigure s
-    → (i : ℕ) → i < length js → ((k : ℕ) → k < i → jobAt js k .desk ≡ jobAt (chosenJobs s) k .desk)
-    → (jobAt js i .desk ≡ jobAt (chosenJobs s) i .desk → ⊥)
-    → jobAt (chosenJobs s) i .desk < jobAt js i .desk
-sorting-first s sound js law least i l same parts = omega (arith, lawful-first s sound js law least i l same)
-
 -- Every timetable has as many jobs, one for each strip.
-pub sorting-length : (s : SortingSection) → SortingSound s → (js : List Job) → SortingLawful s js → length js ≡ length (chosenJobs s)
+pub sorting-length : {c : ℕ} (s : SortingSection) → SortingSound s → (js : List Job) → SortingUnder c s js → length js ≡ length (chosenJobs s)
 sorting-length s sound js law = lawful-length s sound js law ∙ sym (chosen-length s sound)
+
+-- Each scan and each desk job starts as early as the scanner list allows: no sooner in any timetable with the same list.
+pub sorting-earliest : {c : ℕ} (s : SortingSection) → SortingSound s → (js : List Job) → SortingUnder c s js → scannerList js ≡ scannerList (chosenJobs s)
+    → (i : ℕ) → i < length js → (jobAt (chosenJobs s) i .scan ≤ jobAt js i .scan) × (jobAt (chosenJobs s) i .start ≤ jobAt js i .start)
+sorting-earliest s sound js law same i l = lawful-later s sound js law (λ k m. same-desks js (chosenJobs s) same k) i l
+
+-- 02, Req 03: a timetable of the least figure has the scanner list of the chosen jobs, or a list that comes after it.
+pub sorting-first : {c : ℕ} (s : SortingSection) → SortingSound s → (js : List Job) → SortingUnder c s js → sortingFigure s js ≡ leastFigure s
+    → (scannerList js ≡ scannerList (chosenJobs s)) ⊎ ComesBefore (scannerList (chosenJobs s)) (scannerList js)
+sorting-first s sound js law least = go (first-parting (λ i. jobAt js i .desk) (λ i. jobAt (chosenJobs s) i .desk) (length js))
+  where
+    long : length js ≡ length (chosenJobs s)
+    long = sorting-length s sound js law
+
+    go : ((i : ℕ) → i < length js → jobAt js i .desk ≡ jobAt (chosenJobs s) i .desk)
+        ⊎ Parts (λ i. jobAt js i .desk) (λ i. jobAt (chosenJobs s) i .desk) (length js)
+        → (scannerList js ≡ scannerList (chosenJobs s)) ⊎ ComesBefore (scannerList (chosenJobs s)) (scannerList js)
+    go (inl same) = inl (same-list js (chosenJobs s) long same)
+    go (inr p) = inr (record {
+      place = p .place;
+      in-both = (omega (arith, list-length (chosenJobs s), long, p .within), omega (arith, list-length js, p .within));
+      same = λ i l. list-at (chosenJobs s) i ∙ sym (p .same i l) ∙ sym (list-at js i);
+      lower =
+          omega (arith, list-at (chosenJobs s) (p .place), list-at js (p .place), p .other, lawful-first s sound js law least (p .place) (p .within) (p .same));
+    })
+
+-- So the chosen jobs are what is to be taken ..
+pub sorting-taken : (s : SortingSection) → SortingSound s → SortingTaken s (chosenJobs s)
+sorting-taken s sound = record {
+  lawful = sorting-lawful s sound;
+  best = λ ks law. omega (arith, sorting-figure s sound, sorting-least s sound ks law);
+  first = λ ks law same. sorting-first s sound ks law (same ∙ sorting-figure s sound);
+  early = λ ks law same i l. sorting-earliest s sound ks law same i (omega (arith, sorting-length s sound ks law));
+}
+
+-- .. and nothing else is: two timetables that are each to be taken have the same figure, hence neither list comes before the other, hence neither starts
+-- anything sooner.
+pub taken-once : (s : SortingSection) → SortingSound s → (js ks : List Job) → SortingTaken s js → SortingTaken s ks → js ≡ ks
+unfolding jobAt
+taken-once s sound js ks a b = go (a .first ks (b .lawful) (sym figures)) (b .first js (a .lawful) figures)
+  where
+    figures : sortingFigure s js ≡ sortingFigure s ks
+    figures = omega (arith, a .best ks (b .lawful), b .best js (a .lawful))
+
+    long : length js ≡ length ks
+    long = sorting-length s sound js (a .lawful) ∙ sym (sorting-length s sound ks (b .lawful))
+
+    equal : scannerList ks ≡ scannerList js → js ≡ ks
+    equal same = ext-getD noJob js ks long (λ i l. at i l)
+      where
+        at : (i : ℕ) → i < length js → jobAt js i ≡ jobAt ks i
+        at i l =
+            let js-early = a .early ks (b .lawful) same i l in
+            let ks-early = b .early js (a .lawful) (sym same) i (omega (arith, long)) in
+            same-job (jobAt js i) (jobAt ks i) (same-desks js ks (sym same) i) (same-numbers s js ks (a .lawful) (b .lawful) long (sym same) i l)
+            (omega (arith, js-early, ks-early)) (omega (arith, js-early, ks-early))
+
+    go : (scannerList ks ≡ scannerList js) ⊎ ComesBefore (scannerList js) (scannerList ks)
+        → (scannerList js ≡ scannerList ks) ⊎ ComesBefore (scannerList ks) (scannerList js) → js ≡ ks
+    go (inl same) q = equal same
+    go (inr p) (inl same) = equal (sym same)
+    go (inr p) (inr q) = absurd (before-one-way (scannerList js) (scannerList ks) p q)
+
+pub taken-only : (s : SortingSection) → SortingSound s → (js : List Job) → SortingTaken s js → js ≡ chosenJobs s
+taken-only s sound js a = taken-once s sound js (chosenJobs s) a (sorting-taken s sound)
 
 pub sorting-count : (s : SortingSection) → SortingSound s → length (chosenJobs s) ≤ mostDesks * mostStripsOfDesk
 sorting-count s sound = omega (arith, chosen-length s sound, consistent-start (instanceOf s) (instance-sound s sound) .fits .left)

@@ -9,6 +9,7 @@ use lib.ListN.{length, getD, set, length-set, replicate}
 use lib.Seq.{getD-set-same, getD-set-other}
 use Rattle.base.specs.Listed.{listed, listed-same}
 use Rattle.rules.specs.declared.Job.{Job}
+use Rattle.rules_laws.specs.ScannerList.{same-job}
 use Rattle.interleaving.specs.declared.State.{State}
 use Rattle.interleaving.specs.declared.Incumbent.{Incumbent}
 use Rattle.interleaving.specs.Instance.{Instance}
@@ -167,9 +168,6 @@ module _ {J : List ℕ} {b : Incumbent} {p : SortingPlan} {s : State} where
 
           is : digit ≡ listedDesk (firstBest J .path) (startState J .left) (p .jobs)
           is = e ∙ ap (λ (x : ℕ). b .path / 4 ^ x % 4) place ∙ ap (λ (x : Incumbent). x .path / 4 ^ (startState J .left - suc (p .jobs)) % 4) (h .best)
-
-same-job : (u v : Job) → u .desk ≡ v .desk → u .number ≡ v .number → u .scan ≡ v .scan → u .start ≡ v .start → u ≡ v
-same-job u v a b c e = λ i. record { desk = a i; number = b i; scan = c i; start = e i }
 
 module _ (J : List ℕ) (s : State) (d : ℕ) (p : SortingPlan) (z : Sized p) (room : p .jobs < 18) where
   with-job-before : (i : ℕ) → i < p .jobs → planJob (withJob J s d p) i ≡ planJob p i

@@ -1,9 +1,11 @@
--- The cases of 01, "Sheets worked through", that are marked *, as one table with a common statement: each sheet is given as its bytes, with what 01 says of it.
+-- The cases of 01, "Sheets worked through", that are marked *, as one table with a common statement: each sheet is given as its bytes, with what 01 says of it,
+-- and 02 where it says more.
 -- The theorem is `worked` in Theorems.antt.
 use Prim.{Unit}
 use Prim.Native.Nat.{ℕ, zero, suc, _+_, _≤_}
 use mathlib.Core.Path.{_≡_}
 use mathlib.Core.List.{List, [], _∷_, _++_}
+use mathlib.Core.Logic.{_⊎_}
 use lib.ListN.{length}
 use Rattle.sheet.specs.Limits.{tableLength, planLength}
 use Rattle.sheet.specs.Refusals.{orderImpossible}
@@ -15,6 +17,7 @@ use Rattle.base.specs.Answer.{answer}
 use Rattle.planner.specs.Call.{answerOf, plannedBytes}
 use Rattle.planner.specs.Theorems.{figureOfMosaic, figureOfSorting, figureOfFlight, Impossible}
 use Rattle.rules.specs.Mosaic.{ready}
+use Rattle.rules.specs.ScannerList.{scannerList, ComesBefore}
 use Rattle.rules.specs.declared.Batch.{Batch}
 use Rattle.rules.specs.declared.Job.{Job}
 use Rattle.rules.specs.declared.Passes.{Passes}
@@ -30,8 +33,8 @@ pub record Figures : Type 0 where
 unfoldable pub figuresOf : Sheet → Plan → Figures
 figuresOf s p = record { mosaic = figureOfMosaic s p; sorting = figureOfSorting s p; flight = figureOfFlight s p }
 
--- what 01 says of a sheet: when the strips of its mosaic are ready, from strip 1 on; what the planner plans, which is best; a plan that is best too; a plan
--- that is allowed; that no timetable keeps its order, whose field stands at a place
+-- what 01 says of a sheet: when the strips of its mosaic are ready, from strip 1 on; what the planner plans, which is best, with the first scanner list; a plan
+-- that is best too; a plan that is allowed; that no timetable keeps its order, whose field stands at a place
 pub data Claim : Type 0 where
   ready-at : List ℕ → Claim
   planned : Plan → Figures → Claim
@@ -50,6 +53,12 @@ pub record NoneBelow (sheet : List ℕ) (figures : Figures) : Type 0 where
   pub sorting : (q : List ℕ) (a : AllowedFor sheet q) → figures .sorting ≤ figureOfSorting (readSheet sheet) (a .allowed .plan)
   pub flight : (q : List ℕ) (a : AllowedFor sheet q) → figures .flight ≤ figureOfFlight (readSheet sheet) (a .allowed .plan)
 
+-- 02, Req 03: each allowed plan of the sheet whose sorting figure is that of p has the scanner list of p, or one that comes after it
+abbrev pub ListFirst : List ℕ → Plan → Type 0
+ListFirst sheet p =
+    (q : List ℕ) (a : AllowedFor sheet q) → figureOfSorting (readSheet sheet) (a .allowed .plan) ≡ figureOfSorting (readSheet sheet) p
+    → (scannerList (a .allowed .plan .jobs) ≡ scannerList (p .jobs)) ⊎ ComesBefore (scannerList (p .jobs)) (scannerList (a .allowed .plan .jobs))
+
 -- when so many strips are ready, from strip j on
 unfoldable pub readyTimes : MosaicSection → ℕ → ℕ → List ℕ
 readyTimes m zero j = []
@@ -59,7 +68,7 @@ readyTimes m (suc n) j = ready m j ∷ readyTimes m n (j + 1)
 abbrev pub Says : List ℕ → Claim → Type 0
 Says sheet (ready-at times) = readyTimes (readSheet sheet .mosaic) (length times) 1 ≡ times
 Says sheet (planned p figures) =
-    IsAllowed sheet p figures × NoneBelow sheet figures
+    IsAllowed sheet p figures × NoneBelow sheet figures × ListFirst sheet p
     × (answerOf sheet planLength tableLength ≡ answer 0 0 (length (planBytes (readSheet sheet) p))) × (plannedBytes sheet planLength tableLength ≡ planBytes (readSheet sheet) p)
 Says sheet (best p figures) = IsAllowed sheet p figures × NoneBelow sheet figures
 Says sheet (allowed p figures) = IsAllowed sheet p figures
@@ -115,7 +124,7 @@ table =
     -- "Sorting, desk 1 (2,5), desk 2 (1,1): 10, desk 2 first. The other order gives 11": with every start as early as that order allows
     ∷ row (twoDesks 2 5 1 1) (planned (sortingPlan (job 2 1 0 1 ∷ job 1 1 1 3 ∷ [])) (sortingAlone 10))
     ∷ row (twoDesks 2 5 1 1) (allowed (sortingPlan (job 1 1 0 2 ∷ job 2 1 2 3 ∷ [])) (sortingAlone 11))
-    -- "Sorting, two desks, (1,1) each: 5 either way."
+    -- "Sorting, two desks, (1,1) each: 5 either way." 02, Req 03: "The two-desk case of figure 5 then begins with desk 1."
     ∷ row (twoDesks 1 1 1 1) (planned (sortingPlan (job 1 1 0 1 ∷ job 2 1 1 2 ∷ [])) (sortingAlone 5))
     ∷ row (twoDesks 1 1 1 1) (best (sortingPlan (job 2 1 0 1 ∷ job 1 1 1 2 ∷ [])) (sortingAlone 5))
     -- "Flight (3,4,1): 8, order number 2."

@@ -18,9 +18,9 @@ use Rattle.rules.proofs.Tests.{order-decided}
 use Rattle.base.specs.Answer.{answer}
 use Rattle.planner.specs.Call.{chosenPlan, answerOf, plannedBytes}
 use Rattle.planner.specs.Computes.{plannerComputes}
-use Rattle.planner.specs.Theorems.{Least, impossible-exactly, plan-lawful, plan-least-mosaic, plan-least-sorting, plan-least-flight}
+use Rattle.planner.specs.Theorems.{figureOfSorting, Least, impossible-exactly, plan-lawful, plan-least-mosaic, plan-least-sorting, plan-least-flight, plan-taken}
 use Rattle.flight.specs.Choice.{isPossible}
-use Rattle.worked_sheets.specs.Table.{Figures, figuresOf, Claim, IsAllowed, NoneBelow, Says, Row, table, readyTimes, All, FirstCase, ready-at, planned}
+use Rattle.worked_sheets.specs.Table.{Figures, figuresOf, Claim, IsAllowed, NoneBelow, ListFirst, Says, Row, table, readyTimes, All, FirstCase, ready-at, planned}
 use Rattle.worked_sheets.specs.Table.{best, allowed, impossible}
 
 -- What is computed of a row.
@@ -78,10 +78,14 @@ ours-allowed sheet p figures e c f z =
       has = f;
     }
 
+list-first : (sheet : List ℕ) (p : Plan) → chosenPlan (readSheet sheet) ≡ p → ListFirst sheet p
+unfolding figureOfSorting
+list-first sheet p c = subst (ListFirst sheet) c (λ q a. plan-taken sheet (a .sound) .first (a .allowed .plan .jobs) (a .allowed .lawful .sorting))
+
 says : (sheet : List ℕ) (c : Claim) → Computed sheet c → Says sheet c
 says sheet (ready-at times) c = c
 says sheet (planned p figures) c =
-    (ours-allowed sheet p figures (c .0) (c .1) (c .2) (c .5), none-below sheet figures (ap (figuresOf (readSheet sheet)) (c .1) ∙ c .2), c .3, c .4)
+    (ours-allowed sheet p figures (c .0) (c .1) (c .2) (c .5), none-below sheet figures (ap (figuresOf (readSheet sheet)) (c .1) ∙ c .2), list-first sheet p (c .1), c .3, c .4)
 says sheet (best p figures) c = (is-allowed sheet p figures (c .0) (c .1) (c .3), none-below sheet figures (c .2))
 says sheet (allowed p figures) c = is-allowed sheet p figures (c .0) (c .1) (c .2)
 says sheet (impossible place) c = (c .0, impossible-exactly sheet (c .2) .0 (c .1))
