@@ -7,7 +7,6 @@ use Prim.Native.Nat.{ℕ, _*_, _≤_, _<_}
 use mathlib.Core.Path.{_≡_, refl, sym, ap, subst, _∙_}
 use mathlib.Core.Bool.{true}
 use mathlib.Core.List.{List, _++_}
-use mathlib.Core.Logic.{_⊎_}
 use lib.ListN.{length, drop}
 use native.Mathlib.Omega.{arith}
 use Rattle.sheet.specs.Limits.{ceiling, tableLength, planLength, pageLength}
@@ -27,7 +26,7 @@ use Rattle.base.specs.declared.Answer.{Answer}
 use Rattle.base.specs.LeastFigure.{NoLarger, LeastFigure, same-least}
 use Rattle.rules.specs.Mosaic.{batchAt, MosaicUnder, MosaicLawful, mosaicFigure}
 use Rattle.rules.specs.Sorting.{jobAt, SortingUnder, SortingLawful, sortingFigure}
-use Rattle.rules.specs.ScannerList.{scannerList, ComesBefore, SortingTaken}
+use Rattle.rules.specs.ScannerList.{scannerList, SameOrAfter, SortingTaken}
 use Rattle.rules.specs.Flight.{passesAt, FlightUnder, FlightLawful, Keeps, OrderAllowed, flightFigure}
 use Rattle.rules.specs.declared.Batch.{Batch}
 use Rattle.rules.specs.declared.Job.{Job}
@@ -449,8 +448,7 @@ module _ (sheet plan table planAfter tableEnd : List ℕ) (r : Answer) (call : C
   -- .. so every allowed plan of the sheet whose sorting figure equals ours has our scanner list, or one that comes after it.
   pub scanner-list-first : (q : List ℕ) (a : AllowedFor sheet q)
       → figureOfSorting (readSheet sheet) (a .allowed .plan) ≡ figureOfSorting (readSheet sheet) (ours .allowed .plan)
-      → (scannerList (a .allowed .plan .jobs) ≡ scannerList (ours .allowed .plan .jobs))
-      ⊎ ComesBefore (scannerList (ours .allowed .plan .jobs)) (scannerList (a .allowed .plan .jobs))
+      → SameOrAfter (scannerList (a .allowed .plan .jobs)) (scannerList (ours .allowed .plan .jobs))
   unfolding figureOfSorting
   scanner-list-first q a same = sorting-is-taken .first (a .allowed .plan .jobs) (a .allowed .lawful .sorting) same
 

@@ -26,6 +26,11 @@ max-right a b = omega arith
 pub max-least : (a b c : ℕ) → a ≤ c → b ≤ c → max a b ≤ c
 max-least a b c p q = omega arith
 
+-- a desk is searched once the desks below it were
+pub over-one : {A : Type 0} (g : ℕ → A → A) (d : ℕ) (b : A) → overDesks g (d + 1) b ≡ g d (overDesks g d b)
+unfolding overDesks
+over-one g d b = ap (λ (n : ℕ). overDesks g n b) (add-one d)
+
 -- the search never worsens the incumbent
 module _ (g : ℕ → Incumbent → Incumbent) (falls : (d : ℕ) (b : Incumbent) → g d b .figure ≤ b .figure) where
   over-falls : (n : ℕ) (b : Incumbent) → overDesks g n b .figure ≤ b .figure
@@ -118,10 +123,6 @@ module _ (J : List ℕ) where
 pub over-none : {A : Type 0} (g : ℕ → A → A) (b : A) → b ≡ overDesks g 0 b
 unfolding overDesks
 over-none g b = refl
-
-pub over-one : {A : Type 0} (g : ℕ → A → A) (d : ℕ) (b : A) → overDesks g (d + 1) b ≡ g d (overDesks g d b)
-unfolding overDesks
-over-one g d b = rw (add-one d)
 
 module _ (J : List ℕ) where
   -- a desk that is searched, and a desk that has no strip left, for any search f

@@ -1,13 +1,14 @@
 -- A test of the rules by samples: timetables with idle time that are lawful, with their figures; timetables that a rule refuses, one for each rule; and those
--- that only the ceiling refuses.
+-- that only the ceiling refuses; last, two scanner lists.
 -- Each is tested by computing, and a test that holds says the sample in the words of the rules (tested). The sheets that 01 works through are crate
 -- worked_sheets.
 use Prim.{Unit, tt}
-use Prim.Native.Nat.{ℕ, _-_}
+use Prim.Native.Nat.{ℕ, zero, suc, _-_, _<_}
+use native.Mathlib.Omega.{arith}
 use mathlib.Core.Path.{_≡_, refl, sym}
 use mathlib.Core.Bool.{Bool, true, false, not, _&&_, true≢false}
 use mathlib.Core.List.{List, [], _∷_, _++_}
-use lib.ListN.{length, replicate}
+use lib.ListN.{length, getD, replicate}
 use lib.Dec.{eqb}
 use borrow.Author.Tests.{eqb-true}
 use Rattle.base.specs.Branch.{both}
@@ -18,6 +19,7 @@ use Rattle.sheet.specs.declared.SortingSection.{SortingSection}
 use Rattle.sheet.specs.declared.FlightSection.{FlightSection}
 use Rattle.rules.specs.Mosaic.{MosaicUnder, mosaicFigure}
 use Rattle.rules.specs.Sorting.{SortingUnder, sortingFigure}
+use Rattle.rules.specs.ScannerList.{ComesBefore}
 use Rattle.rules.specs.Flight.{FlightUnder, Keeps, OrderAllowed, flightFigure}
 use Rattle.rules.proofs.Computes.{rulesCompute}
 use Rattle.rules.proofs.Tests.{isMosaic, mosaic-decided, isSorting, sorting-decided, isFlight, flight-decided, keepsOrder, keeps-decided, mayHaveOrder}
@@ -206,3 +208,27 @@ all-tested (c ∷ cs) e =
 
 pub samples-hold : AllSay samples
 samples-hold = all-tested samples samples-tested
+
+-- Which of two scanner lists comes before the other: desk 1 against desk 3 at the first place where they part, desk 3 against desk 1 at the last.
+abbrev listed : List ℕ
+listed = 1 ∷ 2 ∷ 1 ∷ 3 ∷ []
+
+abbrev listedAfter : List ℕ
+listedAfter = 1 ∷ 2 ∷ 3 ∷ 1 ∷ []
+
+pub lists-sample : ComesBefore listed listedAfter × (ComesBefore listedAfter listed → ⊥)
+lists-sample = (
+  record { place = 2; in-both = (omega arith, omega arith); same = λ i l. same i (omega arith); lower = omega arith },
+  λ b. at (b .place) (b .same) (b .lower),
+)
+  where
+    same : (i : ℕ) → i < 2 → getD listed i 0 ≡ getD listedAfter i 0
+    same zero l = refl
+    same (suc zero) l = refl
+    same (suc (suc i)) l = absurd (omega arith)
+
+    at : (i : ℕ) → ((k : ℕ) → k < i → getD listedAfter k 0 ≡ getD listed k 0) → getD listedAfter i 0 < getD listed i 0 → ⊥
+    at zero h l = absurd (omega arith)
+    at (suc zero) h l = absurd (omega arith)
+    at (suc (suc zero)) h l = absurd (omega arith)
+    at (suc (suc (suc i))) h l = absurd (omega (arith, h 2 (omega arith)))

@@ -21,6 +21,10 @@ pub record ComesBefore (l m : List ℕ) : Type 0 where
   pub same : (i : ℕ) → i < place → getD l i 0 ≡ getD m i 0
   pub lower : getD l place 0 < getD m place 0
 
+-- m is l, or comes after it
+abbrev pub SameOrAfter : List ℕ → List ℕ → Type 0
+SameOrAfter m l = (m ≡ l) ⊎ ComesBefore l m
+
 -- what is asked of the sorting that is taken, against every timetable of the section
 pub record SortingTaken (s : SortingSection) (js : List Job) : Type 0 where
   pub lawful : SortingLawful s js
@@ -28,7 +32,7 @@ pub record SortingTaken (s : SortingSection) (js : List Job) : Type 0 where
   pub best : (ks : List Job) → SortingLawful s ks → sortingFigure s js ≤ sortingFigure s ks
   -- "take the one whose scanner list has the lower desk number at the first place where they part": every list of the same figure is this one or comes after it
   pub first : (ks : List Job) → SortingLawful s ks → sortingFigure s ks ≡ sortingFigure s js
-      → (scannerList ks ≡ scannerList js) ⊎ ComesBefore (scannerList js) (scannerList ks)
+      → SameOrAfter (scannerList ks) (scannerList js)
   -- 01: "The planner starts every .. scan, desk job .. as early as its .. order allow[s]": no timetable with the same list starts one sooner
   pub early : (ks : List Job) → SortingLawful s ks → scannerList ks ≡ scannerList js → (i : ℕ) → i < length js
       → (jobAt js i .scan ≤ jobAt ks i .scan) × (jobAt js i .start ≤ jobAt ks i .start)

@@ -1,6 +1,6 @@
 -- What a user of the rules needs. Theorems: Equivalent, the rules as they run over the members; RoundTrip and Sections, what a plan's bytes say;
 -- Fits, that lawful timetables fit their bytes; OrderKept, that the passes of a flight determine the order that they keep; Determined, that the bytes
--- determine the plan. The others hold the laws that lead to them.
+-- determine the plan; ScannerList, the comparison of scanner lists. The others hold the laws that lead to them.
 pub mod Finish
 pub mod MosaicRunning
 pub mod SortingRunning

@@ -13,7 +13,7 @@ use Rattle.rules.specs.declared.Job.{Job}
 use Rattle.base.specs.Sums.{sumOver}
 use Rattle.base.specs.LeastFigure.{NoLarger}
 use Rattle.rules.specs.Sorting.{noJob, jobAt, deskFinish, SortingUnder, SortingLawful, sortingFigure}
-use Rattle.rules.specs.ScannerList.{scannerList, ComesBefore, SortingTaken}
+use Rattle.rules.specs.ScannerList.{scannerList, ComesBefore, SameOrAfter, SortingTaken}
 use Rattle.rules_laws.specs.ScannerList.{list-length, list-at, same-list, same-desks, Parts, first-parting, before-one-way, same-numbers}
 use Rattle.rules_laws.specs.ScannerList.{same-job}
 use Rattle.interleaving.specs.Search.{startState}
@@ -53,25 +53,32 @@ pub sorting-earliest : {c : ℕ} (s : SortingSection) → SortingSound s → (js
     → (i : ℕ) → i < length js → (jobAt (chosenJobs s) i .scan ≤ jobAt js i .scan) × (jobAt (chosenJobs s) i .start ≤ jobAt js i .start)
 sorting-earliest s sound js law same i l = lawful-later s sound js law (λ k m. same-desks js (chosenJobs s) same k) i l
 
--- 02, Req 03: a timetable of the least figure has the scanner list of the chosen jobs, or a list that comes after it.
-pub sorting-first : {c : ℕ} (s : SortingSection) → SortingSound s → (js : List Job) → SortingUnder c s js → sortingFigure s js ≡ leastFigure s
-    → (scannerList js ≡ scannerList (chosenJobs s)) ⊎ ComesBefore (scannerList (chosenJobs s)) (scannerList js)
-sorting-first s sound js law least = go (first-parting (λ i. jobAt js i .desk) (λ i. jobAt (chosenJobs s) i .desk) (length js))
-  where
-    long : length js ≡ length (chosenJobs s)
-    long = sorting-length s sound js law
-
-    go : ((i : ℕ) → i < length js → jobAt js i .desk ≡ jobAt (chosenJobs s) i .desk)
-        ⊎ Parts (λ i. jobAt js i .desk) (λ i. jobAt (chosenJobs s) i .desk) (length js)
-        → (scannerList js ≡ scannerList (chosenJobs s)) ⊎ ComesBefore (scannerList (chosenJobs s)) (scannerList js)
-    go (inl same) = inl (same-list js (chosenJobs s) long same)
-    go (inr p) = inr (record {
+-- where a timetable of the least figure parts from the chosen jobs first, the chosen desk has the lower number
+chosen-before : {c : ℕ} (s : SortingSection) → SortingSound s → (js : List Job) → SortingUnder c s js → sortingFigure s js ≡ leastFigure s
+    → Parts (λ i. jobAt js i .desk) (λ i. jobAt (chosenJobs s) i .desk) (length js) → ComesBefore (scannerList (chosenJobs s)) (scannerList js)
+chosen-before s sound js law least p =
+    let long = sorting-length s sound js law in
+    record {
       place = p .place;
-      in-both = (omega (arith, list-length (chosenJobs s), long, p .within), omega (arith, list-length js, p .within));
-      same = λ i l. list-at (chosenJobs s) i ∙ sym (p .same i l) ∙ sym (list-at js i);
+      in-both = (
+        omega (arith, list-length (chosenJobs s), list-length js, long, p .within),
+        omega (arith, list-length (chosenJobs s), list-length js, long, p .within),
+      );
+      same = λ i l. omega (arith, list-at (chosenJobs s) i, list-at js i, p .same i l);
       lower =
           omega (arith, list-at (chosenJobs s) (p .place), list-at js (p .place), p .other, lawful-first s sound js law least (p .place) (p .within) (p .same));
-    })
+    }
+
+-- 02, Req 03: a timetable of the least figure has the scanner list of the chosen jobs, or a list that comes after it.
+pub sorting-first : {c : ℕ} (s : SortingSection) → SortingSound s → (js : List Job) → SortingUnder c s js → sortingFigure s js ≡ leastFigure s
+    → SameOrAfter (scannerList js) (scannerList (chosenJobs s))
+sorting-first s sound js law least = go (first-parting (λ i. jobAt js i .desk) (λ i. jobAt (chosenJobs s) i .desk) (length js))
+  where
+    go : ((i : ℕ) → i < length js → jobAt js i .desk ≡ jobAt (chosenJobs s) i .desk)
+        ⊎ Parts (λ i. jobAt js i .desk) (λ i. jobAt (chosenJobs s) i .desk) (length js)
+        → SameOrAfter (scannerList js) (scannerList (chosenJobs s))
+    go (inl same) = inl (same-list js (chosenJobs s) (sorting-length s sound js law) same)
+    go (inr p) = inr (chosen-before s sound js law least p)
 
 -- So the chosen jobs are what is to be taken ..
 pub sorting-taken : (s : SortingSection) → SortingSound s → SortingTaken s (chosenJobs s)
@@ -104,8 +111,7 @@ taken-once s sound js ks a b = go (a .first ks (b .lawful) (sym figures)) (b .fi
             same-job (jobAt js i) (jobAt ks i) (same-desks js ks (sym same) i) (same-numbers s js ks (a .lawful) (b .lawful) long (sym same) i l)
             (omega (arith, js-early, ks-early)) (omega (arith, js-early, ks-early))
 
-    go : (scannerList ks ≡ scannerList js) ⊎ ComesBefore (scannerList js) (scannerList ks)
-        → (scannerList js ≡ scannerList ks) ⊎ ComesBefore (scannerList ks) (scannerList js) → js ≡ ks
+    go : SameOrAfter (scannerList ks) (scannerList js) → SameOrAfter (scannerList js) (scannerList ks) → js ≡ ks
     go (inl same) q = equal same
     go (inr p) (inl same) = equal (sym same)
     go (inr p) (inr q) = absurd (before-one-way (scannerList js) (scannerList ks) p q)

@@ -5,7 +5,6 @@ use Prim.{Unit}
 use Prim.Native.Nat.{ℕ, zero, suc, _+_, _≤_}
 use mathlib.Core.Path.{_≡_}
 use mathlib.Core.List.{List, [], _∷_, _++_}
-use mathlib.Core.Logic.{_⊎_}
 use lib.ListN.{length}
 use Rattle.sheet.specs.Limits.{tableLength, planLength}
 use Rattle.sheet.specs.Refusals.{orderImpossible}
@@ -17,7 +16,7 @@ use Rattle.base.specs.Answer.{answer}
 use Rattle.planner.specs.Call.{answerOf, plannedBytes}
 use Rattle.planner.specs.Theorems.{figureOfMosaic, figureOfSorting, figureOfFlight, Impossible}
 use Rattle.rules.specs.Mosaic.{ready}
-use Rattle.rules.specs.ScannerList.{scannerList, ComesBefore}
+use Rattle.rules.specs.ScannerList.{scannerList, SameOrAfter}
 use Rattle.rules.specs.declared.Batch.{Batch}
 use Rattle.rules.specs.declared.Job.{Job}
 use Rattle.rules.specs.declared.Passes.{Passes}
@@ -57,7 +56,7 @@ pub record NoneBelow (sheet : List ℕ) (figures : Figures) : Type 0 where
 abbrev pub ListFirst : List ℕ → Plan → Type 0
 ListFirst sheet p =
     (q : List ℕ) (a : AllowedFor sheet q) → figureOfSorting (readSheet sheet) (a .allowed .plan) ≡ figureOfSorting (readSheet sheet) p
-    → (scannerList (a .allowed .plan .jobs) ≡ scannerList (p .jobs)) ⊎ ComesBefore (scannerList (p .jobs)) (scannerList (a .allowed .plan .jobs))
+    → SameOrAfter (scannerList (a .allowed .plan .jobs)) (scannerList (p .jobs))
 
 -- when so many strips are ready, from strip j on
 unfoldable pub readyTimes : MosaicSection → ℕ → ℕ → List ℕ
