@@ -31,7 +31,7 @@ use Rattle.rules.specs.Flight.{passesAt, FlightUnder, FlightLawful, Keeps, Orde
 use Rattle.rules.specs.declared.Batch.{Batch}
 use Rattle.rules.specs.declared.Job.{Job}
 use Rattle.rules.specs.declared.Passes.{Passes}
-use Rattle.rules.specs.Plan.{Plan, mosaicPart, sortingPart, flightPart, planBytes, PlanUnder, AllowedFor}
+use Rattle.rules.specs.Plan.{Plan, mosaicFields, sortingFields, flightFields, planBytes, PlanUnder, AllowedFor}
 use Rattle.plan_format.specs.ByteLaws.{AreBytes}
 use Rattle.rules_laws.specs.Determined.{plan-most, plan-determined}
 use Rattle.judge.specs.Judged.{turnedBack, found, judged}
@@ -459,15 +459,15 @@ module _ (sheet plan table planAfter tableEnd : List ℕ) (r : Answer) (call : C
   -- .. and so the rules alone determine the bytes of our plan's sorting, between those of its mosaic and its flight.
   pub sorting-bytes-determined : (js : List Job) → SortingTaken (readSheet sheet .sorting) js
       → written r planAfter
-      ≡ mosaicPart (readSheet sheet .mosaic) (ours .allowed .plan .batches)
-      ++ sortingPart (readSheet sheet .sorting) js
-      ++ flightPart (readSheet sheet .flight) (ours .allowed .plan .order) (ours .allowed .plan .passes)
+      ≡ mosaicFields (readSheet sheet .mosaic) (ours .allowed .plan .batches)
+      ++ sortingFields (readSheet sheet .sorting) js
+      ++ flightFields (readSheet sheet .flight) (ours .allowed .plan .order) (ours .allowed .plan .passes)
   unfolding planBytes
   sorting-bytes-determined js taken = rw (sorting-determined js taken) (ours .allowed .layout)
 
 -- "Same sheet, same scanner list": whoever plans, of any two allowed plans of a sheet whose sortings are to be taken the sortings are the same bytes.
 pub same-sheet-same-list : (sheet p q : List ℕ) (a : AllowedFor sheet p) (b : AllowedFor sheet q) → SortingTaken (readSheet sheet .sorting) (a .allowed .plan .jobs)
     → SortingTaken (readSheet sheet .sorting) (b .allowed .plan .jobs)
-    → sortingPart (readSheet sheet .sorting) (a .allowed .plan .jobs) ≡ sortingPart (readSheet sheet .sorting) (b .allowed .plan .jobs)
+    → sortingFields (readSheet sheet .sorting) (a .allowed .plan .jobs) ≡ sortingFields (readSheet sheet .sorting) (b .allowed .plan .jobs)
 same-sheet-same-list sheet p q a b s t =
-    ap (sortingPart (readSheet sheet .sorting)) (taken-determined sheet (a .sound) (a .allowed .plan .jobs) (b .allowed .plan .jobs) s t)
+    ap (sortingFields (readSheet sheet .sorting)) (taken-determined sheet (a .sound) (a .allowed .plan .jobs) (b .allowed .plan .jobs) s t)

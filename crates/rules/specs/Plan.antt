@@ -70,19 +70,19 @@ pub record Plan : Type 0 where
   pub order : ℕ
   pub passes : List Passes
 
--- the bytes of a section, "states each figure as that section's rules give it"
-abbrev pub mosaicPart : MosaicSection → List Batch → List ℕ
-mosaicPart m bs = ifPresent (m .strips) (mosaicBytes (mosaicFigure m bs) bs)
+-- the fields of a section, none where the sheet does not have it; a plan "states each figure as that section's rules give it"
+abbrev pub mosaicFields : MosaicSection → List Batch → List ℕ
+mosaicFields m bs = ifPresent (m .strips) (mosaicBytes (mosaicFigure m bs) bs)
 
-abbrev pub sortingPart : SortingSection → List Job → List ℕ
-sortingPart s js = ifPresent (stripsInAll s) (sortingBytes (sortingFigure s js) js)
+abbrev pub sortingFields : SortingSection → List Job → List ℕ
+sortingFields s js = ifPresent (stripsInAll s) (sortingBytes (sortingFigure s js) js)
 
-abbrev pub flightPart : FlightSection → ℕ → List Passes → List ℕ
-flightPart f order ps = ifPresent (f .blocks) (flightBytes (flightFigure f ps) order ps)
+abbrev pub flightFields : FlightSection → ℕ → List Passes → List ℕ
+flightFields f order ps = ifPresent (f .blocks) (flightBytes (flightFigure f ps) order ps)
 
--- the plan's bytes
+-- its bytes
 unfoldable pub planBytes : Sheet → Plan → List ℕ
-planBytes s p = mosaicPart (s .mosaic) (p .batches) ++ sortingPart (s .sorting) (p .jobs) ++ flightPart (s .flight) (p .order) (p .passes)
+planBytes s p = mosaicFields (s .mosaic) (p .batches) ++ sortingFields (s .sorting) (p .jobs) ++ flightFields (s .flight) (p .order) (p .passes)
 
 -- a plan "gives a timetable of each" section, "in flight with the number of the order kept", under the ceiling c
 pub record PlanUnder (c : ℕ) (s : Sheet) (p : Plan) : Type 0 where
