@@ -438,7 +438,7 @@ module _ (sheet p q page₁ page₂ after₁ after₂ : List ℕ) (r₁ r₂ : A
           (sym (a .allowed .layout) ∙ e ∙ b .allowed .layout)
 
 -- REQ 03. "Among best sorting plans take the one whose scanner list has the lower desk number at the first place where they part." What a scanner list is, which
--- of two comes before the other, and what is asked of the sorting that is taken is said on the rules' page ScannerList.antt. An accepted planning call:
+-- of two comes before the other, and what is asked of the sorting that is taken is said in ScannerList.antt of crate rules. An accepted planning call:
 module _ (sheet plan table planAfter tableEnd : List ℕ) (r : Answer) (call : Called sheet plan table planAfter tableEnd r) (z : r .number ≡ 0)
     (ours : AllowedFor sheet (written r planAfter)) where
   -- Our sorting is what is to be taken ..
@@ -450,13 +450,13 @@ module _ (sheet plan table planAfter tableEnd : List ℕ) (r : Answer) (call : C
       → figureOfSorting (readSheet sheet) (a .allowed .plan) ≡ figureOfSorting (readSheet sheet) (ours .allowed .plan)
       → SameOrAfter (scannerList (a .allowed .plan .jobs)) (scannerList (ours .allowed .plan .jobs))
   unfolding figureOfSorting
-  scanner-list-first q a same = sorting-is-taken .first (a .allowed .plan .jobs) (a .allowed .lawful .sorting) same
+  scanner-list-first q a same = sorting-is-taken .comes-first (a .allowed .plan .jobs) (a .allowed .lawful .sorting) same
 
   -- "Scanner orders are then no longer left to the program.": whatever sorting is to be taken is ours, strip by strip and start by start ..
   pub sorting-determined : (js : List Job) → SortingTaken (readSheet sheet .sorting) js → js ≡ ours .allowed .plan .jobs
   sorting-determined js taken = taken-determined sheet (ours .sound) js (ours .allowed .plan .jobs) taken sorting-is-taken
 
-  -- .. and so the rules alone determine the bytes of our plan's sorting, between those of its mosaic and its flight.
+  -- .. and so the papers determine the bytes of our plan's sorting, between those of its mosaic and its flight.
   pub sorting-bytes-determined : (js : List Job) → SortingTaken (readSheet sheet .sorting) js
       → written r planAfter
       ≡ mosaicFields (readSheet sheet .mosaic) (ours .allowed .plan .batches)
@@ -465,7 +465,7 @@ module _ (sheet plan table planAfter tableEnd : List ℕ) (r : Answer) (call : C
   unfolding planBytes
   sorting-bytes-determined js taken = rw (sorting-determined js taken) (ours .allowed .layout)
 
--- "Same sheet, same scanner list": whoever plans, of any two allowed plans of a sheet whose sortings are to be taken the sortings are the same bytes.
+-- "Same sheet, same scanner list": whoever plans, two allowed plans of one sheet whose sortings are each what is to be taken have the same bytes there.
 pub same-sheet-same-list : (sheet p q : List ℕ) (a : AllowedFor sheet p) (b : AllowedFor sheet q) → SortingTaken (readSheet sheet .sorting) (a .allowed .plan .jobs)
     → SortingTaken (readSheet sheet .sorting) (b .allowed .plan .jobs)
     → sortingFields (readSheet sheet .sorting) (a .allowed .plan .jobs) ≡ sortingFields (readSheet sheet .sorting) (b .allowed .plan .jobs)

@@ -19,7 +19,8 @@ use Rattle.mosaic.specs.Chosen.{chosenBatches}
 use Rattle.sorting.specs.Plan.{chosenJobs}
 use Rattle.flight.specs.Choice.{chosenOrder, chosenPasses, isPossible}
 
--- What 01 leaves to the program: the batches, the jobs, and without a given order the order that it takes. Each is defined in its section's crate.
+-- What the papers leave to the program: which best batches and, without a given order, which best order it takes. Each is defined in its section's crate. The
+-- jobs are not left to it: 02, Req 03, determines them (`plan-taken` and `taken-determined` of Theorems.antt), and `chosenJobs` is how the search finds them.
 unfoldable pub chosenPlan : Sheet → Plan
 chosenPlan s =
     record {

@@ -1,5 +1,5 @@
 -- What holds of the plan that the program takes for a sheet, for every row of bytes as a sheet: it is lawful, no plan that obeys the rules under any ceiling
--- has a smaller figure, it starts as early as any, and the flight is called impossible exactly where no timetable keeps the given order. `readSheet` is what
+-- has a smaller figure, its sorting is the one that Req 03 takes, it starts as early as any, and the flight is called impossible exactly where no timetable keeps the given order. `readSheet` is what
 -- reading gives (crate sheet), `PlanUnder`, `PlanLawful` and `AllowedFor` are the rules' (crate rules), `chosenPlan` is Call.antt's. What that means for a
 -- call is said in crate demands.
 use Prim.Native.Nat.{ℕ, _≤_, _<_}
@@ -22,7 +22,7 @@ use Rattle.rules.specs.declared.Job.{Job}
 use Rattle.rules.specs.declared.Passes.{Passes}
 use Rattle.mosaic.specs.Plan.{lasts}
 use Rattle.mosaic.specs.Theorems.{mosaic-lawful, mosaic-figure, mosaic-least, mosaic-earliest}
-use Rattle.sorting.specs.Theorems.{sorting-lawful, sorting-figure, sorting-least, sorting-earliest, sorting-taken, taken-once}
+use Rattle.sorting.specs.Theorems.{sorting-lawful, sorting-figure, sorting-least, sorting-earliest, sorting-taken, sorting-taken-once}
 use Rattle.flight.specs.Choice.{isPossible, chosenOrder}
 use Rattle.flight.specs.Chosen.{chosen-given}
 use Rattle.flight.specs.Theorems.{flight-lawful, flight-figure, flight-least, flight-earliest, flight-impossible, flight-free}
@@ -91,13 +91,13 @@ module _ (sheet : List ℕ) (sound : readSheet sheet .number ≡ 0) where
         order = h .2;
       }
 
-  -- Its sorting is the one to be taken (02, Req 03), and every one that is to be taken is this.
+  -- Its sorting is the one to be taken (02, Req 03), and only one is.
   pub plan-taken : SortingTaken (readSheet sheet .sorting) (chosenPlan (readSheet sheet) .jobs)
   unfolding chosenPlan
   plan-taken = sorting-taken (readSheet sheet .sorting) (whole .sorting)
 
   pub taken-determined : (js ks : List Job) → SortingTaken (readSheet sheet .sorting) js → SortingTaken (readSheet sheet .sorting) ks → js ≡ ks
-  taken-determined = taken-once (readSheet sheet .sorting) (whole .sorting)
+  taken-determined = sorting-taken-once (readSheet sheet .sorting) (whole .sorting)
 
   -- No plan that obeys the rules under any ceiling has a smaller figure in any section.
   pub plan-least-mosaic : Least figureOfMosaic (readSheet sheet) (chosenPlan (readSheet sheet))

@@ -1,6 +1,6 @@
 -- A test of the rules by samples: timetables with idle time that are lawful, with their figures; timetables that a rule refuses, one for each rule; and those
 -- that only the ceiling refuses; last, two scanner lists.
--- Each is tested by computing, and a test that holds says the sample in the words of the rules (tested). The sheets that 01 works through are crate
+-- Each timetable is tested by computing, and a test that holds says the sample in the words of the rules (tested). The sheets that 01 works through are crate
 -- worked_sheets.
 use Prim.{Unit, tt}
 use Prim.Native.Nat.{ℕ, zero, suc, _-_, _<_}
@@ -209,26 +209,32 @@ all-tested (c ∷ cs) e =
 pub samples-hold : AllSay samples
 samples-hold = all-tested samples samples-tested
 
--- Which of two scanner lists comes before the other: desk 1 against desk 3 at the first place where they part, desk 3 against desk 1 at the last.
-abbrev listed : List ℕ
-listed = 1 ∷ 2 ∷ 1 ∷ 3 ∷ []
+-- Which of two scanner lists comes before the other: desk 1 against desk 3 at the first place where they part, desk 3 against desk 1 at the last. A beginning of
+-- a list does not come before it: they part nowhere.
+abbrev listBefore : List ℕ
+listBefore = 1 ∷ 2 ∷ 1 ∷ 3 ∷ []
 
-abbrev listedAfter : List ℕ
-listedAfter = 1 ∷ 2 ∷ 3 ∷ 1 ∷ []
+abbrev listAfter : List ℕ
+listAfter = 1 ∷ 2 ∷ 3 ∷ 1 ∷ []
 
-pub lists-sample : ComesBefore listed listedAfter × (ComesBefore listedAfter listed → ⊥)
+pub lists-sample : ComesBefore listBefore listAfter × (ComesBefore listAfter listBefore → ⊥) × (ComesBefore (1 ∷ []) (1 ∷ 2 ∷ []) → ⊥)
 lists-sample = (
   record { place = 2; in-both = (omega arith, omega arith); same = λ i l. same i (omega arith); lower = omega arith },
-  λ b. at (b .place) (b .same) (b .lower),
+  λ b. back (b .place) (b .same) (b .lower),
+  λ b. beginning (b .place) (b .in-both .0) (b .lower),
 )
   where
-    same : (i : ℕ) → i < 2 → getD listed i 0 ≡ getD listedAfter i 0
+    same : (i : ℕ) → i < 2 → getD listBefore i 0 ≡ getD listAfter i 0
     same zero l = refl
     same (suc zero) l = refl
     same (suc (suc i)) l = absurd (omega arith)
 
-    at : (i : ℕ) → ((k : ℕ) → k < i → getD listedAfter k 0 ≡ getD listed k 0) → getD listedAfter i 0 < getD listed i 0 → ⊥
-    at zero h l = absurd (omega arith)
-    at (suc zero) h l = absurd (omega arith)
-    at (suc (suc zero)) h l = absurd (omega arith)
-    at (suc (suc (suc i))) h l = absurd (omega (arith, h 2 (omega arith)))
+    back : (i : ℕ) → ((k : ℕ) → k < i → getD listAfter k 0 ≡ getD listBefore k 0) → getD listAfter i 0 < getD listBefore i 0 → ⊥
+    back zero h l = absurd (omega arith)
+    back (suc zero) h l = absurd (omega arith)
+    back (suc (suc zero)) h l = absurd (omega arith)
+    back (suc (suc (suc i))) h l = absurd (omega (arith, h 2 (omega arith)))
+
+    beginning : (i : ℕ) → i < 1 → getD (1 ∷ []) i 0 < getD (1 ∷ 2 ∷ []) i 0 → ⊥
+    beginning zero h l = absurd (omega arith)
+    beginning (suc i) h l = absurd (omega arith)

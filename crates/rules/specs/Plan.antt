@@ -70,7 +70,7 @@ pub record Plan : Type 0 where
   pub order : ℕ
   pub passes : List Passes
 
--- the fields of a section, none where the sheet does not have it; a plan "states each figure as that section's rules give it"
+-- the bytes of a section's fields, none where the sheet does not have it; a plan "states each figure as that section's rules give it"
 abbrev pub mosaicFields : MosaicSection → List Batch → List ℕ
 mosaicFields m bs = ifPresent (m .strips) (mosaicBytes (mosaicFigure m bs) bs)
 
@@ -80,7 +80,7 @@ sortingFields s js = ifPresent (stripsInAll s) (sortingBytes (sortingFigure s js
 abbrev pub flightFields : FlightSection → ℕ → List Passes → List ℕ
 flightFields f order ps = ifPresent (f .blocks) (flightBytes (flightFigure f ps) order ps)
 
--- its bytes
+-- the bytes of a plan
 unfoldable pub planBytes : Sheet → Plan → List ℕ
 planBytes s p = mosaicFields (s .mosaic) (p .batches) ++ sortingFields (s .sorting) (p .jobs) ++ flightFields (s .flight) (p .order) (p .passes)
 

@@ -14,7 +14,8 @@ unfoldable pub scannerList : List Job → List ℕ
 scannerList [] = []
 scannerList (j ∷ js) = j .desk ∷ scannerList js
 
--- "the lower desk number at the first place where they part": the list l has it against the list m (in the literature: l is lexicographically smaller)
+-- "the lower desk number at the first place where they part": the list l has it against the list m (in the literature: l is lexicographically smaller; lists of
+-- one section are equally long, so neither is a beginning of the other)
 pub record ComesBefore (l m : List ℕ) : Type 0 where
   pub place : ℕ
   pub in-both : (place < length l) × (place < length m)
@@ -31,8 +32,8 @@ pub record SortingTaken (s : SortingSection) (js : List Job) : Type 0 where
   -- "Among best sorting plans": no timetable has a smaller figure
   pub best : (ks : List Job) → SortingLawful s ks → sortingFigure s js ≤ sortingFigure s ks
   -- "take the one whose scanner list has the lower desk number at the first place where they part": every list of the same figure is this one or comes after it
-  pub first : (ks : List Job) → SortingLawful s ks → sortingFigure s ks ≡ sortingFigure s js
+  pub comes-first : (ks : List Job) → SortingLawful s ks → sortingFigure s ks ≡ sortingFigure s js
       → SameOrAfter (scannerList ks) (scannerList js)
   -- 01: "The planner starts every .. scan, desk job .. as early as its .. order allow[s]": no timetable with the same list starts one sooner
-  pub early : (ks : List Job) → SortingLawful s ks → scannerList ks ≡ scannerList js → (i : ℕ) → i < length js
+  pub starts-early : (ks : List Job) → SortingLawful s ks → scannerList ks ≡ scannerList js → (i : ℕ) → i < length js
       → (jobAt js i .scan ≤ jobAt ks i .scan) × (jobAt js i .start ≤ jobAt ks i .start)

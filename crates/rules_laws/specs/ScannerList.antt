@@ -1,6 +1,6 @@
--- Scanner lists (rules, ScannerList.antt). Of two lists as long as each other that are not the same, there is a first place where they part; of two different
--- ones at most one comes before the other. Two timetables with the same list have the same strips at each place.
-use Prim.Native.Nat.{ℕ, zero, suc, _+_, _≤_, _<_}
+-- Scanner lists (rules, ScannerList.antt). Two rows of numbers agree below a length or part at a first place; of two lists at most one comes before the other;
+-- two timetables with the same list have the same strip at each place.
+use Prim.Native.Nat.{ℕ, zero, suc, _+_, _<_}
 use mathlib.Core.Path.{_≡_, refl, sym, ap, _∙_}
 use mathlib.Core.Bool.{cond}
 use mathlib.Core.List.{List, [], _∷_}
@@ -10,7 +10,6 @@ use native.Mathlib.Omega.{arith}
 use lib.ListN.{length, getD}
 use lib.Seq.{ext-getD}
 use lib.Dec.{eqb}
-use Rattle.base.specs.Sums.{sumOver}
 use Rattle.base.specs.SumLaws.{sum-same}
 use Rattle.sheet.specs.declared.SortingSection.{SortingSection}
 use Rattle.rules.specs.declared.Job.{Job}
@@ -38,18 +37,18 @@ same-list js ks e h =
 pub same-desks : (js ks : List Job) → scannerList js ≡ scannerList ks → (i : ℕ) → jobAt js i .desk ≡ jobAt ks i .desk
 same-desks js ks e i = sym (list-at js i) ∙ ap (λ (l : List ℕ). getD l i 0) e ∙ list-at ks i
 
--- two functions agree below n, or part at a first place
-pub record Parts (f g : ℕ → ℕ) (n : ℕ) : Type 0 where
+-- two rows of numbers, by their place, part first at a place below n; they do, or they agree below n
+pub record FirstParting (f g : ℕ → ℕ) (n : ℕ) : Type 0 where
   pub place : ℕ
   pub within : place < n
   pub same : (i : ℕ) → i < place → f i ≡ g i
   pub other : f place ≡ g place → ⊥
 
-pub first-parting : (f g : ℕ → ℕ) (n : ℕ) → ((i : ℕ) → i < n → f i ≡ g i) ⊎ Parts f g n
+pub first-parting : (f g : ℕ → ℕ) (n : ℕ) → ((i : ℕ) → i < n → f i ≡ g i) ⊎ FirstParting f g n
 first-parting f g zero = inl (λ i l. absurd (omega arith))
 first-parting f g (suc n) = go (first-parting f g n) (ℕ-discrete (f n) (g n))
   where
-    go : ((i : ℕ) → i < n → f i ≡ g i) ⊎ Parts f g n → Dec (f n ≡ g n) → ((i : ℕ) → i < suc n → f i ≡ g i) ⊎ Parts f g (suc n)
+    go : ((i : ℕ) → i < n → f i ≡ g i) ⊎ FirstParting f g n → Dec (f n ≡ g n) → ((i : ℕ) → i < suc n → f i ≡ g i) ⊎ FirstParting f g (suc n)
     go (inr p) d = inr (record { place = p .place; within = omega (arith, p .within); same = p .same; other = p .other })
     go (inl h) (no d) = inr (record { place = n; within = omega arith; same = h; other = d })
     go (inl h) (yes e) = inl (λ i l. at i l (decLt i n))
@@ -61,7 +60,7 @@ first-parting f g (suc n) = go (first-parting f g n) (ℕ-discrete (f n) (g n))
             last : i ≡ n
             last = omega arith
 
--- neither of two lists comes before the other, or one of them does
+-- of two lists at most one comes before the other
 pub before-one-way : (l m : List ℕ) → ComesBefore l m → ComesBefore m l → ⊥
 before-one-way l m a b = go (decLt (a .place) (b .place)) (decLt (b .place) (a .place))
   where

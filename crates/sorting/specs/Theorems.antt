@@ -14,7 +14,7 @@ use Rattle.base.specs.Sums.{sumOver}
 use Rattle.base.specs.LeastFigure.{NoLarger}
 use Rattle.rules.specs.Sorting.{noJob, jobAt, deskFinish, SortingUnder, SortingLawful, sortingFigure}
 use Rattle.rules.specs.ScannerList.{scannerList, ComesBefore, SameOrAfter, SortingTaken}
-use Rattle.rules_laws.specs.ScannerList.{list-length, list-at, same-list, same-desks, Parts, first-parting, before-one-way, same-numbers}
+use Rattle.rules_laws.specs.ScannerList.{list-length, list-at, same-list, same-desks, FirstParting, first-parting, before-one-way, same-numbers}
 use Rattle.rules_laws.specs.ScannerList.{same-job}
 use Rattle.interleaving.specs.Search.{startState}
 use Rattle.interleaving.specs.Consistent.{consistent-start}
@@ -55,7 +55,7 @@ sorting-earliest s sound js law same i l = lawful-later s sound js law (λ k m. 
 
 -- where a timetable of the least figure parts from the chosen jobs first, the chosen desk has the lower number
 chosen-before : {c : ℕ} (s : SortingSection) → SortingSound s → (js : List Job) → SortingUnder c s js → sortingFigure s js ≡ leastFigure s
-    → Parts (λ i. jobAt js i .desk) (λ i. jobAt (chosenJobs s) i .desk) (length js) → ComesBefore (scannerList (chosenJobs s)) (scannerList js)
+    → FirstParting (λ i. jobAt js i .desk) (λ i. jobAt (chosenJobs s) i .desk) (length js) → ComesBefore (scannerList (chosenJobs s)) (scannerList js)
 chosen-before s sound js law least p =
     let long = sorting-length s sound js law in
     record {
@@ -75,7 +75,7 @@ pub sorting-first : {c : ℕ} (s : SortingSection) → SortingSound s → (js : 
 sorting-first s sound js law least = go (first-parting (λ i. jobAt js i .desk) (λ i. jobAt (chosenJobs s) i .desk) (length js))
   where
     go : ((i : ℕ) → i < length js → jobAt js i .desk ≡ jobAt (chosenJobs s) i .desk)
-        ⊎ Parts (λ i. jobAt js i .desk) (λ i. jobAt (chosenJobs s) i .desk) (length js)
+        ⊎ FirstParting (λ i. jobAt js i .desk) (λ i. jobAt (chosenJobs s) i .desk) (length js)
         → SameOrAfter (scannerList js) (scannerList (chosenJobs s))
     go (inl same) = inl (same-list js (chosenJobs s) (sorting-length s sound js law) same)
     go (inr p) = inr (chosen-before s sound js law least p)
@@ -85,15 +85,14 @@ pub sorting-taken : (s : SortingSection) → SortingSound s → SortingTaken s (
 sorting-taken s sound = record {
   lawful = sorting-lawful s sound;
   best = λ ks law. omega (arith, sorting-figure s sound, sorting-least s sound ks law);
-  first = λ ks law same. sorting-first s sound ks law (same ∙ sorting-figure s sound);
-  early = λ ks law same i l. sorting-earliest s sound ks law same i (omega (arith, sorting-length s sound ks law));
+  comes-first = λ ks law same. sorting-first s sound ks law (same ∙ sorting-figure s sound);
+  starts-early = λ ks law same i l. sorting-earliest s sound ks law same i (omega (arith, sorting-length s sound ks law));
 }
 
--- .. and nothing else is: two timetables that are each to be taken have the same figure, hence neither list comes before the other, hence neither starts
--- anything sooner.
-pub taken-once : (s : SortingSection) → SortingSound s → (js ks : List Job) → SortingTaken s js → SortingTaken s ks → js ≡ ks
+-- .. and nothing else is: two timetables that are each to be taken have the same figure, so the same list, so the same starts.
+pub sorting-taken-once : (s : SortingSection) → SortingSound s → (js ks : List Job) → SortingTaken s js → SortingTaken s ks → js ≡ ks
 unfolding jobAt
-taken-once s sound js ks a b = go (a .first ks (b .lawful) (sym figures)) (b .first js (a .lawful) figures)
+sorting-taken-once s sound js ks a b = go (a .comes-first ks (b .lawful) (sym figures)) (b .comes-first js (a .lawful) figures)
   where
     figures : sortingFigure s js ≡ sortingFigure s ks
     figures = omega (arith, a .best ks (b .lawful), b .best js (a .lawful))
@@ -106,8 +105,8 @@ taken-once s sound js ks a b = go (a .first ks (b .lawful) (sym figures)) (b .fi
       where
         at : (i : ℕ) → i < length js → jobAt js i ≡ jobAt ks i
         at i l =
-            let js-early = a .early ks (b .lawful) same i l in
-            let ks-early = b .early js (a .lawful) (sym same) i (omega (arith, long)) in
+            let js-early = a .starts-early ks (b .lawful) same i l in
+            let ks-early = b .starts-early js (a .lawful) (sym same) i (omega (arith, long)) in
             same-job (jobAt js i) (jobAt ks i) (same-desks js ks (sym same) i) (same-numbers s js ks (a .lawful) (b .lawful) long (sym same) i l)
             (omega (arith, js-early, ks-early)) (omega (arith, js-early, ks-early))
 
@@ -116,8 +115,8 @@ taken-once s sound js ks a b = go (a .first ks (b .lawful) (sym figures)) (b .fi
     go (inr p) (inl same) = equal (sym same)
     go (inr p) (inr q) = absurd (before-one-way (scannerList js) (scannerList ks) p q)
 
-pub taken-only : (s : SortingSection) → SortingSound s → (js : List Job) → SortingTaken s js → js ≡ chosenJobs s
-taken-only s sound js a = taken-once s sound js (chosenJobs s) a (sorting-taken s sound)
+pub sorting-taken-only : (s : SortingSection) → SortingSound s → (js : List Job) → SortingTaken s js → js ≡ chosenJobs s
+sorting-taken-only s sound js a = sorting-taken-once s sound js (chosenJobs s) a (sorting-taken s sound)
 
 pub sorting-count : (s : SortingSection) → SortingSound s → length (chosenJobs s) ≤ mostDesks * mostStripsOfDesk
 sorting-count s sound = omega (arith, chosen-length s sound, consistent-start (instanceOf s) (instance-sound s sound) .fits .left)

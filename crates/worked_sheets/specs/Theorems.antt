@@ -80,7 +80,7 @@ ours-allowed sheet p figures e c f z =
 
 list-first : (sheet : List ℕ) (p : Plan) → chosenPlan (readSheet sheet) ≡ p → ListFirst sheet p
 unfolding figureOfSorting
-list-first sheet p c = subst (ListFirst sheet) c (λ q a. plan-taken sheet (a .sound) .first (a .allowed .plan .jobs) (a .allowed .lawful .sorting))
+list-first sheet p c = subst (ListFirst sheet) c (λ q a. plan-taken sheet (a .sound) .comes-first (a .allowed .plan .jobs) (a .allowed .lawful .sorting))
 
 says : (sheet : List ℕ) (c : Claim) → Computed sheet c → Says sheet c
 says sheet (ready-at times) c = c
@@ -137,7 +137,7 @@ computed = (
   (refl, refl),
 )
 
--- What 01 says of the sheets that it works through.
+-- What 01, and 02 where it says more, says of the sheets that 01 works through.
 pub worked : All Says table
 worked = all-say table (computed .0)
 
