@@ -221,7 +221,7 @@ pub lists-sample : ComesBefore listBefore listAfter × (ComesBefore listAfter li
 lists-sample = (
   record { place = 2; in-both = (omega arith, omega arith); same = λ i l. same i (omega arith); lower = omega arith },
   λ b. back (b .place) (b .same) (b .lower),
-  λ b. beginning (b .place) (b .in-both .0) (b .lower),
+  λ b. beginning (b .place) (omega (arith, b .in-both .0)) (b .lower),
 )
   where
     same : (i : ℕ) → i < 2 → getD listBefore i 0 ≡ getD listAfter i 0
