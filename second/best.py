@@ -1,8 +1,12 @@
-"""The least figures of a sheet's sections, of any size.
+"""The least figures of a sheet's sections, of any size, and the scanner list that is due.
 
 Mosaic: forward from strip to strip, every pair (time at which the bench is free, figure) that no other pair beats. Sorting: forward over the
-numbers of strips taken of each desk, every row (figure, free times of the desks) that no other row beats. Flight without an order: the timetable
-in which passes of two kinds may overlap, and from there a branch on each overlap that is met, one pass first or the other.
+numbers of strips taken of each desk, every row (figure, scanner list, free times of the desks) that no other row beats. Flight without an order: the
+timetable in which passes of two kinds may overlap, and from there a branch on each overlap that is met, one pass first or the other.
+
+The scanner list that is due is, of those of least figure, the one that has the lower desk number at the first place where it and another part. Of two rows
+with the same strips taken, the one with the lower figure, or with the same figure and the list that comes first, beats the other where its desks are free
+no later: the same rest behind both adds no more to it, and leaves its list the first.
 """
 import itertools
 
@@ -32,11 +36,11 @@ def best_mosaic(sheet):
 
 
 def unbeaten_rows(rows):
-    """Of rows (figure, three free times) those that no other comes before in all four."""
+    """Of rows (figure, list, three free times) those that no other beats: one that comes before by figure and list and has no later free time."""
     out = []
     for row in sorted(rows):
-        _, a, b, c = row
-        if not any(x <= a and y <= b and z <= c for _, x, y, z in out):
+        _, _, a, b, c = row
+        if not any(x <= a and y <= b and z <= c for _, _, x, y, z in out):
             out.append(row)
     return out
 
@@ -48,28 +52,28 @@ def scan_sums(queue):
 def rows_behind(rows, desk, scanned, time, soonest):
     """The rows once a strip of the desk (1 to 3) is scanned. A desk is not needed before its next strip's scan can end."""
     out = set()
-    for row in rows:
-        finish = max(row[desk], scanned) + time
-        after = [row[0] + finish, *row[1:]]
-        after[desk] = finish
-        out.add((after[0], *[max(free, need) if need else 0 for free, need in zip(after[1:], soonest)]))
+    for figure, desks, *free in rows:
+        finish = max(free[desk - 1], scanned) + time
+        free[desk - 1] = finish
+        out.add((figure + finish, desks + bytes([desk]), *[max(at, need) if need else 0 for at, need in zip(free, soonest)]))
     return out
 
 
 def best_sorting(sheet):
+    """The least figure and the scanner list that is due, a byte for each desk number."""
     queues = [sheet.queue(desk) for desk in (1, 2, 3)]
     sums = [scan_sums(queue) for queue in queues]
     rows = {}
     for taken in itertools.product(*[range(len(queue) + 1) for queue in queues]):
         scanned = sum(sums[d][k] for d, k in enumerate(taken))
         soonest = [scanned + queue[k][0] if k < len(queue) else None for queue, k in zip(queues, taken)]
-        found = set() if any(taken) else {(0, 0, 0, 0)}
+        found = set() if any(taken) else {(0, b"", 0, 0, 0)}
         for d, k in enumerate(taken):
             if k:
                 before = taken[:d] + (k - 1,) + taken[d + 1:]
                 found |= rows_behind(rows[before], d + 1, scanned, queues[d][k - 1][1], soonest)
         rows[taken] = unbeaten_rows(found)
-    return rows[tuple(map(len, queues))][0][0]
+    return rows[tuple(map(len, queues))][0][:2]
 
 
 def overlap(blocks, firsts):
@@ -120,5 +124,6 @@ def best_flight(sheet):
 
 
 def best(sheet):
-    """The least figure of each section, 0 for an absent one, None for a flight whose order is impossible."""
-    return (best_mosaic(sheet) if sheet.strips else 0, best_sorting(sheet) if sheet.jobs else 0, best_flight(sheet) if sheet.blocks else 0)
+    """The least figure of each section, 0 for an absent one, None for a flight whose order is impossible; and the scanner list, empty without a sorting."""
+    sorting, desks = best_sorting(sheet) if sheet.jobs else (0, b"")
+    return (best_mosaic(sheet) if sheet.strips else 0, sorting, best_flight(sheet) if sheet.blocks else 0), desks

@@ -1,4 +1,4 @@
-"""The least figures of small sheets by trying everything.
+"""The least figures of small sheets, and the scanner list that is due, by trying everything.
 
 `of_choices` tries every batching, every interleaving and every proper order, each with its earliest starts. `of_timetables`, for tiny sheets, tries idle
 timetables too: in mosaic and sorting those that wait one minute at one or two starts, in flight every row of starts up to a time behind which no start
@@ -49,8 +49,17 @@ def least_mosaic(sheet, most):
 
 
 def least_sorting(sheet, most):
+    """The least figure and, of the lists that have it, the one with the lower desk number at the first place where it and another part."""
     lists = interleavings(counts_of(sheet))
-    return min(timetable.sorting_figure(sheet, timetable.jobs_of(sheet, desks, wait)) for desks in lists for wait in waits(2 * len(desks), most))
+    tried = ((desks, timetable.jobs_of(sheet, desks, wait)) for desks in lists for wait in waits(2 * len(desks), most))
+    return min((timetable.sorting_figure(sheet, jobs), bytes(desks)) for desks, jobs in tried)
+
+
+def best_lists(sheet):
+    """Every scanner list of least figure, in the order of their desk numbers: the first is the one that is due."""
+    figures = {bytes(desks): timetable.sorting_figure(sheet, timetable.jobs_of(sheet, desks)) for desks in interleavings(counts_of(sheet))}
+    least = min(figures.values())
+    return sorted(desks for desks, figure in figures.items() if figure == least)
 
 
 def earliest_flights(sheet):
@@ -84,21 +93,26 @@ def ends_by_order(blocks):
     return ends
 
 
+def of_sections(sheet, most, flight):
+    """The least figures, 0 for an absent section, with this one of the flight; and the scanner list, empty without a sorting."""
+    sorting, desks = least_sorting(sheet, most) if sheet.jobs else (0, b"")
+    return (least_mosaic(sheet, most) if sheet.strips else 0, sorting, flight), desks
+
+
 def of_choices(sheet):
-    """The least figures: 0 for an absent section, None for a flight whose order is impossible."""
-    return (least_mosaic(sheet, 0) if sheet.strips else 0, least_sorting(sheet, 0) if sheet.jobs else 0, least_flight(sheet) if sheet.blocks else 0)
+    """The least figures and the scanner list. The figure of a flight whose order is impossible is None."""
+    return of_sections(sheet, 0, least_flight(sheet) if sheet.blocks else 0)
 
 
 def best_plan(sheet):
-    """A plan of least figures over all choices, or None where the given order is impossible."""
+    """A plan of least figures over all choices, with the scanner list that is due, or None where the given order is impossible."""
     batches = [timetable.batches_of(sheet, lasts) for lasts in batchings(len(sheet.strips))] if sheet.strips else [[]]
-    jobs = [timetable.jobs_of(sheet, desks) for desks in interleavings(counts_of(sheet))] if sheet.jobs else [[]]
+    jobs = timetable.jobs_of(sheet, least_sorting(sheet, 0)[1]) if sheet.jobs else []
     flights = list(earliest_flights(sheet)) if sheet.blocks else [(None, [])]
     if not flights:
         return None
     order, firsts = min(flights, key=lambda flight: distances.end(sheet.blocks, flight[1]) if sheet.blocks else 0)
-    best_jobs = min(jobs, key=lambda rows: timetable.sorting_figure(sheet, rows))
-    return timetable.plan_of(sheet, min(batches, key=timetable.mosaic_figure), best_jobs, order, firsts)
+    return timetable.plan_of(sheet, min(batches, key=timetable.mosaic_figure), jobs, order, firsts)
 
 
 def of_timetables(sheet, ends=None):
@@ -106,4 +120,4 @@ def of_timetables(sheet, ends=None):
     flight = 0
     if sheet.blocks:
         flight = min(ends.values()) if sheet.order is None else ends.get(sheet.order)
-    return (least_mosaic(sheet, 2) if sheet.strips else 0, least_sorting(sheet, 2) if sheet.jobs else 0, flight)
+    return of_sections(sheet, 2, flight)

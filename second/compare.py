@@ -1,8 +1,9 @@
 """Cases, and their comparison with what a program answers. The program is harness.c over the exported functions.
 
-A planning call is compared by value: number, place, length, every byte of the plan but which of several best choices it takes, and every other byte of
-the buffer and of the bytes behind it. A judging call is compared by its five numbers. A page call is compared by number, place, length and every byte of the
-buffer and behind it; of two pages of one sheet it is also asked whether they are equal exactly where the plans are.
+A planning call is compared by value: number, place, length, every byte of the plan, and every other byte of the buffer and of the bytes behind it. Which of
+several best batchings and which of several best free pass orders the plan takes is left to the program; the scanner list is not. A judging call is compared
+by its five numbers. A page call is compared by number, place, length and every byte of the buffer and behind it; of two pages of one sheet it is also asked
+whether they are equal exactly where the plans are.
 """
 import functools
 import itertools
@@ -21,11 +22,11 @@ BEHIND = 16
 FILL = b"\xA5"
 
 
-def earliest(sheet, plan):
-    """The plan that takes the same batches, scanner list and order as an allowed one and starts everything as early as they allow."""
+def plan_due(sheet, desks, plan):
+    """The plan with this scanner list that takes the same batches and pass order as an allowed one and starts everything as early as they allow."""
     places = {tag: members for tag, _, members in judge.parts_of(sheet, plan)[0]}
     batches = timetable.batches_of(sheet, [plan[at + 3] for at in places[0x90]]) if sheet.strips else []
-    jobs = timetable.jobs_of(sheet, [plan[at + 3] for at in places[0xA0]]) if sheet.jobs else []
+    jobs = timetable.jobs_of(sheet, desks) if sheet.jobs else []
     order, firsts = None, []
     if sheet.blocks:
         order = judge.number(plan, places[0xB0][0] - 8, 8)
@@ -33,8 +34,13 @@ def earliest(sheet, plan):
     return timetable.plan_of(sheet, batches, jobs, order, firsts).bytes()
 
 
+def scanner_list(sheet, plan):
+    """The desk numbers of an allowed plan's sorting, a byte for each; none without a sorting."""
+    return bytes(plan[at + 3] for tag, _, members in judge.parts_of(sheet, plan)[0] if tag == 0xA0 for at in members)
+
+
 class PlanCase:
-    """A sheet to be planned into a buffer of `room` bytes; `least` gives the figures due for a sound sheet."""
+    """A sheet to be planned into a buffer of `room` bytes; `least` gives the figures and the scanner list due for a sound sheet."""
 
     calls = 1
 
@@ -49,35 +55,37 @@ class PlanCase:
 
     @functools.cached_property
     def due(self):
-        """Number and place of the refusal, or 0 and 0; the sheet and its figures where it is accepted."""
+        """Number and place of the refusal, or 0 and 0; for a sheet that is sound but for its order, what it says, its figures and its scanner list."""
         if self.room < ROOM:
-            return (2, 0), None, None
+            return (2, 0), None
         try:
             sheet = reader.read(self.sheet)
         except reader.Refused as refused:
-            return (refused.number, refused.place), None, None
-        figures = self.least(sheet)
-        return ((11, sheet.order_at) if None in figures else (0, 0)), sheet, figures
+            return (refused.number, refused.place), None
+        figures, desks = self.least(sheet)
+        return ((11, sheet.order_at) if None in figures else (0, 0)), (sheet, figures, desks)
 
     def fault(self, answer):
         """What is wrong with the answer, or None."""
         (number, place, length), buffer = struct.unpack_from("<3Q", answer), answer[24:]
-        refusal, sheet, figures = self.due
+        refusal, sound = self.due
         if (number, place) != refusal:
             return "number %d and place %d were due, not %d and %d" % (*refusal, number, place)
         if number and length:
             return "length 0 was due, not %d" % length
         if buffer[length:] != FILL * (len(buffer) - length):
             return "a byte that is no part of a plan was written"
-        return None if number else self.plan_fault(sheet, figures, buffer[:length])
+        return None if number else self.plan_fault(*sound, buffer[:length])
 
-    def plan_fault(self, sheet, figures, plan):
+    def plan_fault(self, sheet, figures, desks, plan):
         verdict = judge.judge_plan(sheet, plan)
         if verdict[0]:
             return "the plan is not allowed: %d at %d" % verdict[:2]
         if verdict[2:] != figures:
             return "figures %s were due, not %s" % (figures, verdict[2:])
-        return None if plan == earliest(sheet, plan) else "a start is later than it need be"
+        if scanner_list(sheet, plan) != desks:
+            return "the scanner list %s was due, not %s" % (desks.hex(" "), scanner_list(sheet, plan).hex(" "))
+        return None if plan == plan_due(sheet, desks, plan) else "a start is later than it need be"
 
     def shown(self):
         return "sheet %s\nplan buffer of %d bytes" % (self.sheet.hex(), self.room)

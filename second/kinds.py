@@ -1,4 +1,11 @@
-"""All kinds of cases. The exhaustive ones are the same for every seed; of the others `count` sets the number, and the seed draws them."""
+"""All kinds of cases. The exhaustive ones are the same for every seed; of the others `count` sets the number, and the seed draws them.
+
+Sortings with ties, which have several best scanner lists, are drawn from the families of sheets.TIES: small times, times in tens, all times equal, equal
+strips at all desks and at each, identical desks, two desks that mirror each other (the strips from the end, or scan for desk times), desk times 1, scan
+times 1, scans so long that no desk is waited for, and desks so long that the scanner is never waited for. They have one to three desks, also with none for
+the middle one or the first, and up to 3 strips of each, where every interleaving is tried, or all 6; some stand beside a mosaic, a flight or both. Of the
+small ones plans with any of the best lists are judged and printed.
+"""
 import itertools
 import random
 
@@ -9,6 +16,7 @@ import pages
 import plans
 import reader
 import sheets
+import timetable
 import tiny
 from compare import AllowedCase, BrokenCase, JudgeCase, PageCase, PagesCase, PlanCase, ROOM
 from reader import field
@@ -16,10 +24,10 @@ from reader import field
 CHUNK = 250
 
 
-def agreed(sheet, figures):
-    """The figures, once the two methods of this program agree."""
-    assert figures == best.best(sheet), "the second program's own methods differ: %s" % (figures,)
-    return figures
+def agreed(sheet, least):
+    """The figures and the scanner list, once the two methods of this program agree on them."""
+    assert least == best.best(sheet), "the second program's own methods differ: %s" % (least,)
+    return least
 
 
 def of_choices(sheet):
@@ -68,6 +76,8 @@ def fixed():
     yield "every tiny mosaic", (PlanCase(sheet, least=of_timetables) for sheet in tiny.mosaics())
     yield "every tiny sorting", (PlanCase(sheet, least=of_timetables) for sheet in tiny.sortings())
     yield "every tiny flight", tiny_flights()
+    yield "every sorting of few interleavings", (PlanCase(sheet, least=of_choices) for sheet in tiny.few_interleavings())
+    yield "every number of strips with equal times", map(PlanCase, tiny.equal_strips())
     yield "every row of up to four fields", map(PlanCase, tiny.field_rows())
     yield "every row of up to five bytes", map(PlanCase, tiny.byte_rows())
     yield "every number of members", map(PlanCase, tiny.counts())
@@ -158,6 +168,41 @@ def sortings(rng, count):
     return of_families(rng, count, sheets.SORTINGS, sheets.sorting, [6, 6, 6])
 
 
+def tied_sortings(rng, count):
+    """Small sortings of every family of ties, each interleaving tried."""
+    for family, _ in itertools.product(sheets.TIES, range(share(count, 80))):
+        yield PlanCase(sheets.tied_sorting(rng, family, sheets.tied_counts(rng, 3)), least=of_choices)
+
+
+def full_tied_sortings(rng, count):
+    """Full sortings of every family of ties, of three desks and of two, and with no strip of the middle desk."""
+    for family, counts in itertools.product(sheets.TIES, ([6, 6, 6], [6, 6, 6], [6, 0, 6], [6, 6])):
+        yield from (PlanCase(sheets.tied_sorting(rng, family, counts)) for _ in range(share(count, 200)))
+
+
+def tied_sheets(rng, count):
+    """Sortings of any number of strips with ties, beside a mosaic or a flight or both."""
+    for family, _ in itertools.product(sheets.TIES, range(share(count, 400))):
+        yield PlanCase(sheets.sheet_around(rng, sheets.tied_sorting(rng, family, sheets.tied_counts(rng, 6))))
+
+
+def sorting_plan(sheet, desks):
+    """The plan of a sheet with a sorting alone that takes this scanner list."""
+    return timetable.plan_of(sheet, [], timetable.jobs_of(sheet, desks), None, []).bytes()
+
+
+def any_best_list(rng, count):
+    """Plans of small sortings with ties, judged and printed: that of the list which is due, and others of the same figure, which are allowed as well."""
+    for family, _ in itertools.product(sheets.TIES, range(share(count, 200))):
+        sheet = sheets.tied_sorting(rng, family, sheets.tied_counts(rng, 2))
+        parsed = reader.read(sheet)
+        best_plans = [sorting_plan(parsed, desks) for desks in brute.best_lists(parsed)]
+        for plan in [best_plans[0], *rng.sample(best_plans, min(3, len(best_plans)))]:
+            yield AllowedCase(sheet, plan)
+            yield PageCase(sheet, plan)
+        yield PagesCase(sheet, rng.choice(best_plans), rng.choice(best_plans))
+
+
 def free_flights(rng, count):
     return of_families(rng, count, sheets.FLIGHTS, sheets.free_flight, 8)
 
@@ -169,7 +214,9 @@ def ordered_flights(rng, count):
 DRAWN = {
     "small sheets": small_sheets, "plans for small sheets": plans_for_small, "mosaics of 40 strips": mosaics, "sortings of 6 + 6 + 6 strips": sortings,
     "flights of 8 free blocks": free_flights, "flights of 32 blocks in order": ordered_flights, "large sheets": large_sheets,
-    "full sheets": full_sheets, "plans for full sheets": plans_for_full, "pages for small sheets": pages_for_small, "pages for full sheets": pages_for_full,
+    "full sheets": full_sheets, "small sortings with ties": tied_sortings, "full sortings with ties": full_tied_sortings,
+    "sortings with ties beside other sections": tied_sheets, "plans with any of the best scanner lists": any_best_list,
+    "plans for full sheets": plans_for_full, "pages for small sheets": pages_for_small, "pages for full sheets": pages_for_full,
 }
 
 

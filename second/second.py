@@ -8,8 +8,8 @@ difference ends the run with status 1 and is printed with the seed and the case.
 
     reader.py      sheets, read and checked
     timetable.py   the rules: times of a choice, figures, plan bytes; distances.py: the flight's
-    best.py        the least figures of sections of any size
-    brute.py       the least figures of small sections, by trying everything
+    best.py        the least figures of sections of any size, and the scanner list that is due
+    brute.py       the same of small sections, by trying everything
     judge.py       the judge; page.py: the page
     tiny.py        every tiny sheet and plan of bounded kinds
     longest.py     the longest sections, and their plans up to the ceiling

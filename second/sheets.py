@@ -1,6 +1,7 @@
 """Sheets: their fields, random small ones, and full sections of several families.
 
-A family is a row of functions, each of which draws a time.
+A family is a row of functions, each of which draws a time. A family of TIES, of sortings that have many best scanner lists, draws the strips of all desks
+together.
 """
 import struct
 
@@ -81,6 +82,66 @@ SORTINGS = {
     "1 or 60,000": (either(1, MOST_TIME), either(1, MOST_TIME)),
 }
 
+def strips_of(scan, time):
+    """Draws so many strips of a desk, each with its own times."""
+    return lambda rng, n: [(scan(rng), time(rng)) for _ in range(n)]
+
+
+def equal_strips(scan, time):
+    """Draws so many strips of a desk, all with the same times."""
+    return lambda rng, n: [(scan(rng), time(rng))] * n
+
+
+def of_own(draw):
+    """Each of three desks has strips of its own."""
+    return lambda rng, n: [draw(rng, n) for _ in range(3)]
+
+
+def of_one(draw, *changes):
+    """Strips are drawn once, and each of three desks has them, changed in its own way."""
+    def of_desks(rng, n):
+        strips = draw(rng, n)
+        return [change(strips) for change in changes]
+    return of_desks
+
+
+def unchanged(strips):
+    return strips
+
+
+def from_the_end(strips):
+    return strips[::-1]
+
+
+def exchanged(strips):
+    """Each scan time for the desk time."""
+    return [(time, scan) for scan, time in strips]
+
+
+def all_equal(rng, n):
+    """Strips whose scan and desk times are all the same number."""
+    time = rng.choice((1, 2, 9, rng.randint(1, MOST_TIME)))
+    return [(time, time)] * n
+
+
+# The strips of three desks, so many of each.
+TIES = {
+    "times of 1 or 2": of_own(strips_of(span(1, 2), span(1, 2))),
+    "times of 1 to 4": of_own(strips_of(span(1, 4), span(1, 4))),
+    "times in tens": of_own(strips_of(either(10, 20, 30), either(10, 20, 30, 60))),
+    "all times equal": of_one(all_equal, unchanged, unchanged, unchanged),
+    "equal strips": of_one(equal_strips(span(1, 9), span(1, 30)), unchanged, unchanged, unchanged),
+    "equal strips of each desk": of_own(equal_strips(span(1, 3), span(1, 6))),
+    "identical desks": of_one(strips_of(span(1, 5), span(1, 9)), unchanged, unchanged, unchanged),
+    "mirrored desks": of_one(strips_of(span(1, 4), span(1, 4)), unchanged, from_the_end, unchanged),
+    "desks 1 and 3 mirrored": of_one(strips_of(span(1, 4), span(1, 9)), unchanged, unchanged, from_the_end),
+    "scan and desk times exchanged": of_one(strips_of(span(1, 5), span(1, 5)), unchanged, exchanged, unchanged),
+    "desk times 1": of_own(strips_of(span(1, 3), span(1, 1))),
+    "scan times 1": of_own(strips_of(span(1, 1), span(1, 4))),
+    "equal scans, short desk times": of_own(strips_of(span(9, 9), span(1, 9))),
+    "long equal desk times": of_own(strips_of(span(1, 2), span(20, 20))),
+}
+
 # First pass, delay, second pass.
 FLIGHTS = {
     "equal times": (span(5, 5), span(20, 20), span(5, 5)),
@@ -101,12 +162,23 @@ def mosaic(rng, family, strips):
     return mosaic_head(stations, mount(rng)) + b"".join(map(strip, rows))
 
 
+def mixed_desks(rng, counts):
+    """The desks of so many strips of each, in any order."""
+    desks = [desk + 1 for desk, count in enumerate(counts) for _ in range(count)]
+    rng.shuffle(desks)
+    return desks
+
+
 def sorting(rng, family, counts):
     """So many strips of each desk, the desks mixed in the sheet."""
     scan, time = SORTINGS[family]
-    turns = [desk + 1 for desk, count in enumerate(counts) for _ in range(count)]
-    rng.shuffle(turns)
-    return sorting_head(len(counts)) + b"".join(job(desk, scan(rng), time(rng)) for desk in turns)
+    return sorting_head(len(counts)) + b"".join(job(desk, scan(rng), time(rng)) for desk in mixed_desks(rng, counts))
+
+
+def tied_sorting(rng, family, counts):
+    """The same, of a family of TIES."""
+    queues = [iter(strips) for strips in TIES[family](rng, max(counts))]
+    return sorting_head(len(counts)) + b"".join(job(desk, *next(queues[desk - 1])) for desk in mixed_desks(rng, counts))
 
 
 def blocks_of(rng, family, n):
@@ -148,6 +220,12 @@ def random_counts(rng, most):
     return counts
 
 
+def tied_counts(rng, most):
+    """Numbers of strips of one to three desks: any, the same for each, and with none for the middle desk or the first."""
+    n, m = rng.randint(1, most), rng.randint(1, most)
+    return rng.choice((random_counts(rng, most), [n, n], [n, n, n], [n, 0, m], [n, 0, n], [0, n, m]))
+
+
 def random_sheet(rng, strips, of_desk, free, ordered):
     """One to three sections of any families, with at most so many members."""
     sections, out = rng.choice(("m", "s", "f", "ms", "mf", "sf", "msf", "msf")), b""
@@ -173,6 +251,13 @@ def full_sheet(rng):
     """All three sections, as large as they can be."""
     kind, n = rng.choice(((free_flight, 8), (ordered_flight, 32), (ordered_flight, 32)))
     return mosaic(rng, any_family(rng, MOSAICS), 40) + sorting(rng, any_family(rng, SORTINGS), [6, 6, 6]) + kind(rng, any_family(rng, FLIGHTS), n)
+
+
+def sheet_around(rng, middle):
+    """A small mosaic, this sorting, and a small flight; or one of the two with it."""
+    others = rng.choice(("m", "f", "mf", "mf"))
+    before = mosaic(rng, any_family(rng, MOSAICS), rng.randint(1, 6)) if "m" in others else b""
+    return before + middle + (free_flight(rng, any_family(rng, FLIGHTS), rng.randint(1, 4)) if "f" in others else b"")
 
 
 def longest_planned():

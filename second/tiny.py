@@ -8,6 +8,13 @@ Sheets whose least figures are found by trying timetables, idle ones too:
 - flights of one or two blocks: passes of 1 or 2, delays 0 to 3, without order and with every order number of up to two bits too many;
 - flights of three blocks: passes of 1, delays 0, 1, 2 or 4, without order and with every order number of six bits.
 
+Sortings whose least figure and scanner list are found by trying every interleaving:
+- three desks: none to two strips at each, of scan and desk times 1 or 2 one is always 1;
+- two desks: none to three strips at each, scan time 1, desk times 1 or 2, and the same with three desks of which the middle one has none.
+
+Sortings whose best scanner lists are many:
+- three desks: every number of strips of each, all with scan and desk times 1 and 1, 1 and 2, 1 and 3, 2 and 1, or 60,000 and 60,000.
+
 Sheets whose refusals, where they have one, are compared:
 - every row of none to four fields of a list of good and bad ones;
 - every row of none to five bytes of a list;
@@ -66,6 +73,27 @@ def three_desks():
 def sortings():
     yield from two_desks()
     yield from three_desks()
+
+
+def desk_after_desk(queues):
+    """A sorting with these scan and desk times of the strips of each desk."""
+    return sorting_head(len(queues)) + b"".join(job(desk, *times) for desk, queue in enumerate(queues, 1) for times in queue)
+
+
+def few_interleavings():
+    """Small times, so that many sheets have several best lists. Some have three desks and none for the middle one."""
+    for strips in ([(1, 1), (1, 2)], [(1, 1), (2, 1)]):
+        yield from (desk_after_desk(queues) for queues in itertools.product(rows(strips, 0, 2), repeat=3) if any(queues))
+    for one, other in itertools.product(rows([(1, 1), (1, 2)], 0, 3), repeat=2):
+        if one or other:
+            yield desk_after_desk([one, other])
+            yield desk_after_desk([one, (), other])
+
+
+def equal_strips():
+    for times, counts in itertools.product(((1, 1), (1, 2), (1, 3), (2, 1), (MOST_TIME, MOST_TIME)), itertools.product(range(7), repeat=3)):
+        if any(counts):
+            yield desk_after_desk([[times] * count for count in counts])
 
 
 def flights():
