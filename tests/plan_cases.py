@@ -1,6 +1,7 @@
 #!/usr/bin/env python3
 """Runs the program plan_sheet on sheets and compares what it writes: the plan of each worked sheet of 01, and the refusal of every sheet that sheet_cases.py turns back.
-Where a sheet has several best plans, 01 leaves the choice to the program: then the figure of the plan is compared, and the program judge_plan must allow it.
+Where a sheet has several best batchings or free pass orders, the choice is left to the program: then the figures of the plan and the bytes of its sorting are
+compared, and the program judge_plan must allow it. Of several best scanner lists one is due: its bytes are compared, and judge_plan must allow the others too.
 
     plan_cases.py PLANNER JUDGE
 """
@@ -18,15 +19,22 @@ from sheet_cases import alternate, block, field, flight, job, mosaic, order, sor
 
 CASES = []
 BEST = []
+OTHERS = []
 
 
 def planned(name, sheet, plan):
     CASES.append((name, sheet, plan))
 
 
-def best(name, sheet, *figures):
-    """A sheet with several best plans, and the figures of its sections that they have: mosaic, sorting, flight."""
-    BEST.append((name, sheet, figures))
+def best(name, sheet, *figures, sorting_part=b""):
+    """A sheet with several best plans, the figures of its sections that they have (mosaic, sorting, flight), and the bytes of their sorting."""
+    BEST.append((name, sheet, figures, sorting_part))
+
+
+def tied(name, sheet, plan, *others):
+    """A sorting with several best plans: the one that is due, and others, which are allowed."""
+    planned(name, sheet, plan)
+    OTHERS.extend((name, sheet, other, (0, int.from_bytes(plan[3:7], "little"), 0)) for other in (plan, *others))
 
 
 def refused(name, sheet, number, place):
@@ -80,7 +88,45 @@ planned("two blocks", judged.F, passes(5, 0xC, (0, 3), (1, 4)))
 planned("order A", judged.A + order(0xA), passes(9, 0xA, (0, 1), (2, 8)))
 planned("eight blocks and an order", judged.E + order(0xF2C4), passes(30, 0xF2C4, *judged.EIGHT))
 planned("all three sections", judged.ALL, judged.PLAN)
-best("two desks, either first", judged.T, 0, 5, 0)
+
+# Of several best scanner lists that with the lower desk at the first place where they part.
+ONE_TWO, TWO_ONE = jobs(5, (1, 1, 0, 1), (2, 1, 1, 2)), jobs(5, (2, 1, 0, 1), (1, 1, 1, 2))
+tied("two desks, 5 either way: desk 1 first", judged.T, ONE_TWO, TWO_ONE)
+tied("the same, desk 2 first in the sheet", sorting(2) + job(2) + job(1), ONE_TWO, TWO_ONE)
+planned("the same between a mosaic and a flight", judged.M + judged.T + judged.F, judged.BEST + ONE_TWO + passes(5, 0xC, (0, 3), (1, 4)))
+tied("desks 1 and 3, none for desk 2", sorting(3) + job(3) + job(1), jobs(5, (1, 1, 0, 1), (3, 1, 1, 2)), jobs(5, (3, 1, 0, 1), (1, 1, 1, 2)))
+tied("desks 2 and 3, none for desk 1", sorting(3) + job(3) + job(2), jobs(5, (2, 1, 0, 1), (3, 1, 1, 2)), jobs(5, (3, 1, 0, 1), (2, 1, 1, 2)))
+# Scans of 1 and desk times of 1: no desk is waited for, so every list has the same figure, and desk 1 goes first to its last strip.
+tied(
+    "three strips of desk 1, one of desk 2, every list best",
+    sorting(2) + job(2) + job(1) * 3,
+    jobs(14, (1, 1, 0, 1), (1, 2, 1, 2), (1, 3, 2, 3), (2, 1, 3, 4)),
+    jobs(14, (2, 1, 0, 1), (1, 1, 1, 2), (1, 2, 2, 3), (1, 3, 3, 4)),
+)
+# Desk 2 must begin. Behind it both lists have scans that end at 4 and 7.
+tied(
+    "a tie at the second place",
+    sorting(2) + job(1, 3, 1) + job(2, 1, 1) + job(2, 3, 1),
+    jobs(15, (2, 1, 0, 1), (1, 1, 1, 4), (2, 2, 4, 7)),
+    jobs(15, (2, 1, 0, 1), (2, 2, 1, 4), (1, 1, 4, 7)),
+)
+# The scans end at 3, 4, 6, 8 or at 2, 4, 7, 8 or at 2, 5, 6, 8: 21 each time, and more in the other lists.
+tied(
+    "the longer scan first",
+    sorting(2) + job(1, 3, 1) + job(1, 1, 1) + job(2, 2, 1) * 2,
+    jobs(25, (1, 1, 0, 3), (1, 2, 3, 4), (2, 1, 4, 6), (2, 2, 6, 8)),
+    jobs(25, (2, 1, 0, 2), (2, 2, 2, 4), (1, 1, 4, 7), (1, 2, 7, 8)),
+    jobs(25, (2, 1, 0, 2), (1, 1, 2, 5), (1, 2, 5, 6), (2, 2, 6, 8)),
+)
+# Both long desk jobs begin before any second strip is scanned; the second strips wait for their desks, so that their scans may stand in any order.
+tied(
+    "two identical desks with long first strips",
+    sorting(2) + job(1, 1, 5) + job(2, 1, 5) + job(1, 1, 1) + job(2, 1, 1),
+    jobs(28, (1, 1, 0, 1), (2, 1, 1, 2), (1, 2, 2, 6), (2, 2, 3, 7)),
+    jobs(28, (1, 1, 0, 1), (2, 1, 1, 2), (2, 2, 2, 7), (1, 2, 3, 6)),
+    jobs(28, (2, 1, 0, 1), (1, 1, 1, 2), (2, 2, 2, 6), (1, 2, 3, 7)),
+    jobs(28, (2, 1, 0, 1), (1, 1, 1, 2), (1, 2, 2, 7), (2, 2, 3, 6)),
+)
 
 # Order 3 for two blocks is not proper. Eight blocks without order are planned, nine are 10, and nine with an order are planned.
 refused("order 3 for two blocks", flight() + block() * 2 + order(3), 9, 21)
@@ -102,12 +148,13 @@ planned(
 )
 
 # The longest sections: full ones in which every time is 60,000. The strips are ready at T, 2 T, .. 40 T, with any number of stations.
-# The k-th strip that is scanned is finished at (k + 1) T or later: 2 T + 3 T + .. + 19 T = 189 T at least, and so much with the desks in turn.
+# The k-th strip that is scanned is finished at (k + 1) T or later: 2 T + 3 T + .. + 19 T = 189 T at least, and so much in every list, as no desk is waited for.
 SUM = least_sum([k * T for k in range(1, 41)], T, [T] * 40)
 for stations in (1, 2, 3, 4):
     best("40 strips of %d stations, time 60,000 in every time" % stations, mosaic(stations, T) + strip(*[T] * (stations + 1)) * 40, SUM, 0, 0)
 best("40 strips, a mount of 59,999", mosaic(1, T - 1) + strip(T, T) * 40, least_sum([k * T for k in range(1, 41)], T - 1, [T] * 40), 0, 0)
-best("6 + 6 + 6 strips, time 60,000 in every time", sheets.LONG_SORTING, 0, 189 * T, 0)
+DESK_AFTER_DESK = jobs(189 * T, *[(k // 6 + 1, k % 6 + 1, k * T, (k + 1) * T) for k in range(18)])
+tied("6 + 6 + 6 strips, time 60,000 in every time", sheets.LONG_SORTING, DESK_AFTER_DESK, jobs(189 * T, *judged.IN_TURN))
 for number, figure, starts in [(judged.BY_ONE, 96 * T, judged.ONE_BY_ONE), (judged.BY_TWO, 64 * T, judged.TWO_BY_TWO)]:
     planned("32 blocks, time 60,000 in every time, order %X" % number, judged.LONG_FLIGHT + order(number), passes(figure, number, *starts))
 # Two by two the passes leave no gap. Three blocks that are open at once need a delay for two passes.
@@ -123,8 +170,9 @@ planned(
     passes(33 * PASS + T, FIRSTS_FIRST, *[(k * PASS, (k + 1) * PASS + T) for k in range(32)]),
 )
 refused("the same with passes one second longer", flight() + block(PASS + 1, T, PASS + 1) * 32 + order(FIRSTS_FIRST), 11, 3 + 9 * 32)
-best("the longest sections", sheets.LONG, SUM, 189 * T, 96 * T)
-best("the longest sections, a free flight", sheets.LONG_MOSAIC + sheets.LONG_SORTING + EIGHT_LONG, SUM, 189 * T, 16 * T)
+best("the longest sections", sheets.LONG, SUM, 189 * T, 96 * T, sorting_part=DESK_AFTER_DESK)
+FREE_LONG = sheets.LONG_MOSAIC + sheets.LONG_SORTING + EIGHT_LONG
+best("the longest sections, a free flight", FREE_LONG, SUM, 189 * T, 16 * T, sorting_part=DESK_AFTER_DESK)
 
 # 11 at the order field, also where other sections could be planned.
 refused("order C cannot be kept", judged.A + order(0xC), 11, len(judged.A))
@@ -162,13 +210,18 @@ def main(program, judge):
         if plan != due:
             wrong += 1
             print("%s: sheet %s\n  due     %s\n  written %s" % (name, sheet.hex(), due.hex(), plan.hex()))
-    for name, sheet, figures in BEST:
+    for name, sheet, figures, part in BEST:
         plan = written(program, sheet)
+        verdict = figures_judged(judge, sheet, plan)
+        if verdict != (0, 0, *figures) or part not in plan:
+            wrong += 1
+            print("%s: sheet %s\n  due     figures %s, sorting %s\n  written %s\n  judged  %s" % (name, sheet.hex(), figures, part.hex(), plan.hex(), verdict))
+    for name, sheet, plan, figures in OTHERS:
         verdict = figures_judged(judge, sheet, plan)
         if verdict != (0, 0, *figures):
             wrong += 1
-            print("%s: sheet %s\n  due     figures %s\n  written %s\n  judged  %s" % (name, sheet.hex(), figures, plan.hex(), verdict))
-    print("%d sheets planned or refused by %s, %d wrong" % (len(CASES) + len(BEST), program, wrong))
+            print("%s: sheet %s, plan %s\n  due     figures %s\n  judged  %s" % (name, sheet.hex(), plan.hex(), figures, verdict))
+    print("%d sheets planned or refused by %s, %d best sortings judged, %d wrong" % (len(CASES) + len(BEST), program, len(OTHERS), wrong))
     sys.exit(1 if wrong else 0)
 
 
