@@ -31,6 +31,7 @@ static const struct family families[] = {
     {"scan-heavy", 0, NONE, 0, MOST_TIME, SCAN_HEAVY, FREE_RANDOM, long_times},
     {"desk-heavy", 0, NONE, 0, MOST_TIME, DESK_HEAVY, FREE_RANDOM, long_times},
     {"three identical desks", 0, NONE, 0, MOST_TIME, IDENTICAL_DESKS, FREE_RANDOM, long_times},
+    {"equal strips at all desks", 0, NONE, 0, MOST_TIME, EQUAL_STRIPS, FREE_RANDOM, long_times},
     {"many impossible free orders", 0, NONE, 0, MOST_TIME, RANDOM, FREE_MANY_IMPOSSIBLE, long_times},
     {"32 blocks, first passes first", 0, NONE, 0, MOST_TIME, RANDOM, FIRSTS_FIRST, long_times},
     {"one member in each section", 0, ONE_MEMBER_EACH, 0, MOST_TIME, RANDOM, FREE_RANDOM, long_times},

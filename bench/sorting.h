@@ -237,29 +237,44 @@ static inline struct sorting_plan sorting_in_c(const struct sorting *section, u6
     return plan;
 }
 
-enum sorting_family { EQUAL, RANDOM, RANDOM_SMALL, EXTREME, SCAN_HEAVY, DESK_HEAVY, RISING_SCANS, IDENTICAL_DESKS, PROPORTIONAL, SORTING_FAMILIES };
+enum sorting_family {
+    EQUAL, RANDOM, RANDOM_SMALL, EXTREME, SCAN_HEAVY, DESK_HEAVY, RISING_SCANS, IDENTICAL_DESKS, PROPORTIONAL, EQUAL_BUT_ONE, EQUAL_STRIPS, IDENTICAL_SMALL,
+    SORTING_FAMILIES
+};
 
 static const char *const sorting_names[] = {
     "all times equal", "random from 1 on", "random 1..5", "times 1 or the greatest", "scan-heavy", "desk-heavy", "rising scans per desk",
-    "three identical desks", "desk up to 3 times scan",
+    "three identical desks", "desk up to 3 times scan", "all times equal but one", "equal, desk 1..2 x scan", "identical desks, 1..5",
 };
+
+/* The strip whose times strip i has, or i where its times are its own. With all strips equal the three desks are identical too. */
+static inline int same_strip(enum sorting_family family, int i) {
+    if (family == EQUAL || family == EQUAL_STRIPS)
+        return 0;
+    return (family == IDENTICAL_DESKS || family == IDENTICAL_SMALL) && i >= 6 ? i - 6 : i;
+}
 
 /* The times of strip i, as they stand in the arrays, none above `most`: a desk's six rising scans rise by at most sixteen hundredths of it each. */
 static inline void random_strip(struct sorting *s, enum sorting_family family, u64 most, int i) {
     u64 *scan = s->scan + i, *desk = s->desk + i;
-    *scan = any(1, family == DESK_HEAVY ? most / 10 : family == RANDOM_SMALL ? 5 : family == PROPORTIONAL ? most / 3 : most);
-    *desk = any(1, family == SCAN_HEAVY ? most / 10 : family == RANDOM_SMALL ? 5 : family == PROPORTIONAL ? 3 * *scan : most);
+    bool small = family == RANDOM_SMALL || family == IDENTICAL_SMALL;
+    *scan = any(1, family == DESK_HEAVY ? most / 10 : small ? 5 : family == PROPORTIONAL ? most / 3 : most);
+    *desk = any(1, family == SCAN_HEAVY ? most / 10 : small ? 5 : family == PROPORTIONAL ? 3 * *scan : most);
     if (family == EXTREME) {
         *scan = *scan <= most / 2 ? 1 : most;
         *desk = *desk <= most / 2 ? 1 : most;
     }
     if (family == RISING_SCANS)
         *scan = (i % 6 > 0 ? scan[-1] : 0) + any(1, most * 16 / 100);
-    if ((family == IDENTICAL_DESKS && i >= 6) || (family == EQUAL && i > 0)) {
-        int from = family == EQUAL ? 0 : i - 6;
-        *scan = s->scan[from];
-        *desk = family == EQUAL ? *scan : s->desk[from];
+    if (family == EQUAL_STRIPS) {
+        *scan = any(1, most / 2);
+        *desk = any(*scan, 2 * *scan);
     }
+    if (family == EQUAL || (family == EQUAL_BUT_ONE && i > 0))
+        *desk = *scan = s->scan[0];
+    int from = same_strip(family, i);
+    *scan = s->scan[from];
+    *desk = s->desk[from];
 }
 
 /* A full section: 6 strips at each of 3 desks, with times up to `most`. */
