@@ -141,7 +141,7 @@ def pages_for_small(rng, count):
 
 
 def pages_for_full(rng, count):
-    for _ in range(share(count, 80)):
+    for _ in range(share(count, 40)):
         sheet = sheets.full_sheet(rng)
         yield from itertools.starmap(PageCase, pages.drawn(rng, sheet))
         yield from itertools.starmap(PagesCase, pages.pairs(rng, sheet))
@@ -170,7 +170,7 @@ def sortings(rng, count):
 
 def tied_sortings(rng, count):
     """Small sortings of every family of ties, each interleaving tried."""
-    for family, _ in itertools.product(sheets.TIES, range(share(count, 80))):
+    for family, _ in itertools.product(sheets.TIES, range(share(count, 40))):
         yield PlanCase(sheets.tied_sorting(rng, family, sheets.tied_counts(rng, 3)), least=of_choices)
 
 
@@ -182,7 +182,7 @@ def full_tied_sortings(rng, count):
 
 def tied_sheets(rng, count):
     """Sortings of any number of strips with ties, beside a mosaic or a flight or both."""
-    for family, _ in itertools.product(sheets.TIES, range(share(count, 400))):
+    for family, _ in itertools.product(sheets.TIES, range(share(count, 200))):
         yield PlanCase(sheets.sheet_around(rng, sheets.tied_sorting(rng, family, sheets.tied_counts(rng, 6))))
 
 

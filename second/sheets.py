@@ -82,6 +82,7 @@ SORTINGS = {
     "1 or 60,000": (either(1, MOST_TIME), either(1, MOST_TIME)),
 }
 
+
 def strips_of(scan, time):
     """Draws so many strips of a desk, each with its own times."""
     return lambda rng, n: [(scan(rng), time(rng)) for _ in range(n)]
@@ -124,7 +125,7 @@ def all_equal(rng, n):
     return [(time, time)] * n
 
 
-# The strips of three desks, so many of each.
+# The strips of three desks, the same number of each.
 TIES = {
     "times of 1 or 2": of_own(strips_of(span(1, 2), span(1, 2))),
     "times of 1 to 4": of_own(strips_of(span(1, 4), span(1, 4))),

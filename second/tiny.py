@@ -13,7 +13,7 @@ Sortings whose least figure and scanner list are found by trying every interleav
 - two desks: none to three strips at each, scan time 1, desk times 1 or 2, and the same with three desks of which the middle one has none.
 
 Sortings whose best scanner lists are many:
-- three desks: every number of strips of each, all with scan and desk times 1 and 1, 1 and 2, 1 and 3, 2 and 1, or 60,000 and 60,000.
+- three desks: every number of strips of each, all with scan and desk times 1 and 1, 1 and 2, 1 and 3, 2 and 1, 2 and 3, or 60,000 and 60,000.
 
 Sheets whose refusals, where they have one, are compared:
 - every row of none to four fields of a list of good and bad ones;
@@ -91,9 +91,8 @@ def few_interleavings():
 
 
 def equal_strips():
-    for times, counts in itertools.product(((1, 1), (1, 2), (1, 3), (2, 1), (MOST_TIME, MOST_TIME)), itertools.product(range(7), repeat=3)):
-        if any(counts):
-            yield desk_after_desk([[times] * count for count in counts])
+    for times in ((1, 1), (1, 2), (1, 3), (2, 1), (2, 3), (MOST_TIME, MOST_TIME)):
+        yield from (desk_after_desk([[times] * count for count in counts]) for counts in itertools.product(range(7), repeat=3) if any(counts))
 
 
 def flights():

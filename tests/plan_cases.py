@@ -148,7 +148,7 @@ planned(
 )
 
 # The longest sections: full ones in which every time is 60,000. The strips are ready at T, 2 T, .. 40 T, with any number of stations.
-# The k-th strip that is scanned is finished at (k + 1) T or later: 2 T + 3 T + .. + 19 T = 189 T at least, and so much in every list, as no desk is waited for.
+# The k-th strip that is scanned is finished at (k + 1) T or later: 2 T + 3 T + .. + 19 T = 189 T at least. No desk is waited for, so every list has that.
 SUM = least_sum([k * T for k in range(1, 41)], T, [T] * 40)
 for stations in (1, 2, 3, 4):
     best("40 strips of %d stations, time 60,000 in every time" % stations, mosaic(stations, T) + strip(*[T] * (stations + 1)) * 40, SUM, 0, 0)
