@@ -35,15 +35,21 @@ static u64 least_rest(const struct sorting *s, const struct state *x, size_t d) 
     return sum;
 }
 
-/* What the rest of all desks adds at least: as if the desks were free and every scan as short as the shortest. */
+/* What the rest of all desks adds at least: as if the desks were free and the scans could stand in any order, the shortest first. */
 static u64 least_scans(const struct sorting *s, const struct state *x) {
-    u64 shortest = MOST_TIME, left = s->strips - x->placed, sum = 0;
+    u64 scans[MOST_JOBS], sum = 0;
+    size_t left = 0;
     for (size_t d = 0; d < s->desks; d++)
         for (size_t k = x->taken[d]; k < s->counts[d]; k++) {
-            shortest = s->scan[d][k] < shortest ? s->scan[d][k] : shortest;
+            size_t i = left++;
+            for (; i > 0 && scans[i - 1] > s->scan[d][k]; i--)
+                scans[i] = scans[i - 1];
+            scans[i] = s->scan[d][k];
             sum += s->desk[d][k];
         }
-    return left * x->time + left * (left + 1) / 2 * shortest + sum;
+    for (size_t i = 0; i < left; i++)
+        sum += (left - i) * scans[i];
+    return left * x->time + sum;
 }
 
 static u64 least_figure(const struct sorting *s, const struct state *x) {
