@@ -1,7 +1,7 @@
 -- What holds of the plan that the program takes for a sheet, for every row of bytes as a sheet: it is lawful, no plan that obeys the rules under any ceiling
--- has a smaller figure, its sorting is the one that Req 03 takes, it starts as early as any, and the flight is called impossible exactly where no timetable keeps the given order. `readSheet` is what
--- reading gives (crate sheet), `PlanUnder`, `PlanLawful` and `AllowedFor` are the rules' (crate rules), `chosenPlan` is Call.antt's. What that means for a
--- call is said in crate demands.
+-- has a smaller figure, its sorting is the one that Req 03 takes, it starts as early as any, and the flight is called impossible exactly where no timetable
+-- keeps the given order. `readSheet` is what reading gives (crate sheet), `PlanUnder`, `PlanLawful`, `AllowedFor` and `SortingTaken` are of crate rules,
+-- `chosenPlan` is Call.antt's. What that means for a call is said in crate demands.
 use Prim.Native.Nat.{ℕ, _≤_, _<_}
 use mathlib.Core.Path.{_≡_, refl, sym, subst, _∙_}
 use mathlib.Core.Bool.{Bool, true, false, true≢false}

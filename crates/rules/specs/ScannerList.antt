@@ -34,6 +34,6 @@ pub record SortingTaken (s : SortingSection) (js : List Job) : Type 0 where
   -- "take the one whose scanner list has the lower desk number at the first place where they part": every list of the same figure is this one or comes after it
   pub comes-first : (ks : List Job) → SortingLawful s ks → sortingFigure s ks ≡ sortingFigure s js
       → SameOrAfter (scannerList ks) (scannerList js)
-  -- 01: "The planner starts every .. scan, desk job .. as early as its .. order allow[s]": no timetable with the same list starts one sooner
+  -- 01: "The planner starts every mount, scan, desk job and pass as early as its batches or order allow": no timetable with the same list starts one sooner
   pub starts-early : (ks : List Job) → SortingLawful s ks → scannerList ks ≡ scannerList js → (i : ℕ) → i < length js
       → (jobAt js i .scan ≤ jobAt ks i .scan) × (jobAt js i .start ≤ jobAt ks i .start)

@@ -37,7 +37,7 @@ same-list js ks e h =
 pub same-desks : (js ks : List Job) → scannerList js ≡ scannerList ks → (i : ℕ) → jobAt js i .desk ≡ jobAt ks i .desk
 same-desks js ks e i = sym (list-at js i) ∙ ap (λ (l : List ℕ). getD l i 0) e ∙ list-at ks i
 
--- two rows of numbers, by their place, part first at a place below n; they do, or they agree below n
+-- two rows of numbers, given by place, part at a first place below n, or they agree below n
 pub record FirstParting (f g : ℕ → ℕ) (n : ℕ) : Type 0 where
   pub place : ℕ
   pub within : place < n
