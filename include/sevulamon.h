@@ -122,9 +122,9 @@ struct sevulamon_judged {
  * that is only read; one that is written, for a plan or a page, belongs to one call at a time. */
 
 /* Plans a sheet. An accepted call writes the plan at the start of the buffer and no byte behind it;
- * a refused one writes nothing. The two buffers must not overlap. No plan has a smaller figure in
- * any section. Of several sortings of that figure the one is taken that has the lower desk number
- * at the first place where they part, in the scanner's order. */
+ * a refused one writes nothing. The two buffers must not overlap. No allowed plan of the sheet has
+ * a smaller figure in any section. Of several best sortings the one is taken that has the lower
+ * desk number at the first place where they part, in the scanner's order. */
 struct sevulamon_answer sevulamon_plan(const uint8_t *sheet, size_t sheet_length,
                                        uint8_t *plan, size_t plan_length);
 

@@ -34,7 +34,7 @@ use Rattle.judge_laws.specs.Sections.{MosaicTrue, judged-mosaic, Sorting
 use Rattle.judge_laws.specs.Laid.{part-written, head-written, members-written}
 use Rattle.judge_laws.specs.Outcomes.{LayoutRight, PlanRight, right-present}
 
--- the values of each head, and the bytes of each section
+-- the values of each head, and the bytes of each section (`mosaicFields` and its kin) in the form that the laws of Laid.antt speak of
 abbrev mosaicHeadValues : Sheet → Plan → List ℕ
 mosaicHeadValues s p = mosaicFigure (s .mosaic) (p .batches) ∷ []
 

@@ -65,7 +65,7 @@ module _ (s : Sheet) (p : Plan) (sound : SheetSound s) (L : PlanLawful s p) wher
     mosaic-figure = uncut 31 (mosaicFigure (s .mosaic) (p .batches)) (omega arith) (omega (arith, mosaic-figure-most (s .mosaic) (p .batches) (sound .mosaic) (L .mosaic)));
     sorting-figure = uncut 31 (sortingFigure (s .sorting) (p .jobs)) (omega arith) (omega (arith, sorting-figure-most (s .sorting) (p .jobs) (sound .sorting) (L .sorting)));
     flight-figure = uncut 31 (flightFigure (s .flight) (p .passes)) (omega arith) (omega (arith, flight-figure-most (s .flight) (p .passes) (sound .flight) (L .flight)));
-    batch-number = λ i h. uncut 3 (i + 1) (omega arith) (omega (arith, few-batches));
+    batch-number = λ i h. uncut _ (i + 1) (omega arith) (omega (arith, few-batches));
     batch-last = λ i h. uncut 4 (batchAt (p .batches) i .last) (omega arith) (omega (arith, batch-last (s .mosaic) (p .batches) (sound .mosaic) (L .mosaic) i h));
     batch-start = λ i h. time (batchAt (p .batches) i .start) (batch-start (s .mosaic) (p .batches) (sound .mosaic) (L .mosaic) i h);
     batch-finish = λ i h. time (batchAt (p .batches) i .finish) (L .mosaic .each i h .within);

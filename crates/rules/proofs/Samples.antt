@@ -219,9 +219,9 @@ listAfter = 1 ∷ 2 ∷ 3 ∷ 1 ∷ []
 
 pub lists-sample : ComesBefore listBefore listAfter × (ComesBefore listAfter listBefore → ⊥) × (ComesBefore (1 ∷ []) (1 ∷ 2 ∷ []) → ⊥)
 lists-sample = (
-  record { place = 2; in-both = (omega arith, omega arith); same = λ i l. same i (omega arith); lower = omega arith },
-  λ b. back (b .place) (b .same) (b .lower),
-  λ b. beginning (b .place) (omega (arith, b .in-both .0)) (b .lower),
+  record { place = 2; in-both = (omega arith, omega arith); same = λ i l. omega (arith, same i (omega arith)); lower = omega arith },
+  λ b. back (b .place) (λ k h. omega (arith, b .same k h)) (omega (arith, b .lower)),
+  λ b. beginning (b .place) (omega (arith, b .in-both)) (omega (arith, b .lower)),
 )
   where
     same : (i : ℕ) → i < 2 → getD listBefore i 0 ≡ getD listAfter i 0
