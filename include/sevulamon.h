@@ -52,8 +52,8 @@
 
 /* The minor number rises with every change request that lands (docs/LANDINGS.md). */
 #define SEVULAMON_VERSION_MAJOR 1
-#define SEVULAMON_VERSION_MINOR 3
-#define SEVULAMON_VERSION "1.3"
+#define SEVULAMON_VERSION_MINOR 4
+#define SEVULAMON_VERSION "1.4"
 
 /* A plan buffer of this length is large enough for every sheet. A smaller one is refused with 2,
  * whatever the sheet. */
@@ -75,14 +75,16 @@ extern "C" {
 #endif
 
 /* Why a sheet or a plan is turned back. 1, a working table too small, cannot occur here: the table
- * is supplied inside. Where nothing else is said, the place is the offset of the field's tag. */
+ * is supplied inside. Where nothing else is said, the place is the offset of the field's tag. 15
+ * and 16 stand beside 6: the values of a field are examined from left to right, and the first one
+ * out of its range decides which of the three is given. */
 enum sevulamon_number {
     SEVULAMON_ACCEPTED = 0,
     SEVULAMON_BUFFER_TOO_SMALL = 2,  /* the plan's or the page's; place 0 */
     SEVULAMON_FIELD_CUT = 3,         /* under three bytes left, or content runs past the end */
     SEVULAMON_TAG_NOT_PERMITTED = 4, /* also an order field with no block before it */
     SEVULAMON_LENGTH_WRONG = 5,
-    SEVULAMON_OUT_OF_RANGE = 6,
+    SEVULAMON_OUT_OF_RANGE = 6,      /* a count: stations, desks or the desk of a strip */
     SEVULAMON_TOO_MANY = 7,          /* 41st mosaic strip, 7th for one desk, 33rd block */
     SEVULAMON_NO_MEMBERS = 8,        /* at the section's head; 0 for the empty sheet */
     SEVULAMON_ORDER_NOT_PROPER = 9,
@@ -92,7 +94,9 @@ enum sevulamon_number {
                                         wrong field; at the plan's length where it ends before its
                                         last section */
     SEVULAMON_RULE_BROKEN = 13,      /* judge: at the member or the head that breaks a rule */
-    SEVULAMON_FIGURE_UNTRUE = 14     /* judge: at the head that states it */
+    SEVULAMON_FIGURE_UNTRUE = 14,    /* judge: at the head that states it */
+    SEVULAMON_TIME_TOO_LARGE = 15,   /* a time above its upper end, 60,000 */
+    SEVULAMON_TIME_OF_ZERO = 16      /* a time of 0 where at least 1 is due */
 };
 
 /* What planning and printing answer. Accepted: number 0, place 0 and the length written, of the
@@ -104,8 +108,8 @@ struct sevulamon_answer {
 };
 
 /* What judging answers. Allowed: number 0, place 0 and the figure of each section, 0 for an absent
- * one. Else the number, the place and figures 0. The place of 3 to 10 is in the sheet, that of 12
- * to 14 in the plan. */
+ * one. Else the number, the place and figures 0. The place of 12 to 14 is in the plan, that of
+ * every other number in the sheet. */
 struct sevulamon_judged {
     uint64_t number;
     size_t place;
@@ -135,9 +139,8 @@ struct sevulamon_judged sevulamon_judge(const uint8_t *sheet, size_t sheet_lengt
 /* Prints the page of a plan for a sheet, where the judge allows the plan. The lines are written at
  * the start of the page buffer, and no byte behind the last line feed: the page is no C string. A
  * buffer below SEVULAMON_PAGE_LENGTH is 2 at place 0, before sheet or plan is looked at. For a plan
- * that the judge does not allow, the judge's number and place come back: that of 3 to 10 in the
- * sheet, that of 12 to 14 in the plan. A refused call writes nothing. The page buffer must not
- * overlap the sheet or the plan; these two may overlap. */
+ * that the judge does not allow, the judge's number and place come back. A refused call writes
+ * nothing. The page buffer must not overlap the sheet or the plan; these two may overlap. */
 struct sevulamon_answer sevulamon_page(const uint8_t *sheet, size_t sheet_length,
                                        const uint8_t *plan, size_t plan_length,
                                        uint8_t *page, size_t page_length);
