@@ -1,8 +1,10 @@
--- The causes of the table "Turned back", rows 3 to 10, in its words, where a reading stands; and the rows that the sheet is checked for there.
+-- The causes of the table "Turned back", rows 3 to 10, and of 15 and 16 of 02 (Req 04), in their words, where a reading stands; and the rows that the sheet is
+-- checked for there.
 -- The tests by which the reader finds them are in Checks.antt; Decided.antt shows that these tests decide the causes.
 use Prim.Native.Nat.{ℕ, _+_, _≤_, _<_}
 use mathlib.Core.Path.{_≡_}
 use mathlib.Core.List.{List, [], _∷_}
+use mathlib.Core.Logic.{_⊎_}
 use lib.ListN.{length}
 use Rattle.field.specs.Bytes.{numberAt}
 use Rattle.field.specs.declared.Field.{Field}
@@ -11,8 +13,10 @@ use Rattle.order.specs.Order.{Proper}
 use Rattle.sheet.specs.Limits.{mostStrips, mostStripsOfDesk, mostBlocks, mostBlocksWithoutOrder}
 use Rattle.sheet.specs.Tags.{mosaicHeadTag, mosaicStripTag, sortingHeadTag, sortingStripTag, flightHeadTag, flightBlockTag, flightOrderTag}
 use Rattle.sheet.specs.Refusals.{fieldCut, tagNotPermitted, lengthWrong, outOfRange, tooMany, noMembers, orderNotProper, orderMissing}
+use Rattle.sheet.specs.Refusals.{timeTooLarge, timeOfZero}
 use Rattle.sheet.specs.Sections.{noSection, inMosaic, inSorting, inFlight, stripsOfDesk}
-use Rattle.sheet.specs.FieldTable.{lengthDue, valuesOf, OutOfRange}
+use Rattle.sheet.specs.FieldTable.{lengthDue, valuesOf, Value, Within}
+use Rattle.sheet.specs.FieldTable.Value.{count, time, positiveTime}
 use Rattle.sheet.specs.Rows.{Row, row}
 use Rattle.sheet.specs.declared.Reading.{Reading}
 
@@ -53,6 +57,29 @@ pub data Permitted (tag section members : ℕ) : Type 0 where
   flight-block : tag ≡ flightBlockTag → section ≡ inFlight → Permitted tag section members
   flight-order : tag ≡ flightOrderTag → section ≡ inFlight → 1 ≤ members → Permitted tag section members
 
+-- 6: "value out of its range", of a count: "Keep 6 for station, desk and other counts" (02, Req 04)
+unfoldable pub CountOutOfRange : Value → Type 0
+CountOutOfRange (count least number most) = (number < least) ⊎ (most < number)
+CountOutOfRange (time number most) = ⊥
+CountOutOfRange (positiveTime number most) = ⊥
+
+-- 15: "a time above its upper end"
+unfoldable pub TimeTooLarge : Value → Type 0
+TimeTooLarge (count least number most) = ⊥
+TimeTooLarge (time number most) = most < number
+TimeTooLarge (positiveTime number most) = most < number
+
+-- 16: "a time of zero where at least 1 is due"
+unfoldable pub TimeOfZero : Value → Type 0
+TimeOfZero (count least number most) = ⊥
+TimeOfZero (time number most) = ⊥
+TimeOfZero (positiveTime number most) = number ≡ 0
+
+-- "Within a field values are examined from left to right": the first value that is not within its range is out of it in this way
+unfoldable pub FirstOut : (Value → Type 0) → List Value → Type 0
+FirstOut Out [] = ⊥
+FirstOut Out (v ∷ values) = Out v ⊎ (Within v × FirstOut Out values)
+
 -- 7: "41st mosaic strip, 7th for one desk, 33rd block"
 pub data TooMany (tag members ofDesk : ℕ) : Type 0 where
   strip : tag ≡ mosaicStripTag → mostStrips ≤ members → TooMany tag members ofDesk
@@ -65,18 +92,22 @@ pub record OrderNotProper (tag blocks order : ℕ) : Type 0 where
   pub improper : Proper blocks order → ⊥
 
 -- The rows that a field of a tag and a content length is checked for, in the order of the checks: "each field for 3, then 8 or 10 if its tag ends the section
--- before, then 4, 5, 6, 7, 9". "Place is the offset of the tag of the field named": the head of the section for 8 and 10, else the field.
+-- before, then 4, 5, 6, 7, 9"; 15 and 16 "both in the place of 6". "Place is the offset of the tag of the field named": the head of the section for 8 and 10,
+-- else the field.
 abbrev pub cutRow : List ℕ → Reading → Row
 cutRow s st = row fieldCut (st .at) (FieldCut s (st .at))
 
 unfoldable pub fieldRows : List ℕ → Reading → ℕ → ℕ → List Row
 fieldRows s st tag len =
+    let values : List Value = valuesOf s (st .at + 3) tag len (st .sorting .desks) in
     cutRow s st
     ∷ row noMembers (st .head) (NoMembers tag (st .section) (st .members))
     ∷ row orderMissing (st .head) (OrderMissing tag (st .section) (st .members))
     ∷ row tagNotPermitted (st .at) (Permitted tag (st .section) (st .members) → ⊥)
     ∷ row lengthWrong (st .at) (len ≡ lengthDue tag (st .mosaic .stations) → ⊥)
-    ∷ row outOfRange (st .at) (OutOfRange (valuesOf s (st .at + 3) tag len (st .sorting .desks)))
+    ∷ row outOfRange (st .at) (FirstOut CountOutOfRange values)
+    ∷ row timeTooLarge (st .at) (FirstOut TimeTooLarge values)
+    ∷ row timeOfZero (st .at) (FirstOut TimeOfZero values)
     ∷ row tooMany (st .at) (TooMany tag (st .members) (stripsOfDesk (st .sorting .counts) (numberAt s (st .at + 3) 1)))
     ∷ row orderNotProper (st .at) (OrderNotProper tag (st .members) (numberAt s (st .at + 3) 8))
     ∷ []

@@ -7,9 +7,10 @@ use Rattle.base.specs.Branch.{check}
 use Rattle.order.specs.Order.{isProper}
 use Rattle.sheet.specs.Limits.{mostStrips, mostStripsOfDesk, mostBlocks, mostBlocksWithoutOrder}
 use Rattle.sheet.specs.Tags.{mosaicHeadTag, mosaicStripTag, sortingHeadTag, sortingStripTag, flightHeadTag, flightBlockTag, flightOrderTag}
-use Rattle.sheet.specs.Refusals.{outOfRange}
+use Rattle.sheet.specs.Refusals.{outOfRange, timeTooLarge, timeOfZero}
 use Rattle.sheet.specs.Sections.{noSection, inMosaic, inSorting, inFlight}
 use Rattle.sheet.specs.FieldTable.{Value}
+use Rattle.sheet.specs.FieldTable.Value.{count, time, positiveTime}
 use Rattle.sheet.specs.Rows.{firstFailure}
 
 -- "Only tags 10, 20, 30 and the end of the sheet end a section."
@@ -43,14 +44,23 @@ permitted tag section members =
     (cond (eqb tag flightOrderTag) (orderPermitted section members)
     false))))))
 
--- 6, "value out of its range": the number that a value gives
-unfoldable pub valueNumber : ℕ → ℕ → ℕ → ℕ
-valueNumber least number most = check (leb least number && leb number most) outOfRange 0
+-- the number that a count gives: 6, "value out of its range"
+unfoldable pub countNumber : ℕ → ℕ → ℕ → ℕ
+countNumber least number most = check (leb least number && leb number most) outOfRange 0
 
--- the numbers that the values of a field give, and the first of them that is not 0
+-- the number that a time gives: "15, a time above its upper end; 16, a time of zero where at least 1 is due"
+unfoldable pub timeNumber : ℕ → ℕ → ℕ → ℕ
+timeNumber least number most = check (leb number most) timeTooLarge (check (leb least number) timeOfZero 0)
+
+unfoldable pub valueNumber : Value → ℕ
+valueNumber (count least number most) = countNumber least number most
+valueNumber (time number most) = timeNumber 0 number most
+valueNumber (positiveTime number most) = timeNumber 1 number most
+
+-- the numbers that the values of a field give, "from left to right", and the first of them that is not 0
 unfoldable pub valueNumbers : List Value → List ℕ
 valueNumbers [] = []
-valueNumbers (v ∷ values) = valueNumber (v .least) (v .number) (v .most) ∷ valueNumbers values
+valueNumbers (v ∷ values) = valueNumber v ∷ valueNumbers values
 
 unfoldable pub rangeNumber : List Value → ℕ
 rangeNumber values = firstFailure (valueNumbers values)

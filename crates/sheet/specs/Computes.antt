@@ -9,7 +9,7 @@ use Rattle.sheet.specs.FieldTable.{lengthDue, mosaicHeadValues, mosaicSt
 use Rattle.sheet.specs.FieldTable.{flightBlockValues, valuesOf}
 use Rattle.sheet.specs.Rows.{firstFailure}
 use Rattle.sheet.specs.Checks.{endsSection, sectionFilled, fewBlocks, orderGiven, orderPermitted, permitted}
-use Rattle.sheet.specs.Checks.{valueNumber, valueNumbers, rangeNumber, hasRoom, orderProper}
+use Rattle.sheet.specs.Checks.{countNumber, timeNumber, valueNumber, valueNumbers, rangeNumber, hasRoom, orderProper}
 use Rattle.sheet.specs.Decode.{zeros, noMosaic, noSorting, noFlight, withMosaicHead, withStationTimes, withMosaicStrip, withSortingHead, withStripAt}
 use Rattle.sheet.specs.Decode.{withSortingStrip, withBlock, withOrder, nextMosaic, nextSorting, nextFlight, nextSection, nextMembers, nextHead}
 use Rattle.sheet.specs.Decode.{nextReading, startReading}
@@ -20,7 +20,8 @@ unfoldable pub sheetComputes : Unit {0}
 unfolding
     seconds firsts neverMoreSeconds isProper numberAt bytesOf fieldAt fieldBytes check
     lengthDue mosaicHeadValues mosaicStripValues stationTimes sortingHeadValues sortingStripValues flightBlockValues valuesOf
-    endsSection sectionFilled fewBlocks orderGiven orderPermitted permitted firstFailure valueNumber valueNumbers rangeNumber hasRoom stripsOfDesk orderProper
+    endsSection sectionFilled fewBlocks orderGiven orderPermitted permitted firstFailure countNumber timeNumber valueNumber valueNumbers rangeNumber
+    hasRoom stripsOfDesk orderProper
     zeros noMosaic noSorting noFlight withMosaicHead withStationTimes withMosaicStrip withSortingHead withStripAt withSortingStrip withBlock withOrder
     nextMosaic nextSorting nextFlight nextSection nextMembers nextHead nextReading startReading
     contentChecks fieldChecks fieldNumber endChecks endNumber placeOf refused accepted atEnd readFrom readSheet stripsInAll

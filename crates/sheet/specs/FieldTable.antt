@@ -2,10 +2,9 @@
 -- table has 10,000 the upper end of a time is now `mostTime`, 60,000 (02, Req 01); the lower ends are the table's.
 -- A field's content begins at offset c of the sheet s.
 use Prim.{Unit}
-use Prim.Native.Nat.{ℕ, zero, suc, _+_, _-_, _*_, _/_, _≤_, _<_}
+use Prim.Native.Nat.{ℕ, zero, suc, _+_, _-_, _*_, _/_, _≤_}
 use mathlib.Core.Bool.{cond}
 use mathlib.Core.List.{List, [], _∷_}
-use mathlib.Core.Logic.{_⊎_}
 use lib.Dec.{eqb}
 use Rattle.field.specs.Bytes.{numberAt}
 use Rattle.sheet.specs.Limits.{mostStations, mostDesks, mostTime}
@@ -22,23 +21,20 @@ lengthDue tag stations =
     (cond (eqb tag flightBlockTag) 6
     8)))))
 
--- a value of a field and its range
-pub record Value : Type 0 where
-  pub least : ℕ
-  pub number : ℕ
-  pub most : ℕ
-
-abbrev pub value : ℕ → ℕ → ℕ → Value
-value least number most = record { least = least; number = number; most = most }
+-- A value of a field and its range: a count from `least` to `most`, a time from 0 to `most`, or a time from 1 to `most`.
+pub data Value : Type 0 where
+  count : (least number most : ℕ) → Value
+  time : (number most : ℕ) → Value
+  positiveTime : (number most : ℕ) → Value
 
 -- "stations m (1 byte, 1 to 4), mount time s (2 bytes, 0 to 10,000)"
 unfoldable pub mosaicHeadValues : ℕ → ℕ → List Value
-mosaicHeadValues stations mount = value 1 stations mostStations ∷ value 0 mount mostTime ∷ []
+mosaicHeadValues stations mount = count 1 stations mostStations ∷ time mount mostTime ∷ []
 
 -- "m station times (2 bytes each, 0 to 10,000; 0 means camera off), then bench time (2 bytes, 1 to 10,000)": those from station k on, of which there are n
 unfoldable pub mosaicStripValues : List ℕ → ℕ → ℕ → ℕ → List Value
-mosaicStripValues s c k zero = value 1 (numberAt s (c + 2 * k) 2) mostTime ∷ []
-mosaicStripValues s c k (suc n) = value 0 (numberAt s (c + 2 * k) 2) mostTime ∷ mosaicStripValues s c (k + 1) n
+mosaicStripValues s c k zero = positiveTime (numberAt s (c + 2 * k) 2) mostTime ∷ []
+mosaicStripValues s c k (suc n) = time (numberAt s (c + 2 * k) 2) mostTime ∷ mosaicStripValues s c (k + 1) n
 
 -- the station times that a strip of a content length has before its bench time: m where the length is the one due, 2 m + 2
 unfoldable pub stationTimes : ℕ → ℕ
@@ -46,15 +42,15 @@ stationTimes len = (len - 1) / 2
 
 -- "desks m (1 byte, 1 to 3)"
 unfoldable pub sortingHeadValues : ℕ → List Value
-sortingHeadValues desks = value 1 desks mostDesks ∷ []
+sortingHeadValues desks = count 1 desks mostDesks ∷ []
 
 -- "desk (1 byte, 1 to m), scan time, desk time (2 bytes each, 1 to 10,000)"
 unfoldable pub sortingStripValues : ℕ → ℕ → ℕ → ℕ → List Value
-sortingStripValues desks desk scan time = value 1 desk desks ∷ value 1 scan mostTime ∷ value 1 time mostTime ∷ []
+sortingStripValues desks desk scan work = count 1 desk desks ∷ positiveTime scan mostTime ∷ positiveTime work mostTime ∷ []
 
 -- "first pass a, delay l, second pass b (2 bytes each; a and b 1 to 10,000, l 0 to 10,000)"
 unfoldable pub flightBlockValues : ℕ → ℕ → ℕ → List Value
-flightBlockValues a l b = value 1 a mostTime ∷ value 0 l mostTime ∷ value 1 b mostTime ∷ []
+flightBlockValues a l b = positiveTime a mostTime ∷ time l mostTime ∷ positiveTime b mostTime ∷ []
 
 -- the values of a field of a tag and a content length, with m desks in the head of the sorting; a flight head has none, and the pass order has no range
 unfoldable pub valuesOf : List ℕ → ℕ → ℕ → ℕ → ℕ → List Value
@@ -66,15 +62,15 @@ valuesOf s c tag len desks =
     (cond (eqb tag flightBlockTag) (flightBlockValues (numberAt s c 2) (numberAt s (c + 2) 2) (numberAt s (c + 4) 2))
     []))))
 
--- some value is below the least or above the greatest that it may be
-unfoldable pub OutOfRange : List Value → Type 0
-OutOfRange [] = ⊥
-OutOfRange (v ∷ values) = (v .number < v .least) ⊎ (v .most < v .number) ⊎ OutOfRange values
-
 -- a value is within its range, and every value is
-pub record Within (v : Value) : Type 0 where
-  pub at-least : v .least ≤ v .number
-  pub at-most : v .number ≤ v .most
+pub record Between (least number most : ℕ) : Type 0 where
+  pub at-least : least ≤ number
+  pub at-most : number ≤ most
+
+unfoldable pub Within : Value → Type 0
+Within (count least number most) = Between least number most
+Within (time number most) = Between 0 number most
+Within (positiveTime number most) = Between 1 number most
 
 unfoldable pub InRange : List Value → Type 0
 InRange [] = Unit

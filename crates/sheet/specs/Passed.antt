@@ -1,12 +1,9 @@
 -- A field that passes every row: what the rows' causes shut out, stated of the field.
-use Prim.{tt}
-use Prim.Native.Nat.{ℕ, _+_, _<_}
+use Prim.Native.Nat.{ℕ, _+_}
 use mathlib.Core.Path.{_≡_, refl}
 use mathlib.Core.Bool.{Bool, true, false}
-use mathlib.Core.List.{List, [], _∷_}
-use mathlib.Core.Logic.{inl, inr}
-use native.Mathlib.Decide.{ℕ-discrete, decLt}
-use native.Mathlib.Omega.{arith}
+use mathlib.Core.List.{List, _∷_}
+use native.Mathlib.Decide.{ℕ-discrete}
 use Rattle.field.specs.Bytes.{numberAt}
 use Rattle.field.specs.Field.{fieldAt}
 use Rattle.field.specs.declared.Field.the-variants.{Whole}
@@ -14,13 +11,13 @@ use Rattle.order.specs.Order.{Proper, isProper}
 use Rattle.order.specs.Decided.{proper-true, proper-decided}
 use Rattle.sheet.specs.Tags.{flightOrderTag}
 use Rattle.sheet.specs.Sections.{stripsOfDesk}
-use Rattle.sheet.specs.FieldTable.{lengthDue, Value, valuesOf, OutOfRange, Within, InRange}
+use Rattle.sheet.specs.FieldTable.{lengthDue, Value, valuesOf, Within, InRange}
 use Rattle.sheet.specs.Rows.{rowAt, NoCause}
 use Rattle.sheet.specs.RowLaws.{answer-passes}
-use Rattle.sheet.specs.Causes.{Permitted, TooMany, fieldRows}
-use Rattle.sheet.specs.Checks.{permitted}
+use Rattle.sheet.specs.Causes.{Permitted, CountOutOfRange, TimeTooLarge, TimeOfZero, FirstOut, TooMany, fieldRows}
+use Rattle.sheet.specs.Checks.{permitted, rangeNumber}
 use Rattle.sheet.specs.Read.{fieldNumber}
-use Rattle.sheet.specs.Decided.{true-permitted, false-permitted, field-answers}
+use Rattle.sheet.specs.Decided.{true-permitted, false-permitted, RangeDecided, range-decided, field-answers}
 use Rattle.sheet.specs.declared.Reading.{Reading}
 
 pub record Passed (s : List ℕ) (st : Reading) (tag len : ℕ) : Type 0 where
@@ -30,16 +27,16 @@ pub record Passed (s : List ℕ) (st : Reading) (tag len : ℕ) : Type 0 where
   pub room-ok : TooMany tag (st .members) (stripsOfDesk (st .sorting .counts) (numberAt s (st .at + 3) 1)) → ⊥
   pub order-ok : tag ≡ flightOrderTag → Proper (st .members) (numberAt s (st .at + 3) 8)
 
--- values of which none is out of its range
-in-range : (values : List Value) → (OutOfRange values → ⊥) → InRange values
-unfolding OutOfRange InRange
-in-range [] n = tt
-in-range (v ∷ values) n = (within (decLt (v .number) (v .least)) (decLt (v .most) (v .number)), in-range values (λ c. n (inr (inr c))))
+-- values of which none is the first out of its range
+in-range : (values : List Value) → (FirstOut CountOutOfRange values → ⊥) → (FirstOut TimeTooLarge values → ⊥) → (FirstOut TimeOfZero values → ⊥)
+    → InRange values
+in-range values n₁ n₂ n₃ = go (range-decided values)
   where
-    within : Dec (v .number < v .least) → Dec (v .most < v .number) → Within v
-    within (yes h) d = absurd (n (inl h))
-    within (no h) (yes d) = absurd (n (inr (inl d)))
-    within (no h) (no d) = record { at-least = omega arith; at-most = omega arith }
+    go : RangeDecided (rangeNumber values) values → InRange values
+    go (RangeDecided.count-out e c) = absurd (n₁ c)
+    go (RangeDecided.too-large e c) = absurd (n₂ c)
+    go (RangeDecided.of-zero e c) = absurd (n₃ c)
+    go (RangeDecided.within e r) = r
 
 proper-else : (n x : ℕ) → ((Proper n x → ⊥) → ⊥) → Proper n x
 proper-else n x h = go (isProper n x) refl
@@ -68,9 +65,9 @@ passed-rows s st tag len p =
     record {
       tag-ok = permitted-else tag (st .section) (st .members) (p 3);
       length-ok = length-else len _ (p 4);
-      range-ok = in-range _ (p 5);
-      room-ok = p 6;
-      order-ok = λ e. proper-else _ _ (λ n. p 7 (record { is-order = e; improper = n }));
+      range-ok = in-range _ (p 5) (p 6) (p 7);
+      room-ok = p 8;
+      order-ok = λ e. proper-else _ _ (λ n. p 9 (record { is-order = e; improper = n }));
     }
 
 pub passes : (s : List ℕ) (st : Reading) (tag len : ℕ) → fieldAt s (st .at) ≡ Whole tag len → fieldNumber s st tag len ≡ 0 → Passed s st tag len

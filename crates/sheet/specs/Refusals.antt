@@ -1,4 +1,4 @@
--- The refusal numbers (01, "Turned back"), in the order of its table.
+-- The refusal numbers (01, "Turned back"), in the order of its table, and behind them those that 02 adds.
 use Prim.Native.Nat.{ℕ}
 
 abbrev pub tableTooSmall : ℕ
@@ -18,6 +18,7 @@ tagNotPermitted = 4
 abbrev pub lengthWrong : ℕ
 lengthWrong = 5
 
+-- "value out of its range", which 02 keeps "for station, desk and other counts" (Req 04)
 abbrev pub outOfRange : ℕ
 outOfRange = 6
 
@@ -49,3 +50,10 @@ ruleBroken = 13
 
 abbrev pub figureUntrue : ℕ
 figureUntrue = 14
+
+-- 02, Req 04: "15, a time above its upper end; 16, a time of zero where at least 1 is due"
+abbrev pub timeTooLarge : ℕ
+timeTooLarge = 15
+
+abbrev pub timeOfZero : ℕ
+timeOfZero = 16

@@ -30,7 +30,7 @@ pub answers-none : (place : ℕ → ℕ) → Answers [] place (firstFailure [])
 unfolding firstFailure NoCause rowAt
 answers-none place = none refl (λ k c. c)
 
-first-here : (number : ℕ) (checks : List ℕ) → 0 < number → firstFailure (number ∷ checks) ≡ number
+pub first-here : (number : ℕ) (checks : List ℕ) → 0 < number → firstFailure (number ∷ checks) ≡ number
 unfolding firstFailure
 first-here zero checks h = absurd (omega arith)
 first-here (suc n) checks h = refl
@@ -58,11 +58,16 @@ module _ (place : ℕ → ℕ) (number at : ℕ) (cause : Type 0) (rows : List R
   answers-behind answer c (first h f) = first h (fails-behind _ _ c f)
   answers-behind answer c (none z f) = none z (passes-behind c f)
 
+-- a row that fails, before any others
+pub answers-here : (place : ℕ → ℕ) (number at : ℕ) (cause : Type 0) (rows : List Row) (given : ℕ) → 0 < number → place number ≡ at → given ≡ number → cause
+    → Answers (row number at cause ∷ rows) place given
+answers-here place number at cause rows given pos ep e c = rw e (first pos (fails-here place number at cause rows number refl ep c))
+
 -- One row, by its check.
 pub answers-last : (place : ℕ → ℕ) (number at : ℕ) (cause : Type 0) (given : ℕ) → 0 < number → place number ≡ at → Gives given number cause
     → Answers (row number at cause ∷ []) place given
 unfolding NoCause rowAt
-answers-last place number at cause given pos ep (fails e c) = rw e (first pos (fails-here place number at cause [] number refl ep c))
+answers-last place number at cause given pos ep (fails e c) = answers-here place number at cause [] given pos ep e c
 answers-last place number at cause given pos ep (passes e c) = none e (passes-behind place number at cause [] c (λ k q. q))
 
 -- Rows that one check decides, of several numbers if need be, and behind them the others, which are judged where those before pass.

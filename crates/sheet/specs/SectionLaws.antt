@@ -10,7 +10,7 @@ use Rattle.field.specs.Bytes.{numberAt}
 use Rattle.order.specs.Order.{Proper}
 use Rattle.sheet.specs.Limits.{mostStations, mostDesks, mostTime, mostStrips, mostStripsOfDesk, mostBlocks}
 use Rattle.sheet.specs.Sections.{stripsOfDesk}
-use Rattle.sheet.specs.FieldTable.{value, mosaicHeadValues, mosaicStripValues, sortingHeadValues, sortingStripValues, flightBlockValues, Within, InRange}
+use Rattle.sheet.specs.FieldTable.{mosaicHeadValues, mosaicStripValues, sortingHeadValues, sortingStripValues, flightBlockValues, Between, Within, InRange}
 use Rattle.sheet.specs.Decode.{zeros, noMosaic, noSorting, noFlight, withMosaicHead, withStationTimes, withMosaicStrip, withSortingHead, withStripAt}
 use Rattle.sheet.specs.Decode.{withSortingStrip, withBlock, withOrder}
 use Rattle.sheet.specs.Sound.{MosaicSound, SortingSound, FlightWithin, stripsInAll}
@@ -44,7 +44,7 @@ unfolding noMosaic
 no-mosaic-sound = mosaic-begun 0 0 (omega arith) (omega arith)
 
 pub mosaic-head-sound : (s : List ℕ) (c : ℕ) → InRange (mosaicHeadValues (numberAt s c 1) (numberAt s (c + 1) 2)) → MosaicSound (withMosaicHead s c)
-unfolding mosaicHeadValues withMosaicHead
+unfolding mosaicHeadValues withMosaicHead Within
 mosaic-head-sound s c r = mosaic-begun _ _ (first-within _ _ r .at-most) (first-within _ _ (others-within _ _ r) .at-most)
 
 module _ (s : List ℕ) (c base : ℕ) (times : List ℕ) where
@@ -64,7 +64,7 @@ module _ (s : List ℕ) (c base : ℕ) (times : List ℕ) where
 -- the values of a strip from station k on, of which there are n: the station times, and the bench time behind them
 module _ (s : List ℕ) (c : ℕ) where
   strip-time : (n k : ℕ) → InRange (mosaicStripValues s c k n) → (j : ℕ) → k ≤ j → j < k + n → numberAt s (c + 2 * j) 2 ≤ mostTime
-  unfolding mosaicStripValues
+  unfolding mosaicStripValues Within
   strip-time zero k r j h l = absurd (omega arith)
   strip-time (suc n) k r j h l = here (strip-time n (k + 1) (others-within _ _ r) j) (ℕ-discrete j k)
     where
@@ -72,8 +72,8 @@ module _ (s : List ℕ) (c : ℕ) where
       here later (yes e) = rw e (first-within _ _ r .at-most)
       here later (no e) = later (omega arith) (omega arith)
 
-  strip-bench : (n k b : ℕ) → k + n ≡ b → InRange (mosaicStripValues s c k n) → Within (value 1 (numberAt s (c + 2 * b) 2) mostTime)
-  unfolding mosaicStripValues
+  strip-bench : (n k b : ℕ) → k + n ≡ b → InRange (mosaicStripValues s c k n) → Between 1 (numberAt s (c + 2 * b) 2) mostTime
+  unfolding mosaicStripValues Within
   strip-bench zero k b e r = rw (bench-at e) (first-within _ _ r)
     where
       bench-at : k + 0 ≡ b → b ≡ k
@@ -120,7 +120,7 @@ unfolding noSorting
 no-sorting-sound = sorting-begun 0 (omega arith)
 
 pub sorting-head-sound : (s : List ℕ) (c : ℕ) → InRange (sortingHeadValues (numberAt s c 1)) → SortingSound (withSortingHead s c)
-unfolding sortingHeadValues withSortingHead
+unfolding sortingHeadValues withSortingHead Within
 sorting-head-sound s c r = sorting-begun _ (first-within _ _ r .at-most)
 
 -- strip k of desk d is stored with a time at 6 d + k: every strip of every desk has a time of 1 or more
@@ -144,7 +144,7 @@ module _ (counts times : List ℕ) (d k v : ℕ) (here : getD counts d 0 ≡ k) 
       rw (set-there times (6 * d + k) (6 * d′ + k′) v (λ q. e (omega arith))) (least d′ k′ l)
 
 pub strip-at-sound : (s : List ℕ) (c : ℕ) (t : SortingSection) (d k : ℕ) → SortingSound t → d < t .desks → getD (t .counts) d 0 ≡ k → k < mostStripsOfDesk
-    → Within (value 1 (numberAt s (c + 1) 2) mostTime) → Within (value 1 (numberAt s (c + 3) 2) mostTime) → SortingSound (withStripAt s c t d k)
+    → Between 1 (numberAt s (c + 1) 2) mostTime → Between 1 (numberAt s (c + 3) 2) mostTime → SortingSound (withStripAt s c t d k)
 unfolding withStripAt
 strip-at-sound s c t d k h hd here room b₁ b₂ =
     let md = h .most-desks in
@@ -169,7 +169,7 @@ strip-at-sound s c t d k h hd here room b₁ b₂ =
 pub sorting-strip-sound : (s : List ℕ) (c : ℕ) (t : SortingSection) → SortingSound t
     → InRange (sortingStripValues (t .desks) (numberAt s c 1) (numberAt s (c + 1) 2) (numberAt s (c + 3) 2))
     → stripsOfDesk (t .counts) (numberAt s c 1) < mostStripsOfDesk → SortingSound (withSortingStrip s c t)
-unfolding sortingStripValues withSortingStrip stripsOfDesk
+unfolding sortingStripValues withSortingStrip stripsOfDesk Within
 sorting-strip-sound s c t h r room =
     let b = first-within _ _ r in
     let times = others-within _ _ r in
@@ -191,7 +191,7 @@ desk-cases l (suc (suc (suc d))) k long h e = absurd (omega arith)
 pub sorting-strip-more : (s : List ℕ) (c : ℕ) (t : SortingSection) → SortingSound t
     → InRange (sortingStripValues (t .desks) (numberAt s c 1) (numberAt s (c + 1) 2) (numberAt s (c + 3) 2))
     → stripsInAll (withSortingStrip s c t) ≡ stripsInAll t + 1
-unfolding sortingStripValues withSortingStrip withStripAt stripsOfDesk stripsInAll
+unfolding sortingStripValues withSortingStrip withStripAt stripsOfDesk stripsInAll Within
 sorting-strip-more s c t h r =
     let b = first-within _ _ r in
     let lo : 1 ≤ numberAt s c 1 = b .at-least in
@@ -223,7 +223,7 @@ no-flight-sound =
 
 pub block-sound : (s : List ℕ) (c : ℕ) (f : FlightSection) → FlightWithin mostBlocks f → f .ordered ≡ false → f .blocks < mostBlocks
     → InRange (flightBlockValues (numberAt s c 2) (numberAt s (c + 2) 2) (numberAt s (c + 4) 2)) → FlightWithin mostBlocks (withBlock s c f)
-unfolding flightBlockValues withBlock
+unfolding flightBlockValues withBlock Within
 block-sound s c f h plain room r =
     let a = first-within _ _ r in
     let l = first-within _ _ (others-within _ _ r) in

@@ -1,4 +1,4 @@
-// The refusal numbers (01, "Turned back"). specs/Refusals.antt states the same for the definitions.
+// The refusal numbers (01, "Turned back", and 02). specs/Refusals.antt states the same for the definitions.
 
 pub const TABLE_TOO_SMALL: u64 = 1;
 
@@ -27,3 +27,7 @@ pub const LAYOUT_WRONG: u64 = 12;
 pub const RULE_BROKEN: u64 = 13;
 
 pub const FIGURE_UNTRUE: u64 = 14;
+
+pub const TIME_TOO_LARGE: u64 = 15;
+
+pub const TIME_OF_ZERO: u64 = 16;

@@ -8,41 +8,55 @@ use borrow.Author.Tests.{le-leb, lt-leb, ne-eqb}
 use Rattle.base.specs.Branch.{check}
 use Rattle.field.specs.Bytes.{numberAt, NumberRead}
 use Rattle.sheet.specs.Limits.{mostTime}
-use Rattle.sheet.specs.Refusals.{outOfRange}
+use Rattle.sheet.specs.Refusals.{outOfRange, timeTooLarge, timeOfZero}
 use Rattle.sheet.specs.Tags.{mosaicHeadTag, mosaicStripTag, sortingHeadTag, sortingStripTag, flightBlockTag}
-use Rattle.sheet.specs.FieldTable.{Value, value, mosaicHeadValues, mosaicStripValues, stationTimes, sortingHeadValues, sortingStripValues, flightBlockValues}
+use Rattle.sheet.specs.FieldTable.{Value, mosaicHeadValues, mosaicStripValues, stationTimes, sortingHeadValues, sortingStripValues, flightBlockValues}
 use Rattle.sheet.specs.FieldTable.{valuesOf}
+use Rattle.sheet.specs.FieldTable.Value.{time, positiveTime}
 use Rattle.sheet.specs.Rows.{firstFailure}
 use Rattle.sheet.specs.RowLaws.{given-fails, given-passes, given-last}
-use Rattle.sheet.specs.Checks.{valueNumber, valueNumbers, rangeNumber}
+use Rattle.sheet.specs.Checks.{countNumber, timeNumber, valueNumber, valueNumbers, rangeNumber}
 
--- one value
+-- one count
 module _ (least number most : ℕ) where
-  pub below-least : number < least → outOfRange ≡ valueNumber least number most
-  unfolding valueNumber check
-  below-least h = rw (lt-leb least number h)
+  pub count-below : number < least → outOfRange ≡ countNumber least number most
+  unfolding countNumber check
+  count-below h = rw (lt-leb least number h)
 
-  pub above-most : least ≤ number → most < number → outOfRange ≡ valueNumber least number most
-  unfolding valueNumber check
-  above-most h k = rw (le-leb least number h, lt-leb number most k)
+  pub count-above : least ≤ number → most < number → outOfRange ≡ countNumber least number most
+  unfolding countNumber check
+  count-above h k = rw (le-leb least number h, lt-leb number most k)
 
-  pub in-range : least ≤ number → number ≤ most → 0 ≡ valueNumber least number most
-  unfolding valueNumber check
-  in-range h k = rw (le-leb least number h, le-leb number most k)
+  pub count-within : least ≤ number → number ≤ most → 0 ≡ countNumber least number most
+  unfolding countNumber check
+  count-within h k = rw (le-leb least number h, le-leb number most k)
+
+  -- one time
+  pub time-above : most < number → timeTooLarge ≡ timeNumber least number most
+  unfolding timeNumber check
+  time-above k = rw (lt-leb number most k)
+
+  pub time-below : number ≤ most → number < least → timeOfZero ≡ timeNumber least number most
+  unfolding timeNumber check
+  time-below k h = rw (le-leb number most k, lt-leb least number h)
+
+  pub time-within : number ≤ most → least ≤ number → 0 ≡ timeNumber least number most
+  unfolding timeNumber check
+  time-within k h = rw (le-leb number most k, le-leb least number h)
 
 -- one value after another: the first that gives no 0 decides
-module _ (least number most : ℕ) (values : List Value) (n : ℕ) (e : n ≡ valueNumber least number most) where
-  pub value-fails : (n ≡ 0 → ⊥) → n ≡ rangeNumber (value least number most ∷ values)
+module _ (v : Value) (values : List Value) (n : ℕ) (e : n ≡ valueNumber v) where
+  pub value-fails : (n ≡ 0 → ⊥) → n ≡ rangeNumber (v ∷ values)
   unfolding rangeNumber valueNumbers
   value-fails h = given-fails (valueNumbers values) n _ e h
 
-  pub value-passes : (r : ℕ) → n ≡ 0 → r ≡ rangeNumber values → r ≡ rangeNumber (value least number most ∷ values)
+  pub value-passes : (r : ℕ) → n ≡ 0 → r ≡ rangeNumber values → r ≡ rangeNumber (v ∷ values)
   unfolding rangeNumber valueNumbers
   value-passes r z h = given-passes (valueNumbers values) n _ r e z h
 
-pub value-last : (least number most r : ℕ) → r ≡ valueNumber least number most → r ≡ rangeNumber (value least number most ∷ [])
+pub value-last : (v : Value) (r : ℕ) → r ≡ valueNumber v → r ≡ rangeNumber (v ∷ [])
 unfolding rangeNumber valueNumbers
-value-last least number most r e = given-last r _ e
+value-last v r e = given-last r _ e
 
 -- the first k station times of a strip pass: those from k on decide
 pub record TimesPassed (s : List ℕ) (c len k : ℕ) : Type 0 where
@@ -52,45 +66,48 @@ pub record TimesPassed (s : List ℕ) (c len k : ℕ) : Type 0 where
 pub times-none : (s : List ℕ) (c len : ℕ) → TimesPassed s c len 0
 times-none s c len = record { within = omega arith; left = ap (λ n. rangeNumber (mosaicStripValues s c 0 n)) (omega arith) }
 
-values-suc : (s : List ℕ) (c k n : ℕ) → mosaicStripValues s c k (suc n) ≡ value 0 (numberAt s (c + 2 * k) 2) mostTime ∷ mosaicStripValues s c (k + 1) n
+values-suc : (s : List ℕ) (c k n : ℕ) → mosaicStripValues s c k (suc n) ≡ time (numberAt s (c + 2 * k) 2) mostTime ∷ mosaicStripValues s c (k + 1) n
 unfolding mosaicStripValues
 values-suc s c k n = refl
 
-values-none : (s : List ℕ) (c k : ℕ) → mosaicStripValues s c k 0 ≡ value 1 (numberAt s (c + 2 * k) 2) mostTime ∷ []
+values-none : (s : List ℕ) (c k : ℕ) → mosaicStripValues s c k 0 ≡ positiveTime (numberAt s (c + 2 * k) 2) mostTime ∷ []
 unfolding mosaicStripValues
 values-none s c k = refl
 
 module _ (s : List ℕ) (c len k : ℕ) (t : TimesPassed s c len k) where
-  module _ (more : 2 * k + 2 < len) (time n : ℕ) (r : NumberRead s (c + 2 * k) 2 time) (e : n ≡ valueNumber 0 time mostTime) where
+  module _ (more : 2 * k + 2 < len) (x n : ℕ) (r : NumberRead s (c + 2 * k) 2 x) (e : n ≡ timeNumber 0 x mostTime) where
     some-left : stationTimes len - k ≡ suc (stationTimes len - (k + 1))
     unfolding stationTimes
     some-left = omega arith
 
     next : rangeNumber (mosaicStripValues s c 0 (stationTimes len))
-        ≡ rangeNumber (value 0 (numberAt s (c + 2 * k) 2) mostTime ∷ mosaicStripValues s c (k + 1) (stationTimes len - (k + 1)))
+        ≡ rangeNumber (time (numberAt s (c + 2 * k) 2) mostTime ∷ mosaicStripValues s c (k + 1) (stationTimes len - (k + 1)))
     next = t .left ∙ ap (λ j. rangeNumber (mosaicStripValues s c k j)) some-left ∙ ap rangeNumber (values-suc s c k _)
 
-    read : n ≡ valueNumber 0 (numberAt s (c + 2 * k) 2) mostTime
-    read = e ∙ ap (λ x. valueNumber 0 x mostTime) (r .is)
+    read : n ≡ timeNumber 0 (numberAt s (c + 2 * k) 2) mostTime
+    read = e ∙ ap (λ x. timeNumber 0 x mostTime) (r .is)
 
     pub times-wrong : (n ≡ 0 → ⊥) → n ≡ rangeNumber (mosaicStripValues s c 0 (stationTimes len))
-    times-wrong h = value-fails _ _ _ _ n read h ∙ sym next
+    unfolding valueNumber
+    times-wrong h = value-fails _ _ n read h ∙ sym next
 
     pub times-more : n ≡ 0 → TimesPassed s c len (k + 1)
+    unfolding valueNumber
     times-more z =
         record {
           within = omega arith;
-          left = next ∙ sym (value-passes _ _ _ _ n read _ z refl);
+          left = next ∙ sym (value-passes _ _ n read _ z refl);
         }
 
   all-passed : len ≤ 2 * k + 2 → stationTimes len - k ≡ 0
   unfolding stationTimes
   all-passed h = omega arith
 
-  pub times-bench : len ≤ 2 * k + 2 → (time r : ℕ) → NumberRead s (c + 2 * k) 2 time → r ≡ valueNumber 1 time mostTime
+  pub times-bench : len ≤ 2 * k + 2 → (x r : ℕ) → NumberRead s (c + 2 * k) 2 x → r ≡ timeNumber 1 x mostTime
       → r ≡ rangeNumber (mosaicStripValues s c 0 (stationTimes len))
-  times-bench h time r n e =
-      value-last _ _ _ r (e ∙ ap (λ x. valueNumber 1 x mostTime) (n .is))
+  unfolding valueNumber
+  times-bench h x r n e =
+      value-last _ r (e ∙ ap (λ x. timeNumber 1 x mostTime) (n .is))
       ∙ sym (t .left ∙ ap (λ j. rangeNumber (mosaicStripValues s c k j)) none-left ∙ ap rangeNumber (values-none s c k))
     where
       none-left : stationTimes len - k ≡ 0
@@ -112,10 +129,10 @@ module _ (s : List ℕ) (c tag len desks r : ℕ) where
   unfolding valuesOf
   sorting-head-read e m n h = rw (e, ← n .is) h
 
-  pub sorting-strip-read : tag ≡ sortingStripTag → (desk scan time : ℕ) → NumberRead s c 1 desk → NumberRead s (c + 1) 2 scan → NumberRead s (c + 3) 2 time
-      → r ≡ rangeNumber (sortingStripValues desks desk scan time) → r ≡ rangeNumber (valuesOf s c tag len desks)
+  pub sorting-strip-read : tag ≡ sortingStripTag → (desk scan work : ℕ) → NumberRead s c 1 desk → NumberRead s (c + 1) 2 scan → NumberRead s (c + 3) 2 work
+      → r ≡ rangeNumber (sortingStripValues desks desk scan work) → r ≡ rangeNumber (valuesOf s c tag len desks)
   unfolding valuesOf
-  sorting-strip-read e desk scan time n₁ n₂ n₃ h = rw (e, ← n₁ .is, ← n₂ .is, ← n₃ .is) h
+  sorting-strip-read e desk scan work n₁ n₂ n₃ h = rw (e, ← n₁ .is, ← n₂ .is, ← n₃ .is) h
 
   pub flight-block-read : tag ≡ flightBlockTag → (a l b : ℕ) → NumberRead s c 2 a → NumberRead s (c + 2) 2 l → NumberRead s (c + 4) 2 b
       → r ≡ rangeNumber (flightBlockValues a l b) → r ≡ rangeNumber (valuesOf s c tag len desks)

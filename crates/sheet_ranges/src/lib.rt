@@ -1,10 +1,13 @@
-// The number that the values of a field give by their ranges (01, the table of tags), 0 where each is in its range: one function a tag.
+// The number that the values of a field give by their ranges (01, the table of tags; 02, Req 04), 0 where each is in its range: one function a tag. Values are
+// examined from left to right, and the first one out of its range decides.
 use field::byte;
 use field::number;
 use sheet::limits::MOST_DESKS;
 use sheet::limits::MOST_STATIONS;
 use sheet::limits::MOST_TIME;
 use sheet::numbers::OUT_OF_RANGE;
+use sheet::numbers::TIME_OF_ZERO;
+use sheet::numbers::TIME_TOO_LARGE;
 use sheet::tags::FLIGHT_BLOCK;
 use sheet::tags::MOSAIC_HEAD;
 use sheet::tags::MOSAIC_STRIP;
@@ -13,11 +16,11 @@ use sheet::tags::SORTING_STRIP;
 ghost use mathlib.Core.Path.{_≡_};
 ghost use Prim.Native.Nat.{_+_, _<_, _^_};
 ghost use Rattle.sheet.specs.FieldTable.{mosaicHeadValues, mosaicStripValues, stationTimes, sortingHeadValues, sortingStripValues, flightBlockValues, valuesOf};
-ghost use Rattle.sheet.specs.Checks.{valueNumber, rangeNumber};
+ghost use Rattle.sheet.specs.Checks.{countNumber, timeNumber, rangeNumber};
 
-// The number of one value, which may be from `least` to `most`.
-fn value_number(least: u64, value: u64, most: u64) -> u64
-    ensures { λ r. ⌜ r ≡ valueNumber least value most ⌝ }
+// The number of a count, which may be from `least` to `most`.
+fn count_number(least: u64, value: u64, most: u64) -> u64
+    ensures { λ r. ⌜ r ≡ countNumber least value most ⌝ }
 {
     if value < least {
         return OUT_OF_RANGE;
@@ -28,14 +31,27 @@ fn value_number(least: u64, value: u64, most: u64) -> u64
     0
 }
 
+// The number of a time, which may be from `least`, 0 or 1, to `most`.
+fn time_number(least: u64, value: u64, most: u64) -> u64
+    ensures { λ r. ⌜ r ≡ timeNumber least value most ⌝ }
+{
+    if most < value {
+        return TIME_TOO_LARGE;
+    }
+    if value < least {
+        return TIME_OF_ZERO;
+    }
+    0
+}
+
 fn mosaic_head_number(stations: u64, mount: u64) -> u64
     ensures { λ r. ⌜ r ≡ rangeNumber (mosaicHeadValues stations mount) ⌝ }
 {
-    let number = value_number(1, stations, MOST_STATIONS);
+    let number = count_number(1, stations, MOST_STATIONS);
     if number != 0 {
         return number;
     }
-    value_number(0, mount, MOST_TIME)
+    time_number(0, mount, MOST_TIME)
 }
 
 // A strip of a content length: its station times, and the bench time behind them.
@@ -45,47 +61,47 @@ fn mosaic_strip_number(s: &[u8], c: usize, length: usize) -> u64
 {
     let mut k: usize = 0;
     while 2 * k + 2 < length {
-        let wrong = value_number(0, number(s, c + 2 * k, 2), MOST_TIME);
+        let wrong = time_number(0, number(s, c + 2 * k, 2), MOST_TIME);
         if wrong != 0 {
             return wrong;
         }
         k += 1;
     }
-    value_number(1, number(s, c + 2 * k, 2), MOST_TIME)
+    time_number(1, number(s, c + 2 * k, 2), MOST_TIME)
 }
 
 fn sorting_head_number(desks: u64) -> u64
     ensures { λ r. ⌜ r ≡ rangeNumber (sortingHeadValues desks) ⌝ }
 {
-    value_number(1, desks, MOST_DESKS)
+    count_number(1, desks, MOST_DESKS)
 }
 
 fn sorting_strip_number(desks: u64, desk: u64, scan: u64, time: u64) -> u64
     ensures { λ r. ⌜ r ≡ rangeNumber (sortingStripValues desks desk scan time) ⌝ }
 {
-    let of_desk = value_number(1, desk, desks);
+    let of_desk = count_number(1, desk, desks);
     if of_desk != 0 {
         return of_desk;
     }
-    let of_scan = value_number(1, scan, MOST_TIME);
+    let of_scan = time_number(1, scan, MOST_TIME);
     if of_scan != 0 {
         return of_scan;
     }
-    value_number(1, time, MOST_TIME)
+    time_number(1, time, MOST_TIME)
 }
 
 fn flight_block_number(a: u64, l: u64, b: u64) -> u64
     ensures { λ r. ⌜ r ≡ rangeNumber (flightBlockValues a l b) ⌝ }
 {
-    let of_first = value_number(1, a, MOST_TIME);
+    let of_first = time_number(1, a, MOST_TIME);
     if of_first != 0 {
         return of_first;
     }
-    let of_delay = value_number(0, l, MOST_TIME);
+    let of_delay = time_number(0, l, MOST_TIME);
     if of_delay != 0 {
         return of_delay;
     }
-    value_number(1, b, MOST_TIME)
+    time_number(1, b, MOST_TIME)
 }
 
 // The number that the content of a field gives, which begins at an offset and has a length; 0 where every value is in its range.

@@ -1,38 +1,39 @@
 -- `flight_block_number` meets its contract: the first value that gives a number decides, in the order of the field table.
 use Rattle.sheet.specs.FieldTable.{flightBlockValues}
+use Rattle.sheet.specs.Checks.{valueNumber}
 use Rattle.sheet_ranges.specs.RangeLaws.{value-fails, value-passes, value-last}
 use borrow.Author.Needs.{needs}
 use Rattle.sheet_ranges.proofs.flight_block_number.Statement.{statement}
 use Rattle.sheet_ranges.proofs.flight_block_number.Tie as tie
 
-value-number-requires : tie.Need-value-number-requires
-value-number-requires c κs = search needs
+time-number-requires : tie.Need-time-number-requires
+time-number-requires c κs = search needs
 
 returns : tie.Need-returns
-unfolding flightBlockValues
+unfolding flightBlockValues valueNumber
 returns c = search (value-fails, value-passes, value-last)
 
-value-number-requires-2 : tie.Need-value-number-requires-2
-value-number-requires-2 c κs = search needs
+time-number-requires-2 : tie.Need-time-number-requires-2
+time-number-requires-2 c κs = search needs
 
 returns-2 : tie.Need-returns-2
-unfolding flightBlockValues
+unfolding flightBlockValues valueNumber
 returns-2 c = search (value-fails, value-passes, value-last)
 
-value-number-requires-3 : tie.Need-value-number-requires-3
-value-number-requires-3 c κs = search needs
+time-number-requires-3 : tie.Need-time-number-requires-3
+time-number-requires-3 c κs = search needs
 
 returns-3 : tie.Need-returns-3
-unfolding flightBlockValues
+unfolding flightBlockValues valueNumber
 returns-3 c = search (value-fails, value-passes, value-last)
 
 pub flight-block-number-spec : {M : Type 1} → statement M
 flight-block-number-spec =
     tie.close
     (tie.spec
-    value-number-requires
+    time-number-requires
     returns
-    value-number-requires-2
+    time-number-requires-2
     returns-2
-    value-number-requires-3
+    time-number-requires-3
     returns-3)

@@ -29,8 +29,8 @@ add-number c = search needs
 number-requires : tie.Need-number-requires Inv-loop μ-loop
 number-requires c κs = search needs
 
-value-number-requires : tie.Need-value-number-requires Inv-loop μ-loop
-value-number-requires c κs = search needs
+time-number-requires : tie.Need-time-number-requires Inv-loop μ-loop
+time-number-requires c κs = search needs
 
 returns : tie.Need-returns Inv-loop μ-loop
 returns c = search times-wrong
@@ -53,8 +53,8 @@ add-number-2 c = search needs
 number-requires-2 : tie.Need-number-requires-2 Inv-loop μ-loop
 number-requires-2 c κs = search needs
 
-value-number-requires-2 : tie.Need-value-number-requires-2 Inv-loop μ-loop
-value-number-requires-2 c κs = search needs
+time-number-requires-2 : tie.Need-time-number-requires-2 Inv-loop μ-loop
+time-number-requires-2 c κs = search needs
 
 returns-2 : tie.Need-returns-2 Inv-loop μ-loop
 returns-2 c = search times-bench
@@ -71,7 +71,7 @@ mosaic-strip-number-spec =
     mul-number
     add-number
     number-requires
-    value-number-requires
+    time-number-requires
     returns
     add-k
     loop-less
@@ -79,5 +79,5 @@ mosaic-strip-number-spec =
     mul-number-2
     add-number-2
     number-requires-2
-    value-number-requires-2
+    time-number-requires-2
     returns-2)

@@ -1,38 +1,39 @@
 -- `sorting_strip_number` meets its contract: the first value that gives a number decides, in the order of the field table.
 use Rattle.sheet.specs.FieldTable.{sortingStripValues}
+use Rattle.sheet.specs.Checks.{valueNumber}
 use Rattle.sheet_ranges.specs.RangeLaws.{value-fails, value-passes, value-last}
 use borrow.Author.Needs.{needs}
 use Rattle.sheet_ranges.proofs.sorting_strip_number.Statement.{statement}
 use Rattle.sheet_ranges.proofs.sorting_strip_number.Tie as tie
 
-value-number-requires : tie.Need-value-number-requires
-value-number-requires c κs = search needs
+count-number-requires : tie.Need-count-number-requires
+count-number-requires c κs = search needs
 
 returns : tie.Need-returns
-unfolding sortingStripValues
+unfolding sortingStripValues valueNumber
 returns c = search (value-fails, value-passes, value-last)
 
-value-number-requires-2 : tie.Need-value-number-requires-2
-value-number-requires-2 c κs = search needs
+time-number-requires : tie.Need-time-number-requires
+time-number-requires c κs = search needs
 
 returns-2 : tie.Need-returns-2
-unfolding sortingStripValues
+unfolding sortingStripValues valueNumber
 returns-2 c = search (value-fails, value-passes, value-last)
 
-value-number-requires-3 : tie.Need-value-number-requires-3
-value-number-requires-3 c κs = search needs
+time-number-requires-2 : tie.Need-time-number-requires-2
+time-number-requires-2 c κs = search needs
 
 returns-3 : tie.Need-returns-3
-unfolding sortingStripValues
+unfolding sortingStripValues valueNumber
 returns-3 c = search (value-fails, value-passes, value-last)
 
 pub sorting-strip-number-spec : {M : Type 1} → statement M
 sorting-strip-number-spec =
     tie.close
     (tie.spec
-    value-number-requires
+    count-number-requires
     returns
-    value-number-requires-2
+    time-number-requires
     returns-2
-    value-number-requires-3
+    time-number-requires-2
     returns-3)
