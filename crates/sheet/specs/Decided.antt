@@ -211,7 +211,7 @@ range-decided (v ∷ values) = go (valueNumber v) (one-decided v) (range-decided
     go n (OneDecided.within e w) (RangeDecided.within d r) = rw e (RangeDecided.within d (w, r))
 
 -- .. and no other number is given
-count-number : (v : Value) → CountOutOfRange v → valueNumber v ≡ outOfRange
+pub count-number : (v : Value) → CountOutOfRange v → valueNumber v ≡ outOfRange
 unfolding valueNumber countNumber check CountOutOfRange
 count-number (count least number most) (inl h) = rw (lt-leb least number h)
 count-number (count least number most) (inr h) = rw (lt-leb number most h) (go (leb least number))
@@ -222,13 +222,13 @@ count-number (count least number most) (inr h) = rw (lt-leb number most h) (go (
 count-number (time number most) c = absurd c
 count-number (positiveTime number most) c = absurd c
 
-too-large-number : (v : Value) → TimeTooLarge v → valueNumber v ≡ timeTooLarge
+pub too-large-number : (v : Value) → TimeTooLarge v → valueNumber v ≡ timeTooLarge
 unfolding valueNumber timeNumber check TimeTooLarge
 too-large-number (count least number most) c = absurd c
 too-large-number (time number most) h = rw (lt-leb number most h)
 too-large-number (positiveTime number most) h = rw (lt-leb number most h)
 
-zero-number : (v : Value) → TimeOfZero v → valueNumber v ≡ timeOfZero
+pub zero-number : (v : Value) → TimeOfZero v → valueNumber v ≡ timeOfZero
 unfolding valueNumber timeNumber check TimeOfZero
 zero-number (count least number most) c = absurd c
 zero-number (time number most) c = absurd c
@@ -240,7 +240,7 @@ within-number (count least number most) b = rw (le-leb least number (b .at-least
 within-number (time number most) b = rw (le-leb number most (b .at-most), le-leb 0 number (b .at-least))
 within-number (positiveTime number most) b = rw (le-leb number most (b .at-most), le-leb 1 number (b .at-least))
 
-first-out-number : (Out : Value → Type 0) (number : ℕ) → 0 < number → ((v : Value) → Out v → valueNumber v ≡ number)
+pub first-out-number : (Out : Value → Type 0) (number : ℕ) → 0 < number → ((v : Value) → Out v → valueNumber v ≡ number)
     → (values : List Value) → FirstOut Out values → rangeNumber values ≡ number
 unfolding rangeNumber valueNumbers FirstOut firstFailure
 first-out-number Out number pos gives [] c = absurd c

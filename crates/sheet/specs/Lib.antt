@@ -13,6 +13,7 @@ pub mod Read
 pub mod Sound
 pub mod Theorems
 pub mod Refused
+pub mod Values
 pub mod RowLaws
 pub mod Decided
 pub mod Passed

@@ -45,14 +45,14 @@ proper-else n x h = go (isProper n x) refl
     go true e = proper-true n x e
     go false e = absurd (h (proper-decided n x .fails e))
 
-permitted-else : (tag section members : ℕ) → ((Permitted tag section members → ⊥) → ⊥) → Permitted tag section members
+pub permitted-else : (tag section members : ℕ) → ((Permitted tag section members → ⊥) → ⊥) → Permitted tag section members
 permitted-else tag section members h = go (permitted tag section members) refl
   where
     go : (b : Bool) → permitted tag section members ≡ b → Permitted tag section members
     go true e = true-permitted tag section members e
     go false e = absurd (h (false-permitted tag section members e))
 
-length-else : (len due : ℕ) → ((len ≡ due → ⊥) → ⊥) → len ≡ due
+pub length-else : (len due : ℕ) → ((len ≡ due → ⊥) → ⊥) → len ≡ due
 length-else len due h = go (ℕ-discrete len due)
   where
     go : Dec (len ≡ due) → len ≡ due

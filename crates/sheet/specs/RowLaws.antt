@@ -16,6 +16,10 @@ pub data Gives (given number : ℕ) (cause : Type 0) : Type 0 where
   fails : given ≡ number → cause → Gives given number cause
   passes : given ≡ 0 → (cause → ⊥) → Gives given number cause
 
+pub passes-zero : (given number : ℕ) (cause : Type 0) → Gives given number cause → (cause → ⊥) → given ≡ 0
+passes-zero given number cause (fails e c) n = absurd (n c)
+passes-zero given number cause (passes e _) n = e
+
 pub gives-check : (b : Bool) (number : ℕ) (cause : Type 0) → (b ≡ false → cause) → (b ≡ true → cause → ⊥) → Gives (check b number 0) number cause
 unfolding check
 gives-check true number cause f p = passes refl (p refl)
@@ -156,6 +160,25 @@ not-among (r ∷ rows) n (suc k) e c h = not-among rows n k (neither (eqb (r .nu
 
 pub fails-other : (rows : List Row) (number place n : ℕ) → Fails rows number place → isAmong n (numbersOf rows) ≡ false → number ≡ n → ⊥
 fails-other rows number place n f e h = not-among rows n (f .k) e (f .cause) (sym (f .number-is) ∙ h)
+
+-- A number that stands in one row alone is given for the cause of that row.
+unfoldable pub withoutRow : ℕ → List Row → List Row
+withoutRow k [] = []
+withoutRow zero (r ∷ rows) = rows
+withoutRow (suc k) (r ∷ rows) = r ∷ withoutRow k rows
+
+row-of-number : (rows : List Row) (n k j : ℕ) → isAmong n (numbersOf (withoutRow k rows)) ≡ false → rowAt rows j .cause → rowAt rows j .number ≡ n → j ≡ k
+unfolding rowAt withoutRow numbersOf isAmong
+row-of-number [] n k j e c h = absurd c
+row-of-number (r ∷ rows) n zero zero e c h = refl
+row-of-number (r ∷ rows) n zero (suc j) e c h = absurd (not-among rows n j e c h)
+row-of-number (r ∷ rows) n (suc k) zero e c h =
+    absurd (true≢false (sym (eq-eqb _ _ h) ∙ neither (eqb (r .number) n) (isAmong n (numbersOf (withoutRow k rows))) e .0))
+row-of-number (r ∷ rows) n (suc k) (suc j) e c h =
+    ap suc (row-of-number rows n k j (neither (eqb (r .number) n) (isAmong n (numbersOf (withoutRow k rows))) e .1) c h)
+
+pub fails-at : (rows : List Row) (number place k : ℕ) → isAmong number (numbersOf (withoutRow k rows)) ≡ false → (f : Fails rows number place) → f .k ≡ k
+fails-at rows number place k e f = row-of-number rows number k (f .k) e (f .cause) (sym (f .number-is))
 
 -- The way through checks in code: a check that gives no 0 is the answer, one that gives 0 leaves it to those behind it.
 module _ (checks : List ℕ) where

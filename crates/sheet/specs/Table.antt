@@ -1,12 +1,13 @@
 -- A sheet is refused where a reading has passed every field before, the cause of a row lies there, and that of no row before it. The rows are those of
 -- Causes.antt. Refused.antt shows that `readSheet` refuses exactly there, and that a sheet is sound exactly where `RefusedFor` holds of no number and place.
-use Prim.Native.Nat.{ℕ}
+use Prim.Native.Nat.{ℕ, _+_}
 use mathlib.Core.Path.{_≡_}
 use mathlib.Core.List.{List}
 use Rattle.field.specs.Field.{fieldAt}
 use Rattle.field.specs.declared.Field.the-variants.{End, Whole}
 use Rattle.sheet.specs.Rows.{Fails, NoCause}
-use Rattle.sheet.specs.Causes.{fieldRows, endRows, rowsAt}
+use Rattle.sheet.specs.FieldTable.{lengthDue, Value, valuesOf}
+use Rattle.sheet.specs.Causes.{NoMembers, OrderMissing, Permitted, FirstOut, fieldRows, endRows, rowsAt}
 use Rattle.sheet.specs.Decode.{nextReading, startReading}
 use Rattle.sheet.specs.declared.Reading.{Reading}
 
@@ -25,6 +26,21 @@ pub record RefusedFor (s : List ℕ) (number place : ℕ) : Type 0 where
   pub reading : Reading
   pub reached : Reached s reading
   pub cause : Cause s reading number place
+
+-- What 6, 15 and 16 say of a sheet (02, Req 04), row by row: a whole field is reached, the section before it ends well if its tag ends it, its tag is permitted
+-- there and its length is due; and of its values, from left to right, the first that is not within its range is out of it in this way. The place is the field's.
+pub record RefusedForValue (s : List ℕ) (Out : Value → Type 0) (place : ℕ) : Type 0 where
+  pub reading : Reading
+  pub reached : Reached s reading
+  pub tag : ℕ
+  pub len : ℕ
+  pub whole : fieldAt s (reading .at) ≡ Whole tag len
+  pub some-members : NoMembers tag (reading .section) (reading .members) → ⊥
+  pub order-given : OrderMissing tag (reading .section) (reading .members) → ⊥
+  pub tag-permitted : Permitted tag (reading .section) (reading .members)
+  pub length-due : len ≡ lengthDue tag (reading .mosaic .stations)
+  pub first-out : FirstOut Out (valuesOf s (reading .at + 3) tag len (reading .sorting .desks))
+  pub place-is : place ≡ reading .at
 
 -- a sheet is read to its end
 pub record Complete (s : List ℕ) (st : Reading) : Type 0 where

@@ -62,7 +62,7 @@ reached-progress s st (past-field {st = st₀} tag len r e p) =
     (sym (passes-answer _ _ _ (field-answers s st₀ tag len e) p)) refl refl
 
 -- the rows by what stands where a reading is
-at-field : (s : List ℕ) (st : Reading) (f : Field) (number place : ℕ) → fieldAt s (st .at) ≡ f → Fails (rowsAt s st f) number place → Cause s st number place
+pub at-field : (s : List ℕ) (st : Reading) (f : Field) (number place : ℕ) → fieldAt s (st .at) ≡ f → Fails (rowsAt s st f) number place → Cause s st number place
 at-field s st f number place e c = rw e c
 
 ending : (s : List ℕ) (st : Reading) (k : ℕ) → endNumber (st .section) (st .members) ≡ k → Dec (k ≡ 0) → Reached s st → fieldAt s (st .at) ≡ End

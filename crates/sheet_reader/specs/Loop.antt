@@ -15,7 +15,7 @@ use Rattle.field.specs.declared.Field.the-variants.{End, Cut, Whole}
 use Rattle.sheet.specs.Limits.{mostBlocks, mostDesks, mostStrips, mostStripsOfDesk}
 use Rattle.sheet.specs.Tags.{mosaicStripTag, sortingStripTag, flightBlockTag}
 use Rattle.sheet.specs.Sections.{inMosaic, inFlight, stripsOfDesk}
-use Rattle.sheet.specs.FieldTable.{sortingStripValues, valuesOf}
+use Rattle.sheet.specs.FieldTable.{sortingStripValues, valuesOf, Within}
 use Rattle.sheet.specs.Causes.{TooMany}
 use Rattle.sheet.specs.Checks.{permitted}
 use Rattle.sheet.specs.Decode.{nextReading, startReading}
@@ -40,7 +40,7 @@ module _ (s : List ℕ) (st : Reading) (tag len : ℕ) (k : Kept s st) (w : st .
       omega (arith, k .in-mosaic h)
 
   desk-fits : tag ≡ sortingStripTag → numberAt s (st .at + 3) 1 ≤ mostDesks
-  unfolding valuesOf sortingStripValues
+  unfolding valuesOf sortingStripValues Within
   desk-fits e =
       let b : numberAt s (st .at + 3) 1 ≤ st .sorting .desks = first-within _ _ (rw e at (p .range-ok)) .at-most in
       let d = k .sorting .most-desks in
