@@ -5,13 +5,16 @@
 #include "sheet_writer.h"
 #include <string.h>
 
-enum { SHEETS = 21, ORDER_FIELD = 11 };
+enum { SHEETS = 21 };
+
+/* Bytes of the content of a sorting strip, which begins with its desk, and of whole fields of a flight. */
+enum { STRIP_CONTENT = 5, HEAD_FIELD = 3, BLOCK_FIELD = 9, ORDER_FIELD = 11 };
 
 /* The targets of an accepted full sheet: its time by that of the C, and by that of plain enumeration of its sorting section alone. */
 static const double target_ratio = 2.0, target_part = 0.05;
 
 /* How a full sheet with an order is spoiled, if it is. */
-enum change { NONE, ONE_MEMBER_EACH, EMPTY, CUT, EARLY_RANGE, LATE_RANGE, NOT_PROPER, NO_ORDER, SMALL_BUFFER };
+enum change { NONE, ONE_MEMBER_EACH, EMPTY, CUT, LAST_DESK, FIRST_TIME, LAST_TIME, NOT_PROPER, NO_ORDER, SMALL_BUFFER };
 
 struct family {
     const char *name;
@@ -37,12 +40,13 @@ static const struct family families[] = {
     {"one member in each section", 0, ONE_MEMBER_EACH, 0, MOST_TIME, RANDOM, FREE_RANDOM, long_times},
     {"2: buffer too small", SEVULAMON_BUFFER_TOO_SMALL, SMALL_BUFFER, 0, MOST_TIME, RANDOM, ONE_BY_ONE, long_times},
     {"3: last field cut", SEVULAMON_FIELD_CUT, CUT, 0, MOST_TIME, RANDOM, ONE_BY_ONE, long_times},
-    {"6: first time out of range", SEVULAMON_OUT_OF_RANGE, EARLY_RANGE, 0, MOST_TIME, RANDOM, ONE_BY_ONE, long_times},
-    {"6: last time out of range", SEVULAMON_OUT_OF_RANGE, LATE_RANGE, 0, MOST_TIME, RANDOM, ONE_BY_ONE, long_times},
+    {"6: last desk out of range", SEVULAMON_OUT_OF_RANGE, LAST_DESK, 0, MOST_TIME, RANDOM, ONE_BY_ONE, long_times},
     {"8: empty sheet", SEVULAMON_NO_MEMBERS, EMPTY, 0, MOST_TIME, RANDOM, ONE_BY_ONE, long_times},
     {"9: order not proper", SEVULAMON_ORDER_NOT_PROPER, NOT_PROPER, 0, MOST_TIME, RANDOM, ONE_BY_ONE, long_times},
     {"10: 32 blocks, no order", SEVULAMON_ORDER_MISSING, NO_ORDER, 0, MOST_TIME, RANDOM, ONE_BY_ONE, long_times},
     {"11: impossible order", SEVULAMON_ORDER_IMPOSSIBLE, NONE, 0, MOST_TIME, RANDOM, RANDOM_ORDER, long_times},
+    {"15: first time too large", SEVULAMON_TIME_TOO_LARGE, FIRST_TIME, 0, MOST_TIME, RANDOM, ONE_BY_ONE, long_times},
+    {"16: last time of zero", SEVULAMON_TIME_OF_ZERO, LAST_TIME, 0, MOST_TIME, RANDOM, ONE_BY_ONE, long_times},
 };
 
 struct call {
@@ -62,12 +66,13 @@ static void change_sections(struct sheet *s, enum change change) {
 }
 
 static void change_bytes(struct call *x, enum change change) {
-    uint8_t *order = x->sheet + x->length - ORDER_FIELD;
+    uint8_t *order = x->sheet + x->length - ORDER_FIELD, *flight = order - BLOCK_FIELD * x->sections.flight.blocks - HEAD_FIELD;
     switch (change) {
     case EMPTY: x->length = 0; break;
     case CUT: x->length--; break;
-    case EARLY_RANGE: put(x->sheet + 9, 2, MOST_TIME + 1); break;
-    case LATE_RANGE: put(order - 2, 2, MOST_TIME + 1); break;
+    case LAST_DESK: put(flight - STRIP_CONTENT, 1, x->sections.sorting.desks + 1); break;
+    case FIRST_TIME: put(x->sheet + 4, 2, MOST_TIME + 1); break;
+    case LAST_TIME: put(order - 2, 2, 0); break;
     case NOT_PROPER: put(order + 3, 8, 3); break;
     case NO_ORDER: x->length -= ORDER_FIELD; break;
     case SMALL_BUFFER: x->plan_length--; break;

@@ -69,25 +69,53 @@ static inline bool between(u64 low, u64 value, u64 high) {
     return low <= value && value <= high;
 }
 
-static inline bool time_at(const uint8_t *bytes, u64 least) {
-    return between(least, number_at(bytes, 2), MOST_TIME);
+/* The values of a field from left to right: each of these gives 6, 15 or 16 for the first one that is out of its range, or 0. */
+
+static inline u64 count_number(u64 count, u64 most) {
+    return between(1, count, most) ? 0 : SEVULAMON_OUT_OF_RANGE;
 }
 
-static inline bool strip_in_range(const uint8_t *c, size_t stations) {
-    for (size_t k = 0; k < stations; k++)
-        if (!time_at(c + 2 * k, 0))
-            return false;
-    return time_at(c + 2 * stations, 1);
+static inline u64 time_number(const uint8_t *bytes, u64 least) {
+    u64 time = number_at(bytes, 2);
+    if (MOST_TIME < time)
+        return SEVULAMON_TIME_TOO_LARGE;
+    return time < least ? SEVULAMON_TIME_OF_ZERO : 0;
 }
 
-static inline bool in_range(uint8_t tag, const uint8_t *c, const struct sheet *s) {
+static inline u64 head_number(const uint8_t *c) {
+    u64 number = count_number(c[0], 4);
+    return number == 0 ? time_number(c + 1, 0) : number;
+}
+
+static inline u64 strip_number(const uint8_t *c, size_t stations) {
+    u64 number = 0;
+    for (size_t k = 0; k < stations && number == 0; k++)
+        number = time_number(c + 2 * k, 0);
+    return number == 0 ? time_number(c + 2 * stations, 1) : number;
+}
+
+static inline u64 job_number(const uint8_t *c, size_t desks) {
+    u64 number = count_number(c[0], desks);
+    if (number == 0)
+        number = time_number(c + 1, 1);
+    return number == 0 ? time_number(c + 3, 1) : number;
+}
+
+static inline u64 block_number(const uint8_t *c) {
+    u64 number = time_number(c, 1);
+    if (number == 0)
+        number = time_number(c + 2, 0);
+    return number == 0 ? time_number(c + 4, 1) : number;
+}
+
+static inline u64 range_number(uint8_t tag, const uint8_t *c, const struct sheet *s) {
     switch (tag) {
-    case MOSAIC_HEAD: return between(1, c[0], 4) && time_at(c + 1, 0);
-    case MOSAIC_STRIP: return strip_in_range(c, s->mosaic.stations);
-    case SORTING_HEAD: return between(1, c[0], 3);
-    case SORTING_STRIP: return between(1, c[0], s->sorting.desks) && time_at(c + 1, 1) && time_at(c + 3, 1);
-    case FLIGHT_BLOCK: return time_at(c, 1) && time_at(c + 2, 0) && time_at(c + 4, 1);
-    default: return true;
+    case MOSAIC_HEAD: return head_number(c);
+    case MOSAIC_STRIP: return strip_number(c, s->mosaic.stations);
+    case SORTING_HEAD: return count_number(c[0], 3);
+    case SORTING_STRIP: return job_number(c, s->sorting.desks);
+    case FLIGHT_BLOCK: return block_number(c);
+    default: return 0;
     }
 }
 
@@ -120,14 +148,15 @@ static inline u64 section_number(const struct reading *r) {
     return r->section == IN_FLIGHT && r->members > 8 ? SEVULAMON_ORDER_MISSING : 0;
 }
 
-/* 4, 5, 6, 7 or 9 where the field is refused. */
+/* 4, 5, then 6, 15 or 16, then 7 or 9 where the field is refused. */
 static inline u64 field_number(uint8_t tag, const uint8_t *c, size_t length, const struct reading *r, const struct sheet *s) {
     if (!permitted(tag, r))
         return SEVULAMON_TAG_NOT_PERMITTED;
     if (length != length_due(tag, s->mosaic.stations))
         return SEVULAMON_LENGTH_WRONG;
-    if (!in_range(tag, c, s))
-        return SEVULAMON_OUT_OF_RANGE;
+    u64 out_of_range = range_number(tag, c, s);
+    if (out_of_range != 0)
+        return out_of_range;
     if (!has_room(tag, c, s))
         return SEVULAMON_TOO_MANY;
     if (tag == FLIGHT_ORDER && !proper(s->flight.blocks, number_at(c, 8)))
