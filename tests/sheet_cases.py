@@ -2,11 +2,13 @@
 """The sheets that the program sheet_cases reads, with what it must write for each.
 
 Each case is a name, the bytes of a sheet, and the line due: number and place, and for a sound sheet the strips of the mosaic, of each desk,
-the blocks and the order number. The lines are written by hand from 01.
+the blocks and the order number. The lines are written by hand from 01 and the requests of 02; those of values out of range come from a table of bad values with
+their numbers.
 
     sheet_cases.py           writes crates/sheet_cases/stdin and stdout
     sheet_cases.py --check   says whether they are as written here
 """
+import itertools
 import pathlib
 import struct
 import sys
@@ -157,58 +159,140 @@ refused("flight head with content", flight(b"\x00"), 5, 0)
 refused("block of four bytes", F + field(0x31, bytes(4)), 5, 3)
 refused("block of eight bytes", F + field(0x31, bytes(8)), 5, 3)
 refused("order of seven bytes", F + BLOCK + field(0x32, bytes(7)), 5, 12)
-refused("5 goes before 16", F + field(0x31, word(0, 0)), 5, 3)
 
-# 6, 15 and 16: each range on both sides.
-refused("no station", mosaic(0) + STRIP, 6, 0)
-refused("five stations", mosaic(5) + STRIP, 6, 0)
-sound("mount and station time 0", mosaic(1, 0) + strip(0, 1), strips=1)
-sound("mount time 60,000", mosaic(1, MOST_TIME) + STRIP, strips=1)
-refused("mount time 60,001", mosaic(1, MOST_TIME + 1) + STRIP, 15, 0)
-sound("station time 60,000", M + strip(MOST_TIME, 1), strips=1)
-refused("station time 60,001", M + strip(MOST_TIME + 1, 1), 15, 6)
-for k in range(4):
-    times = [0] * 4 + [1]
-    times[k] = MOST_TIME
-    sound("station time %d of four 60,000" % (k + 1), mosaic(4) + strip(*times), strips=1)
-    times[k] = MOST_TIME + 1
-    refused("station time %d of four 60,001" % (k + 1), mosaic(4) + strip(*times), 15, 6)
-sound("bench time 60,000", M + strip(0, MOST_TIME), strips=1)
-refused("bench time 0", M + strip(0, 0), 16, 6)
-refused("bench time 60,001", M + strip(0, MOST_TIME + 1), 15, 6)
-refused("no desk", sorting(0) + JOB, 6, 0)
-sound("three desks", sorting(3) + job(3), desks=(0, 0, 1))
-refused("four desks", sorting(4) + JOB, 6, 0)
-refused("desk 0", sorting(3) + job(0), 6, 4)
-refused("desk past the last", sorting(2) + job(3), 6, 4)
-sound("scan time 60,000", S + job(1, MOST_TIME, 1), desks=(1, 0, 0))
-refused("scan time 0", S + job(1, 0, 1), 16, 4)
-refused("scan time 60,001", S + job(1, MOST_TIME + 1, 1), 15, 4)
-sound("desk time 60,000", S + job(1, 1, MOST_TIME), desks=(1, 0, 0))
-refused("desk time 0", S + job(1, 1, 0), 16, 4)
-refused("desk time 60,001", S + job(1, 1, MOST_TIME + 1), 15, 4)
-sound("first pass 60,000", F + block(MOST_TIME, 0, 1), blocks=1)
-refused("first pass 0", F + block(0, 0, 1), 16, 3)
-refused("first pass 60,001", F + block(MOST_TIME + 1, 0, 1), 15, 3)
-sound("delay 0", F + block(1, 0, 1), blocks=1)
-sound("delay 60,000", F + block(1, MOST_TIME, 1), blocks=1)
-refused("delay 60,001", F + block(1, MOST_TIME + 1, 1), 15, 3)
-sound("second pass 60,000", F + block(1, 0, MOST_TIME), blocks=1)
-refused("second pass 0", F + block(1, 0, 0), 16, 3)
-refused("second pass 60,001", F + block(1, 0, MOST_TIME + 1), 15, 3)
-refused("the greatest two-byte time", F + block(65535, 0, 1), 15, 3)
+# 6, 15 and 16: the values of a field are examined from left to right.
+OVER = MOST_TIME + 1
+refused("stations 0, mount time 60,001", mosaic(0, OVER), 6, 0)
+refused("stations 5, mount time 60,001", mosaic(5, OVER), 6, 0)
+refused("station time 60,001, bench time 0", M + strip(OVER, 0), 15, 6)
+refused("station time 0, bench time 0", M + strip(0, 0), 16, 6)
+refused("desk 0, scan time 0", S + job(0, 0), 6, 4)
+refused("scan time 0, desk time 60,001", S + job(1, 0, OVER), 16, 4)
+refused("scan time 60,001, desk time 0", S + job(1, OVER, 0), 15, 4)
+refused("first pass 0, delay 60,001", F + block(0, OVER), 16, 3)
+refused("delay 60,001, second pass 0", F + block(1, OVER, 0), 15, 3)
 
-# 7: each count on both sides; 6, 15 and 16 of the same field go first.
+
+# The bad values of each kind of value, with their numbers: those next to its range, then others, of times also one whose low byte is 0.
+def count(most):
+    return {0: 6, most + 1: 6}, {255: 6}
+
+
+FROM_0 = {OVER: 15}, {0xEB00: 15, 0xFFFF: 15}
+FROM_1 = {0: 16, OVER: 15}, {0xEB00: 15, 0xFFFF: 15}
+
+# Each field: its name, what stands before it, how it is made from its values, and its values from left to right, each with its name, a good one and its kind.
+BENCH = ("bench time", 1, FROM_1)
+FIELDS = [
+    ("mosaic head", b"", mosaic, [("stations", 1, count(4)), ("mount time", 0, FROM_0)]),
+    *[("strip of %d stations" % m, mosaic(m), strip, [*[("station time %d" % k, 0, FROM_0) for k in range(1, m + 1)], BENCH]) for m in (1, 2, 3, 4)],
+    ("sorting head", b"", sorting, [("desks", 1, count(3))]),
+    ("strip for two desks", sorting(2), job, [("desk", 1, count(2)), ("scan time", 1, FROM_1), ("desk time", 1, FROM_1)]),
+    ("block", F, block, [("first pass", 1, FROM_1), ("delay", 0, FROM_0), ("second pass", 1, FROM_1)]),
+]
+
+
+def rows(values):
+    """Every row in which each value is good or next to its range: the bad ones in words, the row, and the numbers of the bad ones from left to right."""
+    for row in itertools.product(*[[(good, 0), *near.items()] for _, good, (near, _) in values]):
+        bad = ["%s %d" % (name, value) for (name, _, _), (value, number) in zip(values, row) if number]
+        yield ", ".join(bad), [value for value, _ in row], [number for _, number in row if number]
+
+
+# Every set of bad values in a field, from one to all: the leftmost decides. The place is the field's tag, and so it is in a later field of the section.
+# Nothing stands behind the field: that a head has no members (8) is found later.
+# The fields with one bad value are used again below: the name, what stands before, the field without the bad value, the field with it, and the number.
+ONE_BAD = []
+for kind, before, make, values in FIELDS:
+    goods = [good for _, good, _ in values]
+    for what, row, numbers in rows(values):
+        name = "%s: %s" % (kind, what)
+        if numbers:
+            refused(name, before + make(*row), numbers[0], len(before))
+        if len(numbers) == 1:
+            ONE_BAD.append((name, before, make(*goods), make(*row), numbers[0]))
+    for k, (name, _, (_, others)) in enumerate(values):
+        for value, number in others.items():
+            refused("%s: %s %d" % (kind, name, value), before + make(*goods[:k], value, *goods[k + 1:]), number, len(before))
+MEMBERS = [one for one in ONE_BAD if one[1]]
+for name, before, good, bad, number in MEMBERS:
+    refused(name + ", behind two good ones", before + good * 2 + bad, number, len(before + good * 2))
+for m in (1, 3):
+    for desk, number in {**count(m)[0], **count(m)[1]}.items():
+        refused("desk %d of %d" % (desk, m), sorting(m) + job(desk), number, 4)
+for desks in (0, 4):
+    refused("%d desks, behind a mosaic" % desks, M + STRIP + sorting(desks), 6, 13)
+
+# Each value at both ends of its range, a time also at 256, whose low byte is 0.
+for m, mount in itertools.product((1, 2, 3, 4), (0, 256, MOST_TIME)):
+    sound("%d stations, mount time %d" % (m, mount), mosaic(m, mount) + strip(*[0] * m, 1), strips=1)
+for m in (1, 2, 3, 4):
+    for k, time in itertools.product(range(m + 1), (256, MOST_TIME)):
+        times = [0] * m + [1]
+        times[k] = time
+        sound("time %d of a strip of %d stations: %d" % (k + 1, m, time), mosaic(m) + strip(*times), strips=1)
+for m in (1, 2, 3):
+    for desk in range(1, m + 1):
+        sound("desk %d of %d" % (desk, m), sorting(m) + job(desk), desks=tuple(int(d == desk) for d in (1, 2, 3)))
+for time in (1, 256, MOST_TIME):
+    sound("scan time %d" % time, S + job(1, time, 1), desks=(1, 0, 0))
+    sound("desk time %d" % time, S + job(1, 1, time), desks=(1, 0, 0))
+    sound("first pass %d" % time, F + block(time, 0, 1), blocks=1)
+    sound("second pass %d" % time, F + block(1, 0, time), blocks=1)
+for time in (0, 256, MOST_TIME):
+    sound("delay %d" % time, F + block(1, time, 1), blocks=1)
+
+# 3, 4 and 5 of the same field go before 6, 15 and 16.
+for name, before, _, bad, _ in ONE_BAD:
+    refused("3 goes before: " + name, before + bad[:-1], 3, len(before))
+    refused("5 goes before, one byte short: " + name, before + field(bad[0], bad[3:-1]), 5, len(before))
+    refused("5 goes before, two bytes over: " + name, before + field(bad[0], bad[3:] + word(1)), 5, len(before))
+for name, _, _, bad, _ in MEMBERS:
+    refused("4 goes before: " + name, bad, 4, 0)
+refused("4 goes before 15: a second mosaic head", M + STRIP + mosaic(1, OVER), 4, 13)
+refused("4 goes before 6: a second sorting head", S + JOB + sorting(0), 4, 12)
+refused("4 goes before 15: a mosaic head behind the flight", F + BLOCK + mosaic(1, OVER), 4, 12)
+refused("4 goes before 16: a block behind the order", F + BLOCK + order(2) + block(0), 4, 23)
+
+# 8 and 10 of the section before go before the values of the head that ends it. A member ends no section.
+for head in (mosaic(0), mosaic(1, OVER), sorting(0), sorting(4)):
+    refused("8 goes before the values of head %s" % head.hex(), M + head, 8, 0)
+    refused("8 goes before the values of head %s, behind a mosaic" % head.hex(), M + STRIP + S + head, 8, 13)
+    refused("10 goes before the values of head %s" % head.hex(), F + BLOCK * 9 + head, 10, 0)
+refused("nine blocks, then one with a first pass of 60,001", F + BLOCK * 9 + block(OVER), 15, 84)
+
+# The first bad field decides: among jobs with 6, 15 and 16, across sections, and against other faults.
+BAD_JOBS = {6: job(0), 15: job(1, OVER), 16: job(1, 0)}
+for one, other in itertools.permutations(BAD_JOBS, 2):
+    refused("a job with %d, then one with %d" % (one, other), S + BAD_JOBS[one] + BAD_JOBS[other], one, 4)
+refused("16 in the mosaic, 6 in the sorting, 15 in the flight", M + strip(0, 0) + sorting(0) + JOB + F + block(OVER), 16, 6)
+refused("6 in the sorting, 15 in the flight", M + STRIP + S + job(0) + F + block(OVER), 6, 17)
+refused("15 in the flight", M + STRIP + S + JOB + F + block(OVER), 15, 28)
+refused("16, then a field that is cut", M + strip(0, 0) + b"\x11", 16, 6)
+refused("15, then a tag that is not permitted", M + strip(OVER, 1) + field(0x99), 15, 6)
+refused("16, then a wrong length", F + block(0) + field(0x31), 16, 3)
+refused("15, then 40 strips", M + strip(OVER, 1) + STRIP * 40, 15, 6)
+refused("16, then a section without members", M + strip(0, 0) + S, 16, 6)
+refused("15, then an order that is not proper", F + block(OVER) + order(1), 15, 3)
+refused("16 in the ninth block without order", F + BLOCK * 8 + block(1, 0, 0), 16, 75)
+refused("a wrong length, then 16", F + BLOCK + field(0x31) + block(0), 5, 12)
+refused("a 41st strip, then 16", M + STRIP * 41 + strip(0, 0), 7, 6 + 7 * 40)
+refused("an order that is not proper, then 15", F + BLOCK + order(1) + block(OVER), 9, 12)
+
+# 7: each number of members on both sides; 6, 15 and 16 of the same field go first.
 sound("40 strips", M + STRIP * 40, strips=40)
 refused("41 strips", M + STRIP * 41, 7, 6 + 7 * 40)
-refused("a 41st strip with bench time 0", M + STRIP * 40 + strip(0, 0), 16, 6 + 7 * 40)
 sound("six strips of each desk", sorting(3) + job(1) * 6 + job(2) * 6 + job(3) * 6, desks=(6, 6, 6))
 refused("a seventh strip of desk 2", sorting(3) + job(2) * 7, 7, 4 + 8 * 6)
 refused("a seventh strip of desk 1 with scan time 0", sorting(3) + job(1) * 6 + job(1, 0), 16, 4 + 8 * 6)
+refused("a strip of desk 4 of 3 behind full desks", sorting(3) + (job(1) + job(2) + job(3)) * 6 + job(4), 6, 4 + 8 * 18)
 sound("strips of desks in turn", sorting(3) + (job(1) + job(3)) * 3, desks=(3, 0, 3))
 sound("32 blocks with an order", F + BLOCK * 32 + order(alternate(32)), blocks=32, order_number=alternate(32))
 refused("33 blocks", F + BLOCK * 33 + order(alternate(32)), 7, 3 + 9 * 32)
-refused("a 33rd block of zeros", F + BLOCK * 32 + block(0, 0, 0), 16, 3 + 9 * 32)
+MOST_MEMBERS = {0x11: 40, 0x21: 6, 0x31: 32}
+for name, before, good, bad, number in MEMBERS:
+    full = before + good * MOST_MEMBERS[bad[0]]
+    refused(name + ", one member too many", full + bad, number, len(full))
 
 # 9: orders that are not proper. An order number has no range of its own.
 sound("order 2 for one block", F + BLOCK + order(2), blocks=1, order_number=2)
