@@ -1,7 +1,7 @@
 #!/usr/bin/env python3
 """The sheets and plans that the program judge_cases reads, with what it must write for each.
 
-Each case is a name, a sheet, a plan, and the line due: number, place and the three figures. The lines are written by hand from 01.
+Each case is a name, a sheet, a plan, and the line due: number, place and the three figures. The lines are written by hand from 01 and the requests of 02.
 
     judge_cases.py           writes crates/judge_cases/stdin and stdout
     judge_cases.py --check   says whether they are as written here
@@ -10,7 +10,7 @@ import struct
 import sys
 
 import sheet_cases as sheets
-from sheet_cases import block, field, flight, job, mosaic, order, sorting, strip, word
+from sheet_cases import OVER, block, field, flight, job, mosaic, order, sorting, strip, word
 
 FOLDER = sheets.FOLDER.parent / "judge_cases"
 CEILING = 10_000_000
@@ -81,6 +81,31 @@ allowed("passes that wait", F, passes(105, 0xC, (100, 103), (101, 104)), 0, 0, 1
 # The sheet goes first, with its place in the sheet.
 refused("a sheet that is refused", flight() + block() * 9, b"", 10, 0)
 refused("a cut sheet and a good plan", M[:-1], BEST, 3, 33)
+# So it is with 6, 15 and 16: all three sections, in each of them a value out of its range, or two of which the left one decides; and a plan of the good sheet,
+# or one with a fault of its own, which the good sheet shows.
+ONE_JOB, ONE_BLOCK = sorting(2) + job(1, 2, 5), flight() + block(1, 2, 1)
+BAD_SHEETS = [
+    ("stations 0, mount time 60,001", mosaic(0, OVER) + M[6:] + S + F, 6, 0),
+    ("mount time 60,001", mosaic(2, OVER) + M[6:] + S + F, 15, 0),
+    ("station time 60,001, bench time 0", M[:6] + strip(2, OVER, 0) + M[15:] + S + F, 15, 6),
+    ("bench time 0 of the second strip", M[:15] + strip(1, 3, 0) + M[24:] + S + F, 16, 15),
+    ("desk 3 of 2", M + ONE_JOB + job(3, 1, 1) + F, 6, len(M + ONE_JOB)),
+    ("scan time 0, desk time 60,001", M + ONE_JOB + job(2, 0, OVER) + F, 16, len(M + ONE_JOB)),
+    ("desk time 60,001", M + ONE_JOB + job(2, 1, OVER) + F, 15, len(M + ONE_JOB)),
+    ("first pass 60,001, second pass 0", M + S + ONE_BLOCK + block(OVER, 2, 0), 15, len(M + S + ONE_BLOCK)),
+    ("second pass 0", M + S + ONE_BLOCK + block(1, 2, 0), 16, len(M + S + ONE_BLOCK)),
+]
+BAD_PLANS = [
+    ("an empty plan", b"", 12, 0),
+    ("a plan whose last field is cut", PLAN[:-1], 12, len(PLAN) - 11),
+    ("a plan whose first batch finishes late", batches(36, (1, 2, 5)) + PLAN[19:], 13, 7),
+    ("a plan whose first figure is untrue", batches(37) + PLAN[7:], 14, 0),
+]
+for kind, plan, number, place in BAD_PLANS:
+    refused("the good sheet, and " + kind, ALL, plan, number, place)
+for fault, sheet, number, place in BAD_SHEETS:
+    for kind, plan in [("a plan of the good sheet", PLAN), *[bad[:2] for bad in BAD_PLANS]]:
+        refused("%s, and %s" % (fault, kind), sheet, plan, number, place)
 
 # 12: layout.
 refused("an empty plan", M, b"", 12, 0)

@@ -147,6 +147,10 @@ planned(
     batches(3 * T, (1, T, 3 * T)) + jobs(2 * T, (1, 1, 0, T)) + passes(3 * T, 2, (0, 2 * T)),
 )
 
+# Time 60,001 is 15, a pass of 0 is 16: the bytes of the whole answer.
+CASES.append(("time 60,001 in every time of a block", flight() + block(T + 1, T + 1, T + 1), bytes.fromhex("E0 06 00 0F 00 03 00 00 00")))
+CASES.append(("a second pass of 0", judged.ALL[:-2] + word(0), bytes.fromhex("E0 06 00 10 00 4A 00 00 00")))
+
 # The longest sections: full ones in which every time is 60,000. The strips are ready at T, 2 T, .. 40 T, with any number of stations.
 # The k-th strip that is scanned is finished at (k + 1) T or later: 2 T + 3 T + .. + 19 T = 189 T at least. No desk is waited for, so every list has that.
 SUM = least_sum([k * T for k in range(1, 41)], T, [T] * 40)
@@ -177,6 +181,11 @@ best("the longest sections, a free flight", FREE_LONG, SUM, 189 * T, 16 * T, sor
 # 11 at the order field, also where other sections could be planned.
 refused("order C cannot be kept", judged.A + order(0xC), 11, len(judged.A))
 refused("order C cannot be kept behind two sections", judged.M + judged.S + judged.A + order(0xC), 11, len(judged.M + judged.S + judged.A))
+
+# 6, 15 and 16 go before 11.
+refused("no desk, order C cannot be kept", judged.M + sorting(0) + judged.A + order(0xC), 6, len(judged.M))
+refused("mount time 60,001, order C cannot be kept", mosaic(2, T + 1) + judged.M[6:] + judged.A + order(0xC), 15, 0)
+refused("a second pass of 0, order C cannot be kept", judged.A[:-2] + word(0) + order(0xC), 16, len(judged.A) - 9)
 
 # The program takes the first 65,536 bytes: a field that goes on behind them is cut.
 refused("a field past the bytes that are taken", field(0x10, bytes(65535)), 3, 0)
