@@ -7,14 +7,18 @@ use Prim.Native.Nat.{ℕ, _*_, _≤_, _<_}
 use mathlib.Core.Path.{_≡_, refl, sym, ap, subst, _∙_}
 use mathlib.Core.Bool.{true}
 use mathlib.Core.List.{List, _++_}
+use mathlib.Core.Logic.{_⊎_, inl, inr, ⊎-elim}
 use lib.ListN.{length, drop}
 use native.Mathlib.Omega.{arith}
 use Rattle.sheet.specs.Limits.{ceiling, tableLength, planLength, pageLength}
-use Rattle.sheet.specs.Refusals.{orderImpossible, bufferTooSmall}
+use Rattle.sheet.specs.Refusals.{outOfRange, orderImpossible, bufferTooSmall, layoutWrong, ruleBroken, figureUntrue, timeTooLarge, timeOfZero}
 use Rattle.sheet.specs.Read.{readSheet}
 use Rattle.sheet.specs.Theorems.{read-sound}
-use Rattle.sheet.specs.Table.{RefusedFor}
+use Rattle.sheet.specs.FieldTable.{Value}
+use Rattle.sheet.specs.Causes.{CountOutOfRange, TimeTooLarge, TimeOfZero}
+use Rattle.sheet.specs.Table.{RefusedFor, RefusedForValue}
 use Rattle.sheet.specs.Refused.{sound-exactly}
+use Rattle.sheet.specs.Values.{count-exactly, too-large-exactly, zero-exactly}
 use Rattle.sheet.specs.Decode.{zeros}
 use Rattle.sheet.specs.Stores.{length-zeros}
 use Rattle.sheet.specs.Sound.{SheetSound}
@@ -36,7 +40,7 @@ use Rattle.plan_format.specs.ByteLaws.{AreBytes}
 use Rattle.rules_laws.specs.Determined.{plan-most, plan-determined}
 use Rattle.judge.specs.Judged.{turnedBack, found, judged}
 use Rattle.judge.specs.declared.Judged.{Judged}
-use Rattle.judge_laws.specs.Fault.{Fault}
+use Rattle.judge_laws.specs.Fault.{SectionFault, Fault}
 use Rattle.judge_laws.specs.Theorems.{FiguresTrue, FiguresGiven, judge-allows, allowed-judged, allowed-found, allowed-stated, judged-figures, figures-given}
 use Rattle.judge_laws.specs.Theorems.{fault-judged, judged-fault}
 use Rattle.mosaic.specs.Plan.{lasts}
@@ -471,3 +475,74 @@ pub same-sheet-same-list : (sheet p q : List ℕ) (a : AllowedFor sheet p) (b : 
     → sortingFields (readSheet sheet .sorting) (a .allowed .plan .jobs) ≡ sortingFields (readSheet sheet .sorting) (b .allowed .plan .jobs)
 same-sheet-same-list sheet p q a b s t =
     ap (sortingFields (readSheet sheet .sorting)) (taken-determined sheet (a .sound) (a .allowed .plan .jobs) (b .allowed .plan .jobs) s t)
+
+-- REQ 04. "Keep 6 for station, desk and other counts. Within a field values are examined from left to right. New numbers: 15, a time above its upper end; 16, a
+-- time of zero where at least 1 is due; both in the place of 6." FieldTable.antt of crate sheet says which values a field has, counts and times; Causes.antt there
+-- when one is out of its range, and how; Table.antt, what it is that a sheet is refused for a value (`RefusedForValue`). A planning call:
+module _ (sheet plan table planAfter tableEnd : List ℕ) (r : Answer) (call : Called sheet plan table planAfter tableEnd r) where
+  -- with buffers large enough the number is given where the first value out of its range is so, with the place of its field, and not otherwise
+  pub record GivenForValue (number : ℕ) (Out : Value → Type 0) : Type 0 where
+    pub always : Large plan table → (place : ℕ) → RefusedForValue sheet Out place → r ≡ answer number place 0
+    pub only : r .number ≡ number → Large plan table × RefusedForValue sheet Out (r .place)
+
+  given-for-value : (number : ℕ) (Out : Value → Type 0) → bufferTooSmall < number → (number ≡ orderImpossible → ⊥)
+      → ((place : ℕ) → (RefusedForValue sheet Out place → RefusedFor sheet number place) × (RefusedFor sheet number place → RefusedForValue sheet Out place))
+      → GivenForValue number Out
+  given-for-value number Out more other exactly =
+      record {
+        always = λ large place f. turned-back sheet plan table planAfter tableEnd r call number place (TurnedBack.in-sheet large (exactly place .0 f));
+        only = λ e. go e (turned-back-only sheet plan table planAfter tableEnd r call (λ z. omega arith));
+      }
+    where
+      go : r .number ≡ number → TurnedBack sheet plan table (r .number) (r .place) → Large plan table × RefusedForValue sheet Out (r .place)
+      go e (TurnedBack.table-small l en ep) = absurd (omega arith)
+      go e (TurnedBack.buffer-small l m en ep) = absurd (omega arith)
+      go e (TurnedBack.in-sheet l f) = (l, exactly (r .place) .1 (rw e at f))
+      go e (TurnedBack.impossible l s i en ep) = absurd (other (sym e ∙ en))
+
+  pub six-for-a-count : GivenForValue outOfRange CountOutOfRange
+  six-for-a-count = given-for-value outOfRange CountOutOfRange (omega arith) (λ e. omega arith) (count-exactly sheet)
+
+  pub fifteen-for-a-time-too-large : GivenForValue timeTooLarge TimeTooLarge
+  fifteen-for-a-time-too-large = given-for-value timeTooLarge TimeTooLarge (omega arith) (λ e. omega arith) (too-large-exactly sheet)
+
+  pub sixteen-for-a-time-of-zero : GivenForValue timeOfZero TimeOfZero
+  sixteen-for-a-time-of-zero = given-for-value timeOfZero TimeOfZero (omega arith) (λ e. omega arith) (zero-exactly sheet)
+
+-- A judging call gives the three for a bad sheet in the same way, whatever the plan.
+module _ (sheet plan : List ℕ) (j : Judged) (call : j ≡ judged sheet plan) where
+  pub record JudgedForValue (number : ℕ) (Out : Value → Type 0) : Type 0 where
+    pub always : (place : ℕ) → RefusedForValue sheet Out place → j ≡ turnedBack number place
+    pub only : j .number ≡ number → RefusedForValue sheet Out (j .place)
+
+  section-number : (section number place : ℕ) → SectionFault (readSheet sheet) plan section number place → (number ≡ ruleBroken) ⊎ (number ≡ figureUntrue)
+  section-number section number place (SectionFault.at-member k st p h n e q) = inl e
+  section-number section number place (SectionFault.at-head st p n e q) = inl e
+  section-number section number place (SectionFault.figure-untrue st p h n e q) = inr e
+
+  judged-for-value : (number : ℕ) (Out : Value → Type 0) → 0 < number → (number ≡ layoutWrong → ⊥) → (number ≡ ruleBroken → ⊥) → (number ≡ figureUntrue → ⊥)
+      → ((place : ℕ) → (RefusedForValue sheet Out place → RefusedFor sheet number place) × (RefusedFor sheet number place → RefusedForValue sheet Out place))
+      → JudgedForValue number Out
+  judged-for-value number Out some n₁₂ n₁₃ n₁₄ exactly =
+      record {
+        always = λ place f. turns-back-for-its-fault sheet plan j call number place (Fault.in-sheet (exactly place .0 f));
+        only = λ e. go _ _ e (turns-back-not-otherwise sheet plan j call (λ z. omega arith));
+      }
+    where
+      go : (n place : ℕ) → n ≡ number → Fault sheet plan n place → RefusedForValue sheet Out place
+      go n place e (Fault.in-sheet f) = exactly place .1 (rw e at f)
+      go n place e (Fault.in-layout s f en) = absurd (n₁₂ (sym e ∙ en))
+      go n place e (Fault.in-section section s l h₁ h₂ b p f) =
+          ⊎-elim (λ en. absurd (n₁₃ (sym e ∙ en))) (λ en. absurd (n₁₄ (sym e ∙ en))) (section-number section n place f)
+
+  pub judged-six : JudgedForValue outOfRange CountOutOfRange
+  judged-six =
+      judged-for-value outOfRange CountOutOfRange (omega arith) (λ e. omega arith) (λ e. omega arith) (λ e. omega arith) (count-exactly sheet)
+
+  pub judged-fifteen : JudgedForValue timeTooLarge TimeTooLarge
+  judged-fifteen =
+      judged-for-value timeTooLarge TimeTooLarge (omega arith) (λ e. omega arith) (λ e. omega arith) (λ e. omega arith) (too-large-exactly sheet)
+
+  pub judged-sixteen : JudgedForValue timeOfZero TimeOfZero
+  judged-sixteen =
+      judged-for-value timeOfZero TimeOfZero (omega arith) (λ e. omega arith) (λ e. omega arith) (λ e. omega arith) (zero-exactly sheet)
