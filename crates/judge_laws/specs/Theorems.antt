@@ -121,8 +121,8 @@ figures-given sheet plan a =
           (ap (λ (j : Judged). j .flight) e);
     }
 
--- Each number is given with its place where the fault lies, and not otherwise: 3 to 10 in the sheet, 12 only for the layout, 13 at a member or at a head, 14 at
--- a head whose figure is untrue (Fault.antt).
+-- Each number is given with its place where the fault lies, and not otherwise: 3 to 10, 15 and 16 in the sheet, 12 only for the layout, 13 at a member or at a
+-- head, 14 at a head whose figure is untrue (Fault.antt).
 pub fault-judged : (sheet plan : List ℕ) (number place : ℕ) → Fault sheet plan number place → judged sheet plan ≡ turnedBack number place
 fault-judged sheet plan number place f = fault-turned-back sheet plan number place f
 

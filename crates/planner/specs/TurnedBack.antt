@@ -22,7 +22,7 @@ pub data TurnedBack (sheet plan table : List ℕ) (number place : ℕ) : Type 0 
   table-small : length table < tableLength → number ≡ tableTooSmall → place ≡ 0 → TurnedBack sheet plan table number place
   -- "plan buffer below 1,095 bytes"
   buffer-small : tableLength ≤ length table → length plan < planLength → number ≡ bufferTooSmall → place ≡ 0 → TurnedBack sheet plan table number place
-  -- 3 to 10: a cause of the sheet, at the first field that has one (sheet, Causes.antt and Table.antt)
+  -- 3 to 10, 15 and 16: a cause of the sheet, at the first field that has one (sheet, Causes.antt and Table.antt)
   in-sheet : Large plan table → RefusedFor sheet number place → TurnedBack sheet plan table number place
   -- "no timetable keeps the given order", at the order field, of a sheet that is otherwise sound
   impossible :

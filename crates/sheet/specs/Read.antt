@@ -18,7 +18,7 @@ use Rattle.sheet.specs.Decode.{noMosaic, noSorting, noFlight, nextReadin
 use Rattle.sheet.specs.declared.Reading.{Reading}
 use Rattle.sheet.specs.declared.Sheet.{Sheet}
 
--- the checks of a field of a permitted tag for its content: "5, 6, 7, 9"
+-- the checks of a field of a permitted tag for its content: "5, 6, 7, 9", 15 and 16 "in the place of 6"
 unfoldable pub contentChecks : List ℕ → Reading → ℕ → ℕ → List ℕ
 contentChecks s st tag len =
     check (eqb len (lengthDue tag (st .mosaic .stations))) lengthWrong 0

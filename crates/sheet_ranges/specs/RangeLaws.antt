@@ -17,7 +17,7 @@ use Rattle.sheet.specs.Rows.{firstFailure}
 use Rattle.sheet.specs.RowLaws.{given-fails, given-passes, given-last}
 use Rattle.sheet.specs.Checks.{countNumber, timeNumber, valueNumber, valueNumbers, rangeNumber}
 
--- one count
+-- one count, and one time
 module _ (least number most : ℕ) where
   pub count-below : number < least → outOfRange ≡ countNumber least number most
   unfolding countNumber check
@@ -31,7 +31,6 @@ module _ (least number most : ℕ) where
   unfolding countNumber check
   count-within h k = rw (le-leb least number h, le-leb number most k)
 
-  -- one time
   pub time-above : most < number → timeTooLarge ≡ timeNumber least number most
   unfolding timeNumber check
   time-above k = rw (lt-leb number most k)

@@ -25,20 +25,20 @@ fn count_number(least: u64, value: u64, most: u64) -> u64
     if value < least {
         return OUT_OF_RANGE;
     }
-    if most < value {
-        return OUT_OF_RANGE;
+    if value <= most {
+        return 0;
     }
-    0
+    OUT_OF_RANGE
 }
 
 // The number of a time, which may be from `least`, 0 or 1, to `most`.
-fn time_number(least: u64, value: u64, most: u64) -> u64
-    ensures { λ r. ⌜ r ≡ timeNumber least value most ⌝ }
+fn time_number(least: u64, time: u64, most: u64) -> u64
+    ensures { λ r. ⌜ r ≡ timeNumber least time most ⌝ }
 {
-    if most < value {
+    if most < time {
         return TIME_TOO_LARGE;
     }
-    if value < least {
+    if time < least {
         return TIME_OF_ZERO;
     }
     0

@@ -7,10 +7,10 @@ returns : tie.Need-returns
 returns c = search count-below
 
 returns-2 : tie.Need-returns-2
-returns-2 c = search count-above
+returns-2 c = search count-within
 
 returns-3 : tie.Need-returns-3
-returns-3 c = search count-within
+returns-3 c = search count-above
 
 pub count-number-spec : {M : Type 1} → statement M
 count-number-spec = tie.close (tie.spec returns returns-2 returns-3)
