@@ -15,6 +15,7 @@ pub mod Theorems
 pub mod Refused
 pub mod Values
 pub mod RowLaws
+pub mod Ranges
 pub mod Decided
 pub mod Passed
 pub mod Stores

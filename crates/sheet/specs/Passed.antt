@@ -17,7 +17,8 @@ use Rattle.sheet.specs.RowLaws.{answer-passes}
 use Rattle.sheet.specs.Causes.{Permitted, CountOutOfRange, TimeTooLarge, TimeOfZero, FirstOut, TooMany, fieldRows}
 use Rattle.sheet.specs.Checks.{permitted, rangeNumber}
 use Rattle.sheet.specs.Read.{fieldNumber}
-use Rattle.sheet.specs.Decided.{true-permitted, false-permitted, RangeDecided, range-decided, field-answers}
+use Rattle.sheet.specs.Ranges.{RangeDecided, range-decided}
+use Rattle.sheet.specs.Decided.{true-permitted, false-permitted, field-answers}
 use Rattle.sheet.specs.declared.Reading.{Reading}
 
 pub record Passed (s : List ℕ) (st : Reading) (tag len : ℕ) : Type 0 where

@@ -16,8 +16,8 @@ use Rattle.sheet.specs.Causes.{CountOutOfRange, TimeTooLarge, TimeOfZero
 use Rattle.sheet.specs.Checks.{valueNumber}
 use Rattle.sheet.specs.Read.{contentChecks, fieldChecks, fieldNumber, placeOf}
 use Rattle.sheet.specs.Table.{RefusedFor, RefusedForValue}
-use Rattle.sheet.specs.Decided.{members-given, order-given, permitted-given, length-given, field-answers, first-out-number}
-use Rattle.sheet.specs.Decided.{count-number, too-large-number, zero-number}
+use Rattle.sheet.specs.Ranges.{count-number, too-large-number, zero-number, first-out-number}
+use Rattle.sheet.specs.Decided.{members-given, order-given, permitted-given, length-given, field-answers}
 use Rattle.sheet.specs.Theorems.{at-field}
 use Rattle.sheet.specs.Passed.{permitted-else, length-else}
 use Rattle.sheet.specs.declared.Reading.{Reading}
@@ -40,8 +40,8 @@ module _ (Out : Value → Type 0) (number : ℕ) (gives : (v : Value) → Out v 
   value-refused =
       let st = f .reading in
       let e = field-number in
-      let p : placeOf (fieldNumber s st (f .tag) (f .len)) (st .head) (st .at) ≡ place
-      = ap (λ n. placeOf n (st .head) (st .at)) (sym e) ∙ at-field-itself (st .head) (st .at) ∙ sym (f .place-is) in
+      let same = ap (λ n. placeOf n (st .head) (st .at)) e in
+      let p : placeOf (fieldNumber s st (f .tag) (f .len)) (st .head) (st .at) ≡ place = omega (arith, same, at-field-itself (st .head) (st .at), f .place-is) in
       record {
         reading = st;
         reached = f .reached;
@@ -81,7 +81,7 @@ module _ (Out : Value → Type 0) (number k : ℕ) (behind : 4 < k) (s : List �
             tag-permitted = permitted-else tag (st .section) (st .members) (c .before 3 (omega arith));
             length-due = length-else len _ (c .before 4 (omega arith));
             first-out = cause-of st tag len (subst (λ j. rowAt (fieldRows s st tag len) j .cause) at-k (c .cause));
-            place-is = c .place-is ∙ ap (λ j. rowAt (fieldRows s st tag len) j .place) at-k ∙ place-of st tag len;
+            place-is = omega (arith, c .place-is, ap (λ j. rowAt (fieldRows s st tag len) j .place) at-k, place-of st tag len);
           }
 
 -- 6, 15 and 16
