@@ -75,9 +75,9 @@ extern "C" {
 #endif
 
 /* Why a sheet or a plan is turned back. 1, a working table too small, cannot occur here: the table
- * is supplied inside. Where nothing else is said, the place is the offset of the field's tag. 15
- * and 16 stand beside 6: the values of a field are examined from left to right, and the first one
- * out of its range decides which of the three is given. */
+ * is supplied inside. Where nothing else is said, the place is the offset of the field's tag. 6,
+ * 15 and 16 are one check, after 5 and before 7: the values of a field are examined from left to
+ * right, and the first one out of its range decides which of the three is given. */
 enum sevulamon_number {
     SEVULAMON_ACCEPTED = 0,
     SEVULAMON_BUFFER_TOO_SMALL = 2,  /* the plan's or the page's; place 0 */

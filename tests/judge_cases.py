@@ -82,7 +82,7 @@ allowed("passes that wait", F, passes(105, 0xC, (100, 103), (101, 104)), 0, 0, 1
 refused("a sheet that is refused", flight() + block() * 9, b"", 10, 0)
 refused("a cut sheet and a good plan", M[:-1], BEST, 3, 33)
 # So it is with 6, 15 and 16: all three sections, in each of them a value out of its range, or two of which the left one decides; and a plan of the good sheet,
-# or one with a fault of its own, which the good sheet shows.
+# or a plan with a fault of its own. For the good sheet each of these plans is 12, 13 or 14.
 ONE_JOB, ONE_BLOCK = sorting(2) + job(1, 2, 5), flight() + block(1, 2, 1)
 BAD_SHEETS = [
     ("stations 0, mount time 60,001", mosaic(0, OVER) + M[6:] + S + F, 6, 0),

@@ -4,11 +4,12 @@
 -- `sevulamon_page` (page, Call.antt). When a plan is allowed is said by the rules alone (rules: Mosaic, Sorting, Flight, Plan). Rows of bytes are lists of
 -- numbers; where a law needs that they are below 256, as those of every lent slice are, it says so (`AreBytes`).
 use Prim.Native.Nat.{ℕ, _*_, _≤_, _<_}
-use mathlib.Core.Path.{_≡_, refl, sym, ap, subst, _∙_}
+use mathlib.Core.Path.{_≡_, refl, sym, ap, ap₂, subst, _∙_}
 use mathlib.Core.Bool.{true}
 use mathlib.Core.List.{List, _++_}
 use mathlib.Core.Logic.{_⊎_, inl, inr, ⊎-elim}
 use lib.ListN.{length, drop}
+use native.Mathlib.Decide.{ℕ-discrete, decLt}
 use native.Mathlib.Omega.{arith}
 use Rattle.sheet.specs.Limits.{ceiling, tableLength, planLength, pageLength}
 use Rattle.sheet.specs.Refusals.{outOfRange, orderImpossible, bufferTooSmall, layoutWrong, ruleBroken, figureUntrue, timeTooLarge, timeOfZero}
@@ -478,9 +479,10 @@ same-sheet-same-list sheet p q a b s t =
 
 -- REQ 04. "Keep 6 for station, desk and other counts. Within a field values are examined from left to right. New numbers: 15, a time above its upper end; 16, a
 -- time of zero where at least 1 is due; both in the place of 6." FieldTable.antt of crate sheet says which values a field has, counts and times; Causes.antt there
--- when one is out of its range, and how; Table.antt, what it is that a sheet is refused for a value (`RefusedForValue`). A planning call:
+-- when one is out of its range, and how; Table.antt, when a sheet is refused for a value (`RefusedForValue`). A planning call:
 module _ (sheet plan table planAfter tableEnd : List ℕ) (r : Answer) (call : Called sheet plan table planAfter tableEnd r) where
-  -- with buffers large enough the number is given where the first value out of its range is so, with the place of its field, and not otherwise
+  -- with buffers large enough the number is given where the first value that is not within its range is out of it in this way (`Out`), with the place of its
+  -- field, and not otherwise
   pub record GivenForValue (number : ℕ) (Out : Value → Type 0) : Type 0 where
     pub always : Large plan table → (place : ℕ) → RefusedForValue sheet Out place → r ≡ answer number place 0
     pub only : r .number ≡ number → Large plan table × RefusedForValue sheet Out (r .place)
@@ -515,6 +517,7 @@ module _ (sheet plan : List ℕ) (j : Judged) (call : j ≡ judged sheet plan) w
     pub always : (place : ℕ) → RefusedForValue sheet Out place → j ≡ turnedBack number place
     pub only : j .number ≡ number → RefusedForValue sheet Out (j .place)
 
+  -- a fault in a section is 13 or 14
   section-number : (section number place : ℕ) → SectionFault (readSheet sheet) plan section number place → (number ≡ ruleBroken) ⊎ (number ≡ figureUntrue)
   section-number section number place (SectionFault.at-member k st p h n e q) = inl e
   section-number section number place (SectionFault.at-head st p n e q) = inl e
@@ -546,3 +549,46 @@ module _ (sheet plan : List ℕ) (j : Judged) (call : j ≡ judged sheet plan) w
   pub judged-sixteen : JudgedForValue timeOfZero TimeOfZero
   judged-sixteen =
       judged-for-value timeOfZero TimeOfZero (omega arith) (λ e. omega arith) (λ e. omega arith) (λ e. omega arith) (zero-exactly sheet)
+
+-- A page call gives them as the judge does, where the page buffer is large enough.
+module _ (sheet plan page pageAfter : List ℕ) (r : Answer) (call : Paged sheet plan page pageAfter r) where
+  pub record PagedForValue (number : ℕ) (Out : Value → Type 0) : Type 0 where
+    pub always : pageLength ≤ length page → (place : ℕ) → RefusedForValue sheet Out place → r ≡ answer number place 0
+    pub only : r .number ≡ number → (pageLength ≤ length page) × RefusedForValue sheet Out (r .place)
+
+  paged-for-value : (number : ℕ) (Out : Value → Type 0) → bufferTooSmall < number → JudgedForValue sheet plan (judged sheet plan) refl number Out
+      → PagedForValue number Out
+  unfolding turnedBack
+  paged-for-value number Out more judging =
+      record {
+        always = λ large place f. comes-back large place (judging .always place f);
+        only = λ e. only e (decLt (length page) pageLength) (ℕ-discrete (judged sheet plan .number) 0);
+      }
+    where
+      comes-back : pageLength ≤ length page → (place : ℕ) → judged sheet plan ≡ turnedBack number place → r ≡ answer number place 0
+      comes-back large place e =
+          let n : judged sheet plan .number ≡ number = ap (λ (j : Judged). j .number) e in
+          let p : judged sheet plan .place ≡ place = ap (λ (j : Judged). j .place) e in
+          judge-comes-back sheet plan page pageAfter r call large (judged sheet plan) refl (λ z. omega arith) ∙ ap₂ (λ m q. answer m q 0) n p
+
+      from-judge : r .number ≡ number → r ≡ answer (judged sheet plan .number) (judged sheet plan .place) 0 → RefusedForValue sheet Out (r .place)
+      from-judge e back =
+          subst (RefusedForValue sheet Out) (sym (ap (λ (a : Answer). a .place) back))
+          (judging .only (sym (ap (λ (a : Answer). a .number) back) ∙ e))
+
+      only : r .number ≡ number → Dec (length page < pageLength) → Dec (judged sheet plan .number ≡ 0)
+          → (pageLength ≤ length page) × RefusedForValue sheet Out (r .place)
+      only e (yes small) d = absurd (omega (arith, ap (λ (a : Answer). a .number) (small-page-is-two sheet plan page pageAfter r call small)))
+      only e (no large) (yes z) =
+          absurd (omega (arith, allowed-is-printed sheet plan page pageAfter r call (omega arith) (judged sheet plan) refl z))
+      only e (no large) (no h) =
+          (omega arith, from-judge e (judge-comes-back sheet plan page pageAfter r call (omega arith) (judged sheet plan) refl h))
+
+  pub paged-six : PagedForValue outOfRange CountOutOfRange
+  paged-six = paged-for-value outOfRange CountOutOfRange (omega arith) (judged-six sheet plan (judged sheet plan) refl)
+
+  pub paged-fifteen : PagedForValue timeTooLarge TimeTooLarge
+  paged-fifteen = paged-for-value timeTooLarge TimeTooLarge (omega arith) (judged-fifteen sheet plan (judged sheet plan) refl)
+
+  pub paged-sixteen : PagedForValue timeOfZero TimeOfZero
+  paged-sixteen = paged-for-value timeOfZero TimeOfZero (omega arith) (judged-sixteen sheet plan (judged sheet plan) refl)

@@ -1,6 +1,6 @@
 -- The causes of the table "Turned back", rows 3 to 10, and of 15 and 16 of 02 (Req 04), in their words, where a reading stands; and the rows that the sheet is
 -- checked for there.
--- The tests by which the reader finds them are in Checks.antt; Decided.antt shows that these tests decide the causes.
+-- The tests by which the reader finds them are in Checks.antt; Decided.antt and Ranges.antt show that these tests decide the causes.
 use Prim.Native.Nat.{ℕ, _+_, _≤_, _<_}
 use mathlib.Core.Path.{_≡_}
 use mathlib.Core.List.{List, [], _∷_}
@@ -75,7 +75,8 @@ TimeOfZero (count least number most) = ⊥
 TimeOfZero (time number most) = ⊥
 TimeOfZero (positiveTime number most) = number ≡ 0
 
--- "Within a field values are examined from left to right": the first value that is not within its range is out of it in this way
+-- "Within a field values are examined from left to right": the first value that is not within its range is out of it in this way (`Out`, one of
+-- the three above; none of them holds of a value within its range)
 unfoldable pub FirstOut : (Value → Type 0) → List Value → Type 0
 FirstOut Out [] = ⊥
 FirstOut Out (v ∷ values) = Out v ⊎ (Within v × FirstOut Out values)
@@ -92,8 +93,8 @@ pub record OrderNotProper (tag blocks order : ℕ) : Type 0 where
   pub improper : Proper blocks order → ⊥
 
 -- The rows that a field of a tag and a content length is checked for, in the order of the checks: "each field for 3, then 8 or 10 if its tag ends the section
--- before, then 4, 5, 6, 7, 9"; 15 and 16 "both in the place of 6". "Place is the offset of the tag of the field named": the head of the section for 8 and 10,
--- else the field.
+-- before, then 4, 5, 6, 7, 9"; 15 and 16 "both in the place of 6". At most one of these three causes lies in a field, so their order among themselves
+-- decides nothing. "Place is the offset of the tag of the field named": the head of the section for 8 and 10, else the field.
 abbrev pub cutRow : List ℕ → Reading → Row
 cutRow s st = row fieldCut (st .at) (FieldCut s (st .at))
 

@@ -1,4 +1,5 @@
--- The tests by which the reader finds the causes of the table "Turned back" (Causes.antt says what these are), one for each row.
+-- The tests by which the reader finds the causes of the table "Turned back" (Causes.antt says what these are), one for each row, and one for the
+-- three rows of 6, 15 and 16.
 use Prim.Native.Nat.{ℕ}
 use mathlib.Core.Bool.{Bool, true, false, cond, not, _&&_, _||_}
 use mathlib.Core.List.{List, [], _∷_}

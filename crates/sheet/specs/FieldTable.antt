@@ -46,7 +46,7 @@ sortingHeadValues desks = count 1 desks mostDesks ∷ []
 
 -- "desk (1 byte, 1 to m), scan time, desk time (2 bytes each, 1 to 10,000)"
 unfoldable pub sortingStripValues : ℕ → ℕ → ℕ → ℕ → List Value
-sortingStripValues desks desk scan work = count 1 desk desks ∷ positiveTime scan mostTime ∷ positiveTime work mostTime ∷ []
+sortingStripValues desks desk scan deskTime = count 1 desk desks ∷ positiveTime scan mostTime ∷ positiveTime deskTime mostTime ∷ []
 
 -- "first pass a, delay l, second pass b (2 bytes each; a and b 1 to 10,000, l 0 to 10,000)"
 unfoldable pub flightBlockValues : ℕ → ℕ → ℕ → List Value
@@ -62,11 +62,12 @@ valuesOf s c tag len desks =
     (cond (eqb tag flightBlockTag) (flightBlockValues (numberAt s c 2) (numberAt s (c + 2) 2) (numberAt s (c + 4) 2))
     []))))
 
--- a value is within its range, and every value is
+-- a number from `least` to `most`
 pub record Between (least number most : ℕ) : Type 0 where
   pub at-least : least ≤ number
   pub at-most : number ≤ most
 
+-- a value is within its range, and every value is
 unfoldable pub Within : Value → Type 0
 Within (count least number most) = Between least number most
 Within (time number most) = Between 0 number most

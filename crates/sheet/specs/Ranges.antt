@@ -48,7 +48,7 @@ within-number (count least number most) b = rw (le-leb least number (omega (arit
 within-number (time number most) b = rw (le-leb number most (omega (arith, b .at-most)), le-leb 0 number (omega arith))
 within-number (positiveTime number most) b = rw (le-leb number most (omega (arith, b .at-most)), le-leb 1 number (omega (arith, b .at-least)))
 
--- .. so where the first value out of its range is so, its number is given.
+-- .. so where the first value that is not within its range is out of it in one way, the number of that way is given.
 pub first-out-number : (Out : Value → Type 0) (number : ℕ) → 0 < number → ((v : Value) → Out v → valueNumber v ≡ number)
     → (values : List Value) → FirstOut Out values → rangeNumber values ≡ number
 unfolding rangeNumber valueNumbers FirstOut firstFailure

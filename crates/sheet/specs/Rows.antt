@@ -30,7 +30,8 @@ pub record Fails (rows : List Row) (number place : ℕ) : Type 0 where
 unfoldable pub NoCause : List Row → Type 0
 NoCause rows = (k : ℕ) → rowAt rows k .cause → ⊥
 
--- The same as numbers: each check gives its row's number where the cause lies and else 0, and the first number that is not 0 is the answer.
+-- The same as numbers: each check gives the number of its row, or of one of its rows, where the cause lies and else 0, and the first number that is not 0 is the
+-- answer.
 unfoldable pub firstFailure : List ℕ → ℕ
 firstFailure [] = 0
 firstFailure (zero ∷ checks) = firstFailure checks

@@ -1,5 +1,6 @@
 -- A sheet is refused where a reading has passed every field before, the cause of a row lies there, and that of no row before it. The rows are those of
--- Causes.antt. Refused.antt shows that `readSheet` refuses exactly there, and that a sheet is sound exactly where `RefusedFor` holds of no number and place.
+-- Causes.antt. Refused.antt shows that `readSheet` refuses exactly there, and that a sheet is sound exactly where `RefusedFor` holds of no number and place;
+-- Values.antt, that `RefusedForValue` is what 6, 15 and 16 say.
 use Prim.Native.Nat.{ℕ, _+_}
 use mathlib.Core.Path.{_≡_}
 use mathlib.Core.List.{List}

@@ -1,4 +1,4 @@
--- 6, 15 and 16 are each given exactly where the first value out of its range says so (`RefusedForValue`).
+-- 6, 15 and 16 are each given exactly where the first value that is not within its range is out of it in their way (`RefusedForValue`).
 -- The idea: each of the three numbers stands in one row alone, and where its cause lies, no row before it fails.
 use Prim.Native.Nat.{ℕ, _+_, _<_}
 use mathlib.Core.Path.{_≡_, refl, sym, ap, subst, _∙_}
@@ -22,7 +22,7 @@ use Rattle.sheet.specs.Theorems.{at-field}
 use Rattle.sheet.specs.Passed.{permitted-else, length-else}
 use Rattle.sheet.specs.declared.Reading.{Reading}
 
--- where the first value out of its range is so, the number is given, with the field's place ..
+-- where the first value that is not within its range is out of it in this way, the number is given, with the field's place ..
 module _ (Out : Value → Type 0) (number : ℕ) (gives : (v : Value) → Out v → valueNumber v ≡ number) (some : 0 < number)
     (at-field-itself : (head at : ℕ) → placeOf number head at ≡ at) (s : List ℕ) (place : ℕ) (f : RefusedForValue s Out place) where
   field-number : number ≡ fieldNumber s (f .reading) (f .tag) (f .len)

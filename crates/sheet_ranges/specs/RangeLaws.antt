@@ -128,10 +128,10 @@ module _ (s : List ℕ) (c tag len desks r : ℕ) where
   unfolding valuesOf
   sorting-head-read e m n h = rw (e, ← n .is) h
 
-  pub sorting-strip-read : tag ≡ sortingStripTag → (desk scan work : ℕ) → NumberRead s c 1 desk → NumberRead s (c + 1) 2 scan → NumberRead s (c + 3) 2 work
-      → r ≡ rangeNumber (sortingStripValues desks desk scan work) → r ≡ rangeNumber (valuesOf s c tag len desks)
+  pub sorting-strip-read : tag ≡ sortingStripTag → (desk scan deskTime : ℕ) → NumberRead s c 1 desk → NumberRead s (c + 1) 2 scan → NumberRead s (c + 3) 2 deskTime
+      → r ≡ rangeNumber (sortingStripValues desks desk scan deskTime) → r ≡ rangeNumber (valuesOf s c tag len desks)
   unfolding valuesOf
-  sorting-strip-read e desk scan work n₁ n₂ n₃ h = rw (e, ← n₁ .is, ← n₂ .is, ← n₃ .is) h
+  sorting-strip-read e desk scan deskTime n₁ n₂ n₃ h = rw (e, ← n₁ .is, ← n₂ .is, ← n₃ .is) h
 
   pub flight-block-read : tag ≡ flightBlockTag → (a l b : ℕ) → NumberRead s c 2 a → NumberRead s (c + 2) 2 l → NumberRead s (c + 4) 2 b
       → r ≡ rangeNumber (flightBlockValues a l b) → r ≡ rangeNumber (valuesOf s c tag len desks)

@@ -1,4 +1,4 @@
-// The number that the values of a field give by their ranges (01, the table of tags; 02, Req 04), 0 where each is in its range: one function a tag. Values are
+// The refusal number that the values of a field give by their ranges (01, the table of tags; 02, Req 04), 0 where each is in its range: one function a tag. Values are
 // examined from left to right, and the first one out of its range decides.
 use field::byte;
 use field::number;
@@ -18,7 +18,7 @@ ghost use Prim.Native.Nat.{_+_, _<_, _^_};
 ghost use Rattle.sheet.specs.FieldTable.{mosaicHeadValues, mosaicStripValues, stationTimes, sortingHeadValues, sortingStripValues, flightBlockValues, valuesOf};
 ghost use Rattle.sheet.specs.Checks.{countNumber, timeNumber, rangeNumber};
 
-// The number of a count, which may be from `least` to `most`.
+// The refusal number that a count gives: 6 where it is not from `least` to `most`, else 0.
 fn count_number(least: u64, value: u64, most: u64) -> u64
     ensures { λ r. ⌜ r ≡ countNumber least value most ⌝ }
 {
@@ -31,7 +31,7 @@ fn count_number(least: u64, value: u64, most: u64) -> u64
     OUT_OF_RANGE
 }
 
-// The number of a time, which may be from `least`, 0 or 1, to `most`.
+// The refusal number that a time gives: 15 above `most`, 16 below `least`, which is 0 or 1, else 0.
 fn time_number(least: u64, time: u64, most: u64) -> u64
     ensures { λ r. ⌜ r ≡ timeNumber least time most ⌝ }
 {
