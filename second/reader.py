@@ -54,6 +54,23 @@ def proper(n, order):
     return height == 0
 
 
+def count_fault(count, most):
+    """6 for a count that is not 1 to `most`, or 0."""
+    return 0 if 1 <= count <= most else 6
+
+
+def time_fault(time, least):
+    """15 for a time above its upper end, 16 for a time of 0 where at least 1 is due, or 0."""
+    if time > MOST_TIME:
+        return 15
+    return 16 if time < least else 0
+
+
+def first_fault(*numbers):
+    """The first number that is not 0, or 0. The values of a field are examined from left to right."""
+    return next(filter(None, numbers), 0)
+
+
 class Reader:
     """Takes in one field after another. `open` is the head tag of the section that stands open, `head` its place, `members` its list."""
 
@@ -105,7 +122,7 @@ class Reader:
         return {0x10: self.sheet.strips, 0x20: self.sheet.jobs, 0x30: self.sheet.blocks}[tag]
 
     def take(self, tag, content, at):
-        """6, 7 or 9 of a field, or 0 once the field is taken in."""
+        """6, 15 or 16 of a field by its values, then 7 or 9, or 0 once the field is taken in."""
         if tag == 0x10:
             return self.take_mosaic(content)
         if tag == 0x11:
@@ -123,36 +140,42 @@ class Reader:
 
     def take_mosaic(self, content):
         stations, mount = content[0], word(content, 1)
-        if not 1 <= stations <= 4 or mount > MOST_TIME:
-            return 6
+        number = first_fault(count_fault(stations, 4), time_fault(mount, 0))
+        if number:
+            return number
         self.sheet.stations, self.sheet.mount, self.sheet.strips = stations, mount, []
         return 0
 
     def take_strip(self, times):
-        if max(times) > MOST_TIME or times[-1] < 1:
-            return 6
+        *stations, bench = times
+        number = first_fault(*[time_fault(time, 0) for time in stations], time_fault(bench, 1))
+        if number:
+            return number
         if len(self.members) == 40:
             return 7
-        self.members.append((times[:-1], times[-1]))
+        self.members.append((stations, bench))
         return 0
 
     def take_sorting(self, desks):
-        if not 1 <= desks <= 3:
-            return 6
+        number = count_fault(desks, 3)
+        if number:
+            return number
         self.sheet.desks, self.sheet.jobs = desks, []
         return 0
 
     def take_job(self, desk, scan, time):
-        if not 1 <= desk <= self.sheet.desks or not 1 <= scan <= MOST_TIME or not 1 <= time <= MOST_TIME:
-            return 6
+        number = first_fault(count_fault(desk, self.sheet.desks), time_fault(scan, 1), time_fault(time, 1))
+        if number:
+            return number
         if len(self.sheet.queue(desk)) == 6:
             return 7
         self.members.append((desk, scan, time))
         return 0
 
     def take_block(self, first, delay, second):
-        if not 1 <= first <= MOST_TIME or delay > MOST_TIME or not 1 <= second <= MOST_TIME:
-            return 6
+        number = first_fault(time_fault(first, 1), time_fault(delay, 0), time_fault(second, 1))
+        if number:
+            return number
         if len(self.members) == 32:
             return 7
         self.members.append((first, delay, second))

@@ -66,29 +66,42 @@ static size_t length_due(uint8_t tag, size_t stations) {
     }
 }
 
-static bool within(u64 low, u64 value, u64 high) {
-    return low <= value && value <= high;
+/* 6 for a count that is not 1 to `most`, or 0. */
+static u64 count_fault(u64 count, u64 most) {
+    return 1 <= count && count <= most ? 0 : SEVULAMON_OUT_OF_RANGE;
 }
 
-static bool time_in_range(const uint8_t *bytes, u64 least) {
-    return within(least, number_at(bytes, 2), MOST_TIME);
+/* 15 for a time above `most`, 16 for a time of 0 where `least` is 1, or 0. */
+static u64 time_fault(const uint8_t *bytes, u64 least, u64 most) {
+    u64 time = number_at(bytes, 2);
+    if (time > most)
+        return SEVULAMON_TIME_TOO_LARGE;
+    if (time < least)
+        return SEVULAMON_TIME_OF_ZERO;
+    return 0;
 }
 
-static bool strip_in_range(const uint8_t *c, size_t stations) {
-    for (size_t k = 0; k < stations; k++)
-        if (!time_in_range(c + 2 * k, 0))
-            return false;
-    return time_in_range(c + 2 * stations, 1);
+/* The first of three numbers that is not 0, or 0. */
+static u64 first_fault(u64 a, u64 b, u64 c) {
+    return a != 0 ? a : b != 0 ? b : c;
 }
 
-static bool in_range(uint8_t tag, const uint8_t *c, const struct sheet *s) {
+static u64 strip_fault(const uint8_t *c, size_t stations) {
+    u64 fault = 0;
+    for (size_t k = 0; k < stations && fault == 0; k++)
+        fault = time_fault(c + 2 * k, 0, MOST_TIME);
+    return first_fault(fault, time_fault(c + 2 * stations, 1, MOST_TIME), 0);
+}
+
+/* 6, 15 or 16 of the first value of a field, from left to right, that is out of its range, or 0. */
+static u64 value_fault(uint8_t tag, const uint8_t *c, const struct sheet *s) {
     switch (tag) {
-    case MOSAIC_HEAD: return within(1, c[0], MOST_STATIONS) && time_in_range(c + 1, 0);
-    case MOSAIC_STRIP: return strip_in_range(c, s->mosaic.stations);
-    case SORTING_HEAD: return within(1, c[0], MOST_DESKS);
-    case SORTING_STRIP: return within(1, c[0], s->sorting.desks) && time_in_range(c + 1, 1) && time_in_range(c + 3, 1);
-    case BLOCK: return time_in_range(c, 1) && time_in_range(c + 2, 0) && time_in_range(c + 4, 1);
-    default: return true;
+    case MOSAIC_HEAD: return first_fault(count_fault(c[0], MOST_STATIONS), time_fault(c + 1, 0, MOST_TIME), 0);
+    case MOSAIC_STRIP: return strip_fault(c, s->mosaic.stations);
+    case SORTING_HEAD: return count_fault(c[0], MOST_DESKS);
+    case SORTING_STRIP: return first_fault(count_fault(c[0], s->sorting.desks), time_fault(c + 1, 1, MOST_TIME), time_fault(c + 3, 1, MOST_TIME));
+    case BLOCK: return first_fault(time_fault(c, 1, MOST_TIME), time_fault(c + 2, 0, MOST_TIME), time_fault(c + 4, 1, MOST_TIME));
+    default: return 0;
     }
 }
 
@@ -110,14 +123,15 @@ static struct refusal check_end(const struct reading *r, const struct sheet *s) 
     return (struct refusal){0, 0};
 }
 
-/* 4, 5, 6, 7 or 9 of a field, or 0. */
+/* 4, 5, then 6, 15 or 16 by its values, 7 or 9 of a field, or 0. */
 static u64 check_field(uint8_t tag, const uint8_t *c, size_t length, const struct reading *r, const struct sheet *s) {
     if (!permitted(tag, r, s))
         return SEVULAMON_TAG_NOT_PERMITTED;
     if (length != length_due(tag, s->mosaic.stations))
         return SEVULAMON_LENGTH_WRONG;
-    if (!in_range(tag, c, s))
-        return SEVULAMON_OUT_OF_RANGE;
+    u64 fault = value_fault(tag, c, s);
+    if (fault != 0)
+        return fault;
     if (too_many(tag, c, s))
         return SEVULAMON_TOO_MANY;
     if (tag == ORDER && !proper(s->flight.blocks, number_at(c, 8)))
