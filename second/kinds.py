@@ -12,12 +12,14 @@ import random
 import best
 import brute
 import longest
+import page
 import pages
 import plans
 import reader
 import sheets
 import timetable
 import tiny
+import values
 from compare import AllowedCase, BrokenCase, JudgeCase, PageCase, PagesCase, PlanCase, ROOM
 from reader import field
 
@@ -70,6 +72,19 @@ def longest_judged():
         yield AllowedCase(sheet, plan.bytes()) if place is None else BrokenCase(sheet, plan.bytes(), place)
 
 
+def all_calls(pairs):
+    """Each sheet planned, and judged and printed with its plan."""
+    for sheet, plan in pairs:
+        yield from (PlanCase(sheet), JudgeCase(sheet, plan), PageCase(sheet, plan))
+
+
+def out_of_range_and_more():
+    """Sheets with a value out of range, with a plan buffer or a page buffer that is one byte too small, and with plans of a wrong layout."""
+    for sheet, plan in values.one_out():
+        yield from (PlanCase(sheet, ROOM - 1), PageCase(sheet, plan, page.ROOM - 1))
+        yield from (case(sheet, other) for case in (JudgeCase, PageCase) for other in (b"", plan[:-1]))
+
+
 def fixed():
     """Name and cases of the kinds that are the same for every seed."""
     yield "pages that are the same for every seed", itertools.starmap(PageCase, pages.fixed())
@@ -84,6 +99,12 @@ def fixed():
     yield "every change of one byte of a sheet", map(PlanCase, tiny.changes(tiny.SMALL))
     yield "every beginning of a sheet", map(PlanCase, tiny.beginnings(tiny.SMALL))
     yield "every place with numbers about the bounds of times", map(PlanCase, tiny.bounds())
+    yield "every field with values at their ends and beyond", all_calls(values.ends())
+    yield "a member too many with values out of range", all_calls(values.one_too_many())
+    yield "fields with values out of range that are also cut, of a wrong length or not permitted", map(PlanCase, values.wrong_twice())
+    yield "values out of range with too small a buffer or a wrong plan", out_of_range_and_more()
+    yield "a field with a value out of range at every place", map(PlanCase, values.put_in())
+    yield "a field with a value out of range and another wrong field", map(PlanCase, values.two_wrong())
     yield "every length of the plan buffer", itertools.starmap(PlanCase, tiny.buffers())
     yield "every row of up to four plan fields", itertools.starmap(JudgeCase, tiny.plan_rows())
     yield "every change of one byte of a plan", (JudgeCase(tiny.SMALL, plan) for plan in tiny.changes(tiny.small_plan()))
@@ -203,6 +224,14 @@ def any_best_list(rng, count):
         yield PagesCase(sheet, rng.choice(best_plans), rng.choice(best_plans))
 
 
+def out_of_range(rng, count):
+    """Small and full sheets with values out of range, each with a plan that is allowed without these where the given order is possible."""
+    for draw, part in ((sheets.small_sheet, 16), (sheets.full_sheet, 80)):
+        for _ in range(share(count, part)):
+            sheet = draw(rng)
+            yield from all_calls([(values.drawn(rng, sheet), plans.idle_plan(rng, reader.read(sheet)).bytes())])
+
+
 def free_flights(rng, count):
     return of_families(rng, count, sheets.FLIGHTS, sheets.free_flight, 8)
 
@@ -212,9 +241,9 @@ def ordered_flights(rng, count):
 
 
 DRAWN = {
-    "small sheets": small_sheets, "plans for small sheets": plans_for_small, "mosaics of 40 strips": mosaics, "sortings of 6 + 6 + 6 strips": sortings,
-    "flights of 8 free blocks": free_flights, "flights of 32 blocks in order": ordered_flights, "large sheets": large_sheets,
-    "full sheets": full_sheets, "small sortings with ties": tied_sortings, "full sortings with ties": full_tied_sortings,
+    "small sheets": small_sheets, "sheets with values out of range": out_of_range, "plans for small sheets": plans_for_small, "mosaics of 40 strips": mosaics,
+    "sortings of 6 + 6 + 6 strips": sortings, "flights of 8 free blocks": free_flights, "flights of 32 blocks in order": ordered_flights,
+    "large sheets": large_sheets, "full sheets": full_sheets, "small sortings with ties": tied_sortings, "full sortings with ties": full_tied_sortings,
     "sortings with ties beside other sections": tied_sheets, "plans with any of the best scanner lists": any_best_list,
     "plans for full sheets": plans_for_full, "pages for small sheets": pages_for_small, "pages for full sheets": pages_for_full,
 }

@@ -1,0 +1,228 @@
+"""Sheets with values at the ends of their ranges and beyond them. All but the drawn ones are the same for every seed.
+
+Each is a sound sheet in which something is changed. The plan that comes with it is allowed for the sound sheet.
+
+Sheets that are planned, judged and printed:
+- every field with values, of mosaics of one to four stations and of sortings of one to three desks: values as they were, 0, 1, the upper end, one more or
+  the greatest number of their bytes, in every row of up to three values, and any two of more; and every row of values that are as they were or next to their
+  range;
+- a 41st strip, a 7th of a desk and a 33rd block with every row of values that are right or next to their range.
+
+Sheets with one value out of its range, one for each field and number:
+- planned and printed into buffers one byte too small, and judged and printed with an empty plan and one that is cut short.
+
+Sheets that are planned:
+- fields with every row of values that are right or next to their range, when the field is cut short, has a byte less or more or a tag that is not permitted;
+- a field with one value out of its range put in at every place of a sheet;
+- a field with one value out of its range and another wrong field, before or behind it: the other has any of the numbers 3 to 10, 15 and 16.
+
+Drawn: a sheet with any values of one or two fields out of their ranges.
+"""
+import itertools
+import struct
+
+import distances
+import judge
+import reader
+import timetable
+from reader import HEADS, MEMBER_OF, MOST_TIME, field
+from sheets import block, job, mosaic_head, order, sorting_head, strip
+
+OVER = MOST_TIME + 1
+GREATEST = {"B": 0xFF, "H": 0xFFFF}
+
+
+def ranges_of(tag, sheet):
+    """Of each value of a field, from left to right: its width (B one byte, H two), the least and the greatest number of its range."""
+    from_0, from_1 = ("H", 0, MOST_TIME), ("H", 1, MOST_TIME)
+    if tag == 0x11:
+        return [from_0] * sheet.stations + [from_1]
+    if tag == 0x21:
+        return [("B", 1, sheet.desks), from_1, from_1]
+    return {0x10: [("B", 1, 4), from_0], 0x20: [("B", 1, 3)], 0x31: [from_1, from_0, from_1]}.get(tag, [])
+
+
+def form_of(ranges):
+    return "<" + "".join(width for width, _, _ in ranges)
+
+
+def beyond(width, least, most):
+    """The numbers next to a range."""
+    return [least - 1, most + 1] if least else [most + 1]
+
+
+def about(width, least, most):
+    """0 and 1, of which one is the lower end, the upper end and the number behind it, and the greatest number of the width."""
+    return [0, 1, most, most + 1, GREATEST[width]]
+
+
+def changed(row, choices, most):
+    """Every row in which at most `most` values are changed, each to one of its choices."""
+    for other in itertools.product(*[[value, *numbers] for value, numbers in zip(row, choices)]):
+        if sum(value != number for value, number in zip(row, other)) <= most:
+            yield other
+
+
+def next_to_ranges(row, ranges):
+    """Every row of values that are as they were or next to their ranges."""
+    return changed(row, [beyond(*one) for one in ranges], len(row))
+
+
+def at_ends_or_beyond(row, ranges):
+    """Every row of up to three values, and any two of more, as they were, at the ends of their ranges and beyond."""
+    return changed(row, [about(*one) for one in ranges], 3 if len(row) < 4 else 2)
+
+
+def with_rows(one, sheet, *rows_of):
+    """A field of this sheet with every row of values that these functions give, each row once."""
+    ranges = ranges_of(one[0], sheet)
+    row = struct.unpack(form_of(ranges), one[3:])
+    rows = dict.fromkeys(itertools.chain.from_iterable(rows(row, ranges) for rows in rows_of))
+    return [field(one[0], struct.pack(form_of(ranges), *other)) for other in rows]
+
+
+def fields_of(stations, desks):
+    """The fields of a sound sheet with all three sections."""
+    strips = [strip([2, 1, 4, 3][:stations] + [bench]) for bench in (1, 3)]
+    jobs, blocks = [job(1, 2, 5), job(desks, 1, 1)], [block(1, 2, 1), block(2, 3, 1)]
+    return [mosaic_head(stations, 1), *strips, sorting_head(desks), *jobs, field(0x30), *blocks, order(0b1100)]
+
+
+# The last field of each tag that has values, by its index in fields_of.
+LAST = {0x10: 0, 0x11: 2, 0x20: 3, 0x21: 5, 0x31: 8}
+
+
+def replaced(fields, at, one):
+    """The sheet with this field in the place of another."""
+    return b"".join([*fields[:at], one, *fields[at + 1:]])
+
+
+def read_and_planned(fields):
+    """What a sound sheet says, and a plan: each strip its own batch, the strips of the desks as they stand, the passes in the sheet's order."""
+    sheet = reader.read(b"".join(fields))
+    batches = timetable.batches_of(sheet, range(1, len(sheet.strips) + 1)) if sheet.strips else []
+    jobs = timetable.jobs_of(sheet, [desk for desk, _, _ in sheet.jobs]) if sheet.jobs else []
+    firsts = distances.least(distances.in_order(sheet.blocks, sheet.order), [0] * len(sheet.blocks)) if sheet.blocks else []
+    plan = timetable.plan_of(sheet, batches, jobs, sheet.order, firsts).bytes()
+    assert judge.judge_plan(sheet, plan)[0] == 0, "the second program turns its own plan back"
+    return sheet, plan
+
+
+def places():
+    """The fields of a sheet and the index of one with values."""
+    yield from ((fields_of(stations, 2), LAST[tag]) for stations in (1, 2, 3, 4) for tag in (0x10, 0x11))
+    yield from ((fields_of(2, desks), LAST[tag]) for desks in (1, 2, 3) for tag in (0x20, 0x21))
+    yield fields_of(2, 2), LAST[0x31]
+
+
+def ends():
+    """A sheet and a plan."""
+    for fields, at in places():
+        sheet, plan = read_and_planned(fields)
+        for one in with_rows(fields[at], sheet, at_ends_or_beyond, next_to_ranges):
+            yield replaced(fields, at, one), plan
+
+
+def full_sections():
+    """The fields of a sheet with one full section, and the index at which one member more is put in."""
+    yield [field(0x30)] + [block(1, 0, 1)] * 32 + [order(int("10" * 32, 2))], 33
+    for desks in (1, 2, 3):
+        yield [sorting_head(desks)] + [job(desk, 1, 1) for desk in range(1, desks + 1)] * 6, 6 * desks + 1
+    for stations in (1, 2, 3, 4):
+        yield [mosaic_head(stations, 1)] + [strip([1] * stations + [1])] * 40, 41
+
+
+def one_too_many():
+    """A sheet and a plan."""
+    for fields, at in full_sections():
+        sheet, plan = read_and_planned(fields)
+        for one in with_rows(fields[at - 1], sheet, next_to_ranges):
+            yield b"".join([*fields[:at], one, *fields[at:]]), plan
+
+
+def wrong_twice():
+    """A field with values next to their ranges that is also cut short, of a wrong length or not permitted."""
+    fields = fields_of(2, 2)
+    sheet, _ = read_and_planned(fields)
+    for tag, at in LAST.items():
+        for one in with_rows(fields[at], sheet, next_to_ranges):
+            content = one[3:]
+            yield b"".join([*fields[:at], one[:-1]])
+            for other in (field(tag, content[:-1]), field(tag, content + b"\x01"), field(0x99, content)):
+                yield replaced(fields, at, other)
+
+
+# Fields of fields_of(2, 2) with one value out of its range, one for each number.
+OUT_OF_RANGE = {
+    0x10: [mosaic_head(5, 1), mosaic_head(2, OVER)],
+    0x11: [strip([2, OVER, 1]), strip([2, 1, 0])],
+    0x20: [sorting_head(4)],
+    0x21: [job(3, 1, 1), job(2, OVER, 1), job(2, 1, 0)],
+    0x31: [block(2, OVER, 1), block(2, 3, 0)],
+}
+
+
+def one_out():
+    """A sheet with one of these fields, and a plan."""
+    fields = fields_of(2, 2)
+    _, plan = read_and_planned(fields)
+    for tag, at in LAST.items():
+        yield from ((replaced(fields, at, one), plan) for one in OUT_OF_RANGE[tag])
+
+
+def put_in():
+    """One of these fields more, at every place."""
+    fields = fields_of(2, 2)
+    for at, one in itertools.product(range(len(fields) + 1), itertools.chain.from_iterable(OUT_OF_RANGE.values())):
+        yield b"".join([*fields[:at], one, *fields[at:]])
+
+
+def wrong_otherwise(one):
+    """What has another number in the place of a field: 3, 4 and 5, and each of 7 to 10 where it can be given."""
+    tag, content = one[0], one[3:]
+    yield from (bytes([tag, 0xFF, 0xFF]) + content, field(0x99, content), field(tag, content + b"\x01"))
+    if tag in HEADS:
+        yield one + one
+    if tag in MEMBER_OF:
+        yield one * 41
+    if tag == 0x31:
+        yield one * 9 + field(0x30)
+    if tag == 0x32:
+        yield order(0b0011)
+
+
+def two_wrong():
+    """Two fields that are wrong, at least one of them by a value."""
+    fields = fields_of(2, 2)
+    values, others = [OUT_OF_RANGE.get(one[0], []) for one in fields], [list(wrong_otherwise(one)) for one in fields]
+    for i, j in itertools.combinations(range(len(fields)), 2):
+        for first, second in itertools.chain(itertools.product(values[i], values[j] + others[j]), itertools.product(others[i], values[j])):
+            yield b"".join([*fields[:i], first, *fields[i + 1:j], second, *fields[j + 1:]])
+
+
+def fields_in(data):
+    """The fields of a sound sheet."""
+    at, out = 0, []
+    while at < len(data):
+        after = at + 3 + reader.word(data, at + 1)
+        out.append(data[at:after])
+        at = after
+    return out
+
+
+def with_some_out(rng, one, ranges):
+    """The field with some of its values, or all, out of their ranges: next to them or anywhere above."""
+    row = list(struct.unpack(form_of(ranges), one[3:]))
+    for at in rng.sample(range(len(row)), rng.randint(1, len(row))):
+        width, least, most = ranges[at]
+        row[at] = rng.choice([*beyond(width, least, most), rng.randint(most + 1, GREATEST[width])])
+    return field(one[0], struct.pack(form_of(ranges), *row))
+
+
+def drawn(rng, data):
+    """A sound sheet with values of one or two fields out of their ranges."""
+    sheet, fields = reader.read(data), fields_in(data)
+    with_values = [at for at, one in enumerate(fields) if ranges_of(one[0], sheet)]
+    for at in rng.sample(with_values, min(len(with_values), rng.choice((1, 1, 2)))):
+        fields[at] = with_some_out(rng, fields[at], ranges_of(fields[at][0], sheet))
+    return b"".join(fields)
