@@ -7,12 +7,10 @@ use Prim.Native.Nat.{ℕ, _*_, _≤_, _<_}
 use mathlib.Core.Path.{_≡_, refl, sym, ap, ap₂, subst, _∙_}
 use mathlib.Core.Bool.{true}
 use mathlib.Core.List.{List, _++_}
-use mathlib.Core.Logic.{_⊎_, inl, inr, ⊎-elim}
 use lib.ListN.{length, drop}
-use native.Mathlib.Decide.{ℕ-discrete, decLt}
 use native.Mathlib.Omega.{arith}
 use Rattle.sheet.specs.Limits.{ceiling, tableLength, planLength, pageLength}
-use Rattle.sheet.specs.Refusals.{outOfRange, orderImpossible, bufferTooSmall, layoutWrong, ruleBroken, figureUntrue, timeTooLarge, timeOfZero}
+use Rattle.sheet.specs.Refusals.{outOfRange, orderImpossible, bufferTooSmall, layoutWrong, figureUntrue, timeTooLarge, timeOfZero}
 use Rattle.sheet.specs.Read.{readSheet}
 use Rattle.sheet.specs.Theorems.{read-sound}
 use Rattle.sheet.specs.FieldTable.{Value}
@@ -41,16 +39,16 @@ use Rattle.plan_format.specs.ByteLaws.{AreBytes}
 use Rattle.rules_laws.specs.Determined.{plan-most, plan-determined}
 use Rattle.judge.specs.Judged.{turnedBack, found, judged}
 use Rattle.judge.specs.declared.Judged.{Judged}
-use Rattle.judge_laws.specs.Fault.{SectionFault, Fault}
+use Rattle.judge_laws.specs.Fault.{Fault}
 use Rattle.judge_laws.specs.Theorems.{FiguresTrue, FiguresGiven, judge-allows, allowed-judged, allowed-found, allowed-stated, judged-figures, figures-given}
-use Rattle.judge_laws.specs.Theorems.{fault-judged, judged-fault}
+use Rattle.judge_laws.specs.Theorems.{fault-judged, judged-fault, judged-sheet-only}
 use Rattle.mosaic.specs.Plan.{lasts}
 use Rattle.mosaic.specs.Theorems.{mosaic-ceiling}
 use Rattle.sorting.specs.Theorems.{sorting-ceiling}
 use Rattle.flight.specs.Theorems.{flight-ceiling}
 use Rattle.planner.specs.Call.{chosenPlan, clearedTo, tableAfter, Called}
 use Rattle.planner.specs.Outcomes.{Large, Accepted, call-accepted, call-refused, call-small, call-cleared, ourBytes}
-use Rattle.planner.specs.TurnedBack.{TurnedBack, turned-back, turned-back-only, eleven-only, else-accepted}
+use Rattle.planner.specs.TurnedBack.{TurnedBack, turned-back, turned-back-only, eleven-only, sheet-only, else-accepted}
 use Rattle.planner.specs.Theorems.{figureOfMosaic, figureOfSorting, figureOfFlight, Least, Impossible, plan-lawful, plan-least-mosaic, plan-least-sorting}
 use Rattle.planner.specs.Theorems.{plan-least-flight, plan-early-mosaic, plan-early-sorting, plan-early-flight, plan-earliest, plan-taken, taken-determined}
 use Rattle.viewer.specs.Viewed.{Viewed}
@@ -59,7 +57,7 @@ use Rattle.page.specs.Call.{pageOf, Paged}
 use Rattle.page_laws.specs.Lines.{InLines, page-in-lines, page-length, page-most}
 use Rattle.page_laws.specs.Uncut.{PageUncut, page-uncut}
 use Rattle.page_laws.specs.Determined.{page-determines}
-use Rattle.page_laws.specs.Outcomes.{PagePrinted, page-accepted, page-left, page-too-small, page-not-allowed, page-allowed}
+use Rattle.page_laws.specs.Outcomes.{PagePrinted, page-accepted, page-left, page-too-small, page-not-allowed, page-allowed, page-judge-only}
 
 -- TERMS.
 
@@ -493,14 +491,10 @@ module _ (sheet plan table planAfter tableEnd : List ℕ) (r : Answer) (call : C
   given-for-value number Out more other exactly =
       record {
         always = λ large place f. turned-back sheet plan table planAfter tableEnd r call number place (TurnedBack.in-sheet large (exactly place .0 f));
-        only = λ e. go e (turned-back-only sheet plan table planAfter tableEnd r call (λ z. omega arith));
+        only =
+            λ e. let p = sheet-only sheet plan table planAfter tableEnd r call number more other e in
+            (p .0, exactly (r .place) .1 (p .1));
       }
-    where
-      go : r .number ≡ number → TurnedBack sheet plan table (r .number) (r .place) → Large plan table × RefusedForValue sheet Out (r .place)
-      go e (TurnedBack.table-small l en ep) = absurd (omega arith)
-      go e (TurnedBack.buffer-small l m en ep) = absurd (omega arith)
-      go e (TurnedBack.in-sheet l f) = (l, exactly (r .place) .1 (rw e at f))
-      go e (TurnedBack.impossible l s i en ep) = absurd (other (sym e ∙ en))
 
   pub six-for-a-count : GivenForValue outOfRange CountOutOfRange
   six-for-a-count = given-for-value outOfRange CountOutOfRange (omega arith) (λ e. omega arith) (count-exactly sheet)
@@ -517,38 +511,23 @@ module _ (sheet plan : List ℕ) (j : Judged) (call : j ≡ judged sheet plan) w
     pub always : (place : ℕ) → RefusedForValue sheet Out place → j ≡ turnedBack number place
     pub only : j .number ≡ number → RefusedForValue sheet Out (j .place)
 
-  -- a fault in a section is 13 or 14
-  section-number : (section number place : ℕ) → SectionFault (readSheet sheet) plan section number place → (number ≡ ruleBroken) ⊎ (number ≡ figureUntrue)
-  section-number section number place (SectionFault.at-member k st p h n e q) = inl e
-  section-number section number place (SectionFault.at-head st p n e q) = inl e
-  section-number section number place (SectionFault.figure-untrue st p h n e q) = inr e
-
-  judged-for-value : (number : ℕ) (Out : Value → Type 0) → 0 < number → (number ≡ layoutWrong → ⊥) → (number ≡ ruleBroken → ⊥) → (number ≡ figureUntrue → ⊥)
+  judged-for-value : (number : ℕ) (Out : Value → Type 0) → 0 < number → (layoutWrong ≤ number → number ≤ figureUntrue → ⊥)
       → ((place : ℕ) → (RefusedForValue sheet Out place → RefusedFor sheet number place) × (RefusedFor sheet number place → RefusedForValue sheet Out place))
       → JudgedForValue number Out
-  judged-for-value number Out some n₁₂ n₁₃ n₁₄ exactly =
+  judged-for-value number Out some other exactly =
       record {
         always = λ place f. turns-back-for-its-fault sheet plan j call number place (Fault.in-sheet (exactly place .0 f));
-        only = λ e. go _ _ e (turns-back-not-otherwise sheet plan j call (λ z. omega arith));
+        only = rw call (λ e. exactly (judged sheet plan .place) .1 (judged-sheet-only sheet plan number some other e));
       }
-    where
-      go : (n place : ℕ) → n ≡ number → Fault sheet plan n place → RefusedForValue sheet Out place
-      go n place e (Fault.in-sheet f) = exactly place .1 (rw e at f)
-      go n place e (Fault.in-layout s f en) = absurd (n₁₂ (sym e ∙ en))
-      go n place e (Fault.in-section section s l h₁ h₂ b p f) =
-          ⊎-elim (λ en. absurd (n₁₃ (sym e ∙ en))) (λ en. absurd (n₁₄ (sym e ∙ en))) (section-number section n place f)
 
   pub judged-six : JudgedForValue outOfRange CountOutOfRange
-  judged-six =
-      judged-for-value outOfRange CountOutOfRange (omega arith) (λ e. omega arith) (λ e. omega arith) (λ e. omega arith) (count-exactly sheet)
+  judged-six = judged-for-value outOfRange CountOutOfRange (omega arith) (λ l m. omega arith) (count-exactly sheet)
 
   pub judged-fifteen : JudgedForValue timeTooLarge TimeTooLarge
-  judged-fifteen =
-      judged-for-value timeTooLarge TimeTooLarge (omega arith) (λ e. omega arith) (λ e. omega arith) (λ e. omega arith) (too-large-exactly sheet)
+  judged-fifteen = judged-for-value timeTooLarge TimeTooLarge (omega arith) (λ l m. omega arith) (too-large-exactly sheet)
 
   pub judged-sixteen : JudgedForValue timeOfZero TimeOfZero
-  judged-sixteen =
-      judged-for-value timeOfZero TimeOfZero (omega arith) (λ e. omega arith) (λ e. omega arith) (λ e. omega arith) (zero-exactly sheet)
+  judged-sixteen = judged-for-value timeOfZero TimeOfZero (omega arith) (λ l m. omega arith) (zero-exactly sheet)
 
 -- A page call gives them as the judge does, where the page buffer is large enough.
 module _ (sheet plan page pageAfter : List ℕ) (r : Answer) (call : Paged sheet plan page pageAfter r) where
@@ -562,27 +541,16 @@ module _ (sheet plan page pageAfter : List ℕ) (r : Answer) (call : Paged sheet
   paged-for-value number Out more judging =
       record {
         always = λ large place f. comes-back large place (judging .always place f);
-        only = λ e. only e (decLt (length page) pageLength) (ℕ-discrete (judged sheet plan .number) 0);
+        only =
+            λ e. let p = page-judge-only sheet plan page pageAfter r call number more e in
+            (p .0, rw (p .2) (judging .only (p .1)));
       }
     where
       comes-back : pageLength ≤ length page → (place : ℕ) → judged sheet plan ≡ turnedBack number place → r ≡ answer number place 0
       comes-back large place e =
           let n : judged sheet plan .number ≡ number = ap (λ (j : Judged). j .number) e in
           let p : judged sheet plan .place ≡ place = ap (λ (j : Judged). j .place) e in
-          judge-comes-back sheet plan page pageAfter r call large (judged sheet plan) refl (λ z. omega arith) ∙ ap₂ (λ m q. answer m q 0) n p
-
-      from-judge : r .number ≡ number → r ≡ answer (judged sheet plan .number) (judged sheet plan .place) 0 → RefusedForValue sheet Out (r .place)
-      from-judge e back =
-          subst (RefusedForValue sheet Out) (sym (ap (λ (a : Answer). a .place) back))
-          (judging .only (sym (ap (λ (a : Answer). a .number) back) ∙ e))
-
-      only : r .number ≡ number → Dec (length page < pageLength) → Dec (judged sheet plan .number ≡ 0)
-          → (pageLength ≤ length page) × RefusedForValue sheet Out (r .place)
-      only e (yes small) d = absurd (omega (arith, ap (λ (a : Answer). a .number) (small-page-is-two sheet plan page pageAfter r call small)))
-      only e (no large) (yes z) =
-          absurd (omega (arith, allowed-is-printed sheet plan page pageAfter r call (omega arith) (judged sheet plan) refl z))
-      only e (no large) (no h) =
-          (omega arith, from-judge e (judge-comes-back sheet plan page pageAfter r call (omega arith) (judged sheet plan) refl h))
+          page-not-allowed sheet plan page pageAfter r call large (λ z. omega arith) ∙ ap₂ (λ m q. answer m q 0) n p
 
   pub paged-six : PagedForValue outOfRange CountOutOfRange
   paged-six = paged-for-value outOfRange CountOutOfRange (omega arith) (judged-six sheet plan (judged sheet plan) refl)

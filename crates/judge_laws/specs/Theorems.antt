@@ -2,13 +2,15 @@
 -- plan.
 -- 01: "The judge takes a sheet and a plan and gives the figure of each section, 0 for an absent section".
 use Prim.Native.Nat.{ℕ, _≤_, _<_}
-use mathlib.Core.Path.{_≡_, ap, _∙_}
+use mathlib.Core.Path.{_≡_, sym, ap, _∙_}
 use mathlib.Core.Bool.{Bool, cond}
 use mathlib.Core.List.{List}
 use native.Mathlib.Omega.{arith}
 use lib.Dec.{ltb}
 use borrow.Author.Tests.{le-ltb}
+use Rattle.sheet.specs.Refusals.{layoutWrong, ruleBroken, figureUntrue}
 use Rattle.sheet.specs.Read.{readSheet}
+use Rattle.sheet.specs.Table.{RefusedFor}
 use Rattle.sheet.specs.Sound.{stripsInAll}
 use Rattle.sheet.specs.Theorems.{read-sound}
 use Rattle.sheet.specs.declared.Sheet.{Sheet}
@@ -23,7 +25,7 @@ use Rattle.judge.specs.Judged.{statedFigure, turnedBack, found, judged}
 use Rattle.judge.specs.Stated.{statedPlan}
 use Rattle.judge.specs.declared.Judged.{Judged}
 use Rattle.judge_laws.specs.Outcomes.{judged-right, right-judged}
-use Rattle.judge_laws.specs.Fault.{Fault}
+use Rattle.judge_laws.specs.Fault.{SectionFault, Fault}
 use Rattle.judge_laws.specs.Faults.{fault-turned-back, turned-back-fault}
 use Rattle.judge_laws.specs.Allows.{right-allowed, stated-lawful}
 use Rattle.judge_laws.specs.StatedPlan.{mosaic-figure-of, sorting-figure-of, flight-figure-of, plan-stated}
@@ -128,3 +130,21 @@ fault-judged sheet plan number place f = fault-turned-back sheet plan number pla
 
 pub judged-fault : (sheet plan : List ℕ) → (judged sheet plan .number ≡ 0 → ⊥) → Fault sheet plan (judged sheet plan .number) (judged sheet plan .place)
 judged-fault sheet plan h = turned-back-fault sheet plan h
+
+-- A number that is none of 0, 12, 13 and 14 is given only for a cause of the sheet.
+section-number : (sheet plan : List ℕ) (section number place : ℕ) → SectionFault (readSheet sheet) plan section number place
+    → (ruleBroken ≤ number) × (number ≤ figureUntrue)
+section-number sheet plan section number place (SectionFault.at-member k st p h n e q) = (omega arith, omega arith)
+section-number sheet plan section number place (SectionFault.at-head st p n e q) = (omega arith, omega arith)
+section-number sheet plan section number place (SectionFault.figure-untrue st p h n e q) = (omega arith, omega arith)
+
+pub judged-sheet-only : (sheet plan : List ℕ) (number : ℕ) → 0 < number → (layoutWrong ≤ number → number ≤ figureUntrue → ⊥)
+    → judged sheet plan .number ≡ number → RefusedFor sheet number (judged sheet plan .place)
+judged-sheet-only sheet plan number some other e = go _ _ e (judged-fault sheet plan (λ z. omega arith))
+  where
+    go : (n place : ℕ) → n ≡ number → Fault sheet plan n place → RefusedFor sheet number place
+    go n place e (Fault.in-sheet f) = rw e at f
+    go n place e (Fault.in-layout s f en) = absurd (other (omega arith) (omega arith))
+    go n place e (Fault.in-section section s l h₁ h₂ b p f) =
+        let q = section-number sheet plan section n place f in
+        absurd (other (omega (arith, q .0)) (omega (arith, q .1)))

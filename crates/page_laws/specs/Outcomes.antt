@@ -90,3 +90,13 @@ module _ (sheet plan page pageAfter : List ℕ) (r : Answer) (call : Paged sheet
       go (PageOutcome.small l e p) = absurd (omega (arith, h, l))
       go (PageOutcome.not-allowed l n e p) = absurd (n k)
       go (PageOutcome.allowed l n e p) = number-is _ _ _ e
+
+  -- A number that is neither 0 nor 2 is the judge's, with its place.
+  pub page-judge-only : (number : ℕ) → bufferTooSmall < number → r .number ≡ number
+      → (pageLength ≤ length page) × (judged sheet plan .number ≡ number) × (r .place ≡ judged sheet plan .place)
+  page-judge-only number more h = go page-outcome
+    where
+      go : PageOutcome sheet plan page pageAfter r → (pageLength ≤ length page) × (judged sheet plan .number ≡ number) × (r .place ≡ judged sheet plan .place)
+      go (PageOutcome.small l e p) = absurd (omega (arith, h, number-is _ _ _ e))
+      go (PageOutcome.not-allowed l n e p) = (l, sym (number-is _ _ _ e) ∙ h, ap (λ (a : Answer). a .place) e)
+      go (PageOutcome.allowed l n e p) = absurd (omega (arith, h, number-is _ _ _ e))

@@ -74,6 +74,17 @@ module _ (sheet plan table planAfter tableEnd : List ℕ) (r : Answer) (call : C
       go (TurnedBack.in-sheet l f) = absurd (not-eleven sheet (r .number) (r .place) f e)
       go (TurnedBack.impossible l s i en ep) = (l, s, i)
 
+  -- A number that is none of 0, 1, 2 and 11 is given only for a cause of the sheet.
+  pub sheet-only : (number : ℕ) → bufferTooSmall < number → (number ≡ orderImpossible → ⊥) → r .number ≡ number
+      → Large plan table × RefusedFor sheet number (r .place)
+  sheet-only number more other e = go (turned-back-only (λ z. omega arith))
+    where
+      go : TurnedBack sheet plan table (r .number) (r .place) → Large plan table × RefusedFor sheet number (r .place)
+      go (TurnedBack.table-small l en ep) = absurd (omega arith)
+      go (TurnedBack.buffer-small l m en ep) = absurd (omega arith)
+      go (TurnedBack.in-sheet l f) = (l, rw e at f)
+      go (TurnedBack.impossible l s i en ep) = absurd (other (sym e ∙ en))
+
   -- A sound sheet that is not impossible is accepted.
   pub else-accepted : Large plan table → readSheet sheet .number ≡ 0 → (Impossible (readSheet sheet) → ⊥) → r .number ≡ 0
   else-accepted l sound possible = go (call-outcome sheet plan table planAfter tableEnd r call)
