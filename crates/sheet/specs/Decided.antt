@@ -212,7 +212,7 @@ module _ (s : List ℕ) (st : Reading) where
 
   pub field-answers : (tag len : ℕ) → fieldAt s (st .at) ≡ Whole tag len
       → Answers (fieldRows s st tag len) (λ n. placeOf n (st .head) (st .at)) (fieldNumber s st tag len)
-  unfolding fieldRows fieldNumber fieldChecks contentChecks placeOf place
+  unfolding fieldRows fieldNumber fieldChecks contentChecks check placeOf place
   field-answers tag len e =
       let c : ℕ = st .at + 3 in
       answers-behind place _ _ _ _ _ (whole-at-not-cut s (st .at) tag len e)

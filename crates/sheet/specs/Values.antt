@@ -5,6 +5,7 @@ use mathlib.Core.Path.{_≡_, refl, sym, ap, subst, _∙_}
 use mathlib.Core.Bool.{false}
 use mathlib.Core.List.{List}
 use native.Mathlib.Omega.{arith}
+use Rattle.base.specs.Branch.{check}
 use Rattle.field.specs.Field.{fieldAt}
 use Rattle.field.specs.declared.Field.{Field}
 use Rattle.field.specs.declared.Field.the-variants.{End, Cut, Whole}
@@ -26,7 +27,7 @@ use Rattle.sheet.specs.declared.Reading.{Reading}
 module _ (Out : Value → Type 0) (number : ℕ) (gives : (v : Value) → Out v → valueNumber v ≡ number) (some : 0 < number)
     (at-field-itself : (head at : ℕ) → placeOf number head at ≡ at) (s : List ℕ) (place : ℕ) (f : RefusedForValue s Out place) where
   field-number : number ≡ fieldNumber s (f .reading) (f .tag) (f .len)
-  unfolding fieldNumber fieldChecks contentChecks
+  unfolding fieldNumber fieldChecks contentChecks check
   field-number =
       let st = f .reading in
       given-passes _ _ _ _ refl (passes-zero _ _ _ (members-given (f .tag) (st .section) (st .members)) (f .some-members))
