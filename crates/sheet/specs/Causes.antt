@@ -15,8 +15,10 @@ use Rattle.sheet.specs.Tags.{mosaicHeadTag, mosaicStripTag, sortingHeadT
 use Rattle.sheet.specs.Refusals.{fieldCut, tagNotPermitted, lengthWrong, outOfRange, tooMany, noMembers, orderNotProper, orderMissing}
 use Rattle.sheet.specs.Refusals.{timeTooLarge, timeOfZero}
 use Rattle.sheet.specs.Sections.{noSection, inMosaic, inSorting, inFlight, stripsOfDesk}
-use Rattle.sheet.specs.FieldTable.{lengthDue, valuesOf, Value, Within}
-use Rattle.sheet.specs.FieldTable.Value.{count, time, positiveTime}
+use Rattle.sheet.specs.Among.{Among}
+use Rattle.sheet.specs.FieldTable.{tableOf, lengthsDue, fieldValues, Value, Within}
+use Rattle.sheet.specs.FieldTable.Range.{count, time, positiveTime, noRange}
+use Rattle.sheet.specs.FieldTable.Value.{value}
 use Rattle.sheet.specs.Rows.{Row, row}
 use Rattle.sheet.specs.declared.Reading.{Reading}
 
@@ -59,21 +61,24 @@ pub data Permitted (tag section members : ℕ) : Type 0 where
 
 -- 6: "value out of its range", of a count: "Keep 6 for station, desk and other counts" (02, Req 04)
 unfoldable pub CountOutOfRange : Value → Type 0
-CountOutOfRange (count least number most) = (number < least) ⊎ (most < number)
-CountOutOfRange (time number most) = ⊥
-CountOutOfRange (positiveTime number most) = ⊥
+CountOutOfRange (value (count least most) number) = (number < least) ⊎ (most < number)
+CountOutOfRange (value (time most) number) = ⊥
+CountOutOfRange (value (positiveTime most) number) = ⊥
+CountOutOfRange (value noRange number) = ⊥
 
 -- 15: "a time above its upper end"
 unfoldable pub TimeTooLarge : Value → Type 0
-TimeTooLarge (count least number most) = ⊥
-TimeTooLarge (time number most) = most < number
-TimeTooLarge (positiveTime number most) = most < number
+TimeTooLarge (value (count least most) number) = ⊥
+TimeTooLarge (value (time most) number) = most < number
+TimeTooLarge (value (positiveTime most) number) = most < number
+TimeTooLarge (value noRange number) = ⊥
 
 -- 16: "a time of zero where at least 1 is due"
 unfoldable pub TimeOfZero : Value → Type 0
-TimeOfZero (count least number most) = ⊥
-TimeOfZero (time number most) = ⊥
-TimeOfZero (positiveTime number most) = number ≡ 0
+TimeOfZero (value (count least most) number) = ⊥
+TimeOfZero (value (time most) number) = ⊥
+TimeOfZero (value (positiveTime most) number) = number ≡ 0
+TimeOfZero (value noRange number) = ⊥
 
 -- "Within a field values are examined from left to right": the first value that is not within its range is out of it in this way (`Out`, one of
 -- the three above; none of them holds of a value within its range)
@@ -100,12 +105,12 @@ cutRow s st = row fieldCut (st .at) (FieldCut s (st .at))
 
 unfoldable pub fieldRows : List ℕ → Reading → ℕ → ℕ → List Row
 fieldRows s st tag len =
-    let values : List Value = valuesOf s (st .at + 3) tag len (st .sorting .desks) in
+    let values : List Value = fieldValues s (st .at + 3) tag len (tableOf st) in
     cutRow s st
     ∷ row noMembers (st .head) (NoMembers tag (st .section) (st .members))
     ∷ row orderMissing (st .head) (OrderMissing tag (st .section) (st .members))
     ∷ row tagNotPermitted (st .at) (Permitted tag (st .section) (st .members) → ⊥)
-    ∷ row lengthWrong (st .at) (len ≡ lengthDue tag (st .mosaic .stations) → ⊥)
+    ∷ row lengthWrong (st .at) (Among len (lengthsDue tag (tableOf st)) → ⊥)
     ∷ row outOfRange (st .at) (FirstOut CountOutOfRange values)
     ∷ row timeTooLarge (st .at) (FirstOut TimeTooLarge values)
     ∷ row timeOfZero (st .at) (FirstOut TimeOfZero values)

@@ -11,7 +11,8 @@ use Rattle.sheet.specs.Tags.{mosaicHeadTag, mosaicStripTag, sortingHeadT
 use Rattle.sheet.specs.Refusals.{outOfRange, timeTooLarge, timeOfZero}
 use Rattle.sheet.specs.Sections.{noSection, inMosaic, inSorting, inFlight}
 use Rattle.sheet.specs.FieldTable.{Value}
-use Rattle.sheet.specs.FieldTable.Value.{count, time, positiveTime}
+use Rattle.sheet.specs.FieldTable.Range.{count, time, positiveTime, noRange}
+use Rattle.sheet.specs.FieldTable.Value.{value}
 use Rattle.sheet.specs.Rows.{firstFailure}
 
 -- "Only tags 10, 20, 30 and the end of the sheet end a section."
@@ -54,9 +55,10 @@ unfoldable pub timeNumber : ℕ → ℕ → ℕ → ℕ
 timeNumber least number most = check (leb number most) timeTooLarge (check (leb least number) timeOfZero 0)
 
 unfoldable pub valueNumber : Value → ℕ
-valueNumber (count least number most) = countNumber least number most
-valueNumber (time number most) = timeNumber 0 number most
-valueNumber (positiveTime number most) = timeNumber 1 number most
+valueNumber (value (count least most) number) = countNumber least number most
+valueNumber (value (time most) number) = timeNumber 0 number most
+valueNumber (value (positiveTime most) number) = timeNumber 1 number most
+valueNumber (value noRange number) = 0
 
 -- the numbers that the values of a field give, "from left to right", and the first of them that is not 0
 unfoldable pub valueNumbers : List Value → List ℕ

@@ -20,9 +20,10 @@ use Rattle.sheet.specs.Limits.{mostBlocksWithoutOrder}
 use Rattle.sheet.specs.Tags.{mosaicHeadTag, mosaicStripTag, sortingHeadTag, sortingStripTag, flightHeadTag, flightBlockTag, flightOrderTag}
 use Rattle.sheet.specs.Refusals.{fieldCut, tagNotPermitted, lengthWrong, tooMany, noMembers, orderNotProper, orderMissing}
 use Rattle.sheet.specs.Sections.{noSection, inFlight, stripsOfDesk}
-use Rattle.sheet.specs.FieldTable.{lengthDue, valuesOf}
+use Rattle.sheet.specs.FieldTable.{tableOf, lengthsDue, fieldValues}
 use Rattle.sheet.specs.Rows.{firstFailure}
-use Rattle.sheet.specs.RowLaws.{Gives, Answers, gives-check, answers-none, answers-behind, answers-row, answers-rows, neither}
+use Rattle.sheet.specs.RowLaws.{Gives, Answers, gives-check, answers-none, answers-behind, answers-row, answers-rows}
+use Rattle.sheet.specs.Among.{Among, isAmong, neither, true-among, false-not-among}
 use Rattle.sheet.specs.Causes.{FieldCut, EndsSection, NoMembers, ManyBlocks, OrderMissing, Permitted, TooMany, OrderNotProper, cutRow, fieldRows, endRows}
 use Rattle.sheet.specs.Checks.{endsSection, sectionFilled, fewBlocks, orderGiven, orderPermitted, permitted, hasRoom, orderProper}
 use Rattle.sheet.specs.Ranges.{range-answers}
@@ -140,8 +141,8 @@ module _ (tag section members : ℕ) where
   permitted-given = gives-check _ _ _ false-permitted (λ e n. n (true-permitted e))
 
 -- 5
-pub length-given : (len due : ℕ) → Gives (check (eqb len due) lengthWrong 0) lengthWrong (len ≡ due → ⊥)
-length-given len due = decided _ _ _ (eqb-false len due) (ne-eqb len due)
+pub length-given : (len : ℕ) (due : List ℕ) → Gives (check (isAmong len due) lengthWrong 0) lengthWrong (Among len due → ⊥)
+length-given len due = gives-check _ _ _ (false-not-among len due) (λ e n. n (true-among len due e))
 
 -- 7
 module _ (tag members ofDesk : ℕ) where
@@ -219,8 +220,8 @@ module _ (s : List ℕ) (st : Reading) where
       (answers-row place _ _ _ _ _ _ (omega arith) refl (members-given tag (st .section) (st .members))
       (λ _. answers-row place _ _ _ _ _ _ (omega arith) refl (order-given tag (st .section) (st .members))
       (λ _. answers-row place _ _ _ _ _ _ (omega arith) refl (permitted-given tag (st .section) (st .members))
-      (λ _. answers-row place _ _ _ _ _ _ (omega arith) refl (length-given len (lengthDue tag (st .mosaic .stations)))
-      (λ _. answers-rows _ _ place _ _ (range-answers place (st .at) refl refl refl (valuesOf s c tag len (st .sorting .desks)))
+      (λ _. answers-row place _ _ _ _ _ _ (omega arith) refl (length-given len (lengthsDue tag (tableOf st)))
+      (λ _. answers-rows _ _ place _ _ (range-answers place (st .at) refl refl refl (fieldValues s c tag len (tableOf st)))
       (λ _. answers-row place _ _ _ _ _ _ (omega arith) refl (room-given tag (st .members) (stripsOfDesk (st .sorting .counts) (numberAt s c 1)))
       (λ _. answers-row place _ _ _ _ _ _ (omega arith) refl (proper-given tag (st .members) (numberAt s c 8))
       (λ _. answers-none _))))))))

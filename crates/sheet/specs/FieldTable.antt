@@ -1,77 +1,138 @@
--- The field table of 01 ("The sheet"): the length of each field's content, and its values with the least and the greatest that each may be. Where the quoted
--- table has 10,000 the upper end of a time is now `mostTime`, 60,000 (02, Req 01); the lower ends are the table's.
--- A field's content begins at offset c of the sheet s.
+-- The field table of 01 ("The sheet"): for each tag the numbers of its content from left to right, each with its width in bytes and its range. The length of a
+-- content is the sum of its widths. Where the quoted table has 10,000 the upper end of a time is now `mostTime`, 60,000 (02, Req 01); the lower ends are the
+-- table's.
 use Prim.{Unit}
-use Prim.Native.Nat.{ℕ, zero, suc, _+_, _-_, _*_, _/_, _≤_}
-use mathlib.Core.Bool.{cond}
-use mathlib.Core.List.{List, [], _∷_}
-use lib.Dec.{eqb}
+use Prim.Native.Nat.{ℕ, zero, suc, _+_, _≤_}
+use mathlib.Core.Bool.{Bool, cond, _&&_}
+use mathlib.Core.List.{List, [], _∷_, _++_}
+use lib.Dec.{eqb, leb}
 use Rattle.field.specs.Bytes.{numberAt}
 use Rattle.sheet.specs.Limits.{mostStations, mostDesks, mostTime}
-use Rattle.sheet.specs.Tags.{mosaicHeadTag, mosaicStripTag, sortingHeadTag, sortingStripTag, flightHeadTag, flightBlockTag}
+use Rattle.sheet.specs.Tags.{mosaicHeadTag, mosaicStripTag, sortingHeadTag, sortingStripTag, flightHeadTag, flightBlockTag, flightOrderTag}
+use Rattle.sheet.specs.declared.Reading.{Reading}
 
--- the length of the content, with m stations in the head of the mosaic; every other tag is 32, or is refused with 4 before its length is looked at
-unfoldable pub lengthDue : ℕ → ℕ → ℕ
-lengthDue tag stations =
-    cond (eqb tag mosaicHeadTag) 3
-    (cond (eqb tag mosaicStripTag) (2 * stations + 2)
-    (cond (eqb tag sortingHeadTag) 1
-    (cond (eqb tag sortingStripTag) 5
-    (cond (eqb tag flightHeadTag) 0
-    (cond (eqb tag flightBlockTag) 6
-    8)))))
+-- The range of a number: a count from `least` to `most`, a time from 0 to `most`, a time from 1 to `most`, or none.
+pub data Range : Type 0 where
+  count : (least most : ℕ) → Range
+  time : (most : ℕ) → Range
+  positiveTime : (most : ℕ) → Range
+  noRange : Range
 
--- A value of a field and its range: a count from `least` to `most`, a time from 0 to `most`, or a time from 1 to `most`.
-pub data Value : Type 0 where
-  count : (least number most : ℕ) → Value
-  time : (number most : ℕ) → Value
-  positiveTime : (number most : ℕ) → Value
+-- a number of a content: how many bytes it takes, and its range
+pub record Item : Type 0 where
+  pub width : ℕ
+  pub range : Range
+
+abbrev pub item : ℕ → Range → Item
+item width range = record { width = width; range = range }
 
 -- "stations m (1 byte, 1 to 4), mount time s (2 bytes, 0 to 10,000)"
-unfoldable pub mosaicHeadValues : ℕ → ℕ → List Value
-mosaicHeadValues stations mount = count 1 stations mostStations ∷ time mount mostTime ∷ []
+unfoldable pub mosaicHead : List Item
+mosaicHead = item 1 (count 1 mostStations) ∷ item 2 (time mostTime) ∷ []
 
--- "m station times (2 bytes each, 0 to 10,000; 0 means camera off), then bench time (2 bytes, 1 to 10,000)": those from station k on, of which there are n
-unfoldable pub mosaicStripValues : List ℕ → ℕ → ℕ → ℕ → List Value
-mosaicStripValues s c k zero = positiveTime (numberAt s (c + 2 * k) 2) mostTime ∷ []
-mosaicStripValues s c k (suc n) = time (numberAt s (c + 2 * k) 2) mostTime ∷ mosaicStripValues s c (k + 1) n
-
--- the station times that a strip of a content length has before its bench time: m where the length is the one due, 2 m + 2
-unfoldable pub stationTimes : ℕ → ℕ
-stationTimes len = (len - 1) / 2
+-- "m station times (2 bytes each, 0 to 10,000; 0 means camera off), then bench time (2 bytes, 1 to 10,000)"
+unfoldable pub mosaicStrip : ℕ → List Item
+mosaicStrip zero = item 2 (positiveTime mostTime) ∷ []
+mosaicStrip (suc m) = item 2 (time mostTime) ∷ mosaicStrip m
 
 -- "desks m (1 byte, 1 to 3)"
-unfoldable pub sortingHeadValues : ℕ → List Value
-sortingHeadValues desks = count 1 desks mostDesks ∷ []
+unfoldable pub sortingHead : List Item
+sortingHead = item 1 (count 1 mostDesks) ∷ []
 
 -- "desk (1 byte, 1 to m), scan time, desk time (2 bytes each, 1 to 10,000)"
-unfoldable pub sortingStripValues : ℕ → ℕ → ℕ → ℕ → List Value
-sortingStripValues desks desk scan deskTime = count 1 desk desks ∷ positiveTime scan mostTime ∷ positiveTime deskTime mostTime ∷ []
+unfoldable pub sortingStrip : ℕ → List Item
+sortingStrip m = item 1 (count 1 m) ∷ item 2 (positiveTime mostTime) ∷ item 2 (positiveTime mostTime) ∷ []
+
+-- "empty"
+unfoldable pub flightHead : List Item
+flightHead = []
 
 -- "first pass a, delay l, second pass b (2 bytes each; a and b 1 to 10,000, l 0 to 10,000)"
-unfoldable pub flightBlockValues : ℕ → ℕ → ℕ → List Value
-flightBlockValues a l b = positiveTime a mostTime ∷ time l mostTime ∷ positiveTime b mostTime ∷ []
+unfoldable pub flightBlock : List Item
+flightBlock = item 2 (positiveTime mostTime) ∷ item 2 (time mostTime) ∷ item 2 (positiveTime mostTime) ∷ []
 
--- the values of a field of a tag and a content length, with m desks in the head of the sorting; a flight head has none, and the pass order has no range
-unfoldable pub valuesOf : List ℕ → ℕ → ℕ → ℕ → ℕ → List Value
-valuesOf s c tag len desks =
-    cond (eqb tag mosaicHeadTag) (mosaicHeadValues (numberAt s c 1) (numberAt s (c + 1) 2))
-    (cond (eqb tag mosaicStripTag) (mosaicStripValues s c 0 (stationTimes len))
-    (cond (eqb tag sortingHeadTag) (sortingHeadValues (numberAt s c 1))
-    (cond (eqb tag sortingStripTag) (sortingStripValues desks (numberAt s c 1) (numberAt s (c + 1) 2) (numberAt s (c + 3) 2))
-    (cond (eqb tag flightBlockTag) (flightBlockValues (numberAt s c 2) (numberAt s (c + 2) 2) (numberAt s (c + 4) 2))
-    []))))
+-- "an 8-byte number"
+unfoldable pub flightOrder : List Item
+flightOrder = item 8 noRange ∷ []
+
+-- A row of the table: a tag and what its content is.
+pub record FieldRow : Type 0 where
+  pub tag : ℕ
+  pub content : List Item
+
+abbrev pub fieldRow : ℕ → List Item → FieldRow
+fieldRow tag content = record { tag = tag; content = content }
+
+-- the row of a mosaic strip, for a number of stations that a mosaic head may have; for no other is there one
+unfoldable pub stripRows : ℕ → List FieldRow
+stripRows stations = cond (leb 1 stations && leb stations mostStations) (fieldRow mosaicStripTag (mosaicStrip stations) ∷ []) []
+
+-- The table, with so many stations in the head of the mosaic and so many desks in that of the sorting.
+unfoldable pub fieldTable : ℕ → ℕ → List FieldRow
+fieldTable stations desks =
+    fieldRow mosaicHeadTag mosaicHead
+    ∷ (stripRows stations
+    ++ (fieldRow sortingHeadTag sortingHead
+    ∷ fieldRow sortingStripTag (sortingStrip desks)
+    ∷ fieldRow flightHeadTag flightHead
+    ∷ fieldRow flightBlockTag flightBlock
+    ∷ fieldRow flightOrderTag flightOrder
+    ∷ []))
+
+-- the table where a reading stands: with the stations and the desks of the heads before
+abbrev pub tableOf : Reading → List FieldRow
+tableOf st = fieldTable (st .mosaic .stations) (st .sorting .desks)
+
+-- the length of a content: the sum of its widths
+unfoldable pub lengthOf : List Item → ℕ
+lengthOf [] = 0
+lengthOf (i ∷ content) = i .width + lengthOf content
+
+-- the contents that the table has for a tag, none for a tag outside it; the lengths that are due for the tag are theirs
+unfoldable pub contentsOf : ℕ → List FieldRow → List (List Item)
+contentsOf tag [] = []
+contentsOf tag (r ∷ table) = cond (eqb tag (r .tag)) (r .content ∷ contentsOf tag table) (contentsOf tag table)
+
+unfoldable pub lengthsOf : List (List Item) → List ℕ
+lengthsOf [] = []
+lengthsOf (content ∷ contents) = lengthOf content ∷ lengthsOf contents
+
+unfoldable pub lengthsDue : ℕ → List FieldRow → List ℕ
+lengthsDue tag table = lengthsOf (contentsOf tag table)
+
+-- of several contents the one of a length
+unfoldable pub ofLength : ℕ → List (List Item) → List Item
+ofLength len [] = []
+ofLength len (content ∷ contents) = cond (eqb len (lengthOf content)) content (ofLength len contents)
+
+-- A value is a number with its range. The numbers of a content that begins at an offset c of the sheet s stand one behind the other.
+pub data Value : Type 0 where
+  value : Range → ℕ → Value
+
+unfoldable pub numbersAt : List ℕ → ℕ → List Item → List ℕ
+numbersAt s c [] = []
+numbersAt s c (i ∷ content) = numberAt s c (i .width) ∷ numbersAt s (c + i .width) content
+
+unfoldable pub valuesOf : List Item → List ℕ → List Value
+valuesOf [] numbers = []
+valuesOf (i ∷ content) [] = []
+valuesOf (i ∷ content) (n ∷ numbers) = value (i .range) n ∷ valuesOf content numbers
+
+-- the values of a field of a tag and a content length
+unfoldable pub fieldValues : List ℕ → ℕ → ℕ → ℕ → List FieldRow → List Value
+fieldValues s c tag len table = let content : List Item = ofLength len (contentsOf tag table) in valuesOf content (numbersAt s c content)
 
 -- a number from `least` to `most`
 pub record Between (least number most : ℕ) : Type 0 where
   pub at-least : least ≤ number
   pub at-most : number ≤ most
 
--- a value is within its range, and every value is
+-- a value is within its range, and every value is; a number without a range always is
 unfoldable pub Within : Value → Type 0
-Within (count least number most) = Between least number most
-Within (time number most) = Between 0 number most
-Within (positiveTime number most) = Between 1 number most
+Within (value (count least most) number) = Between least number most
+Within (value (time most) number) = Between 0 number most
+Within (value (positiveTime most) number) = Between 1 number most
+Within (value noRange number) = Unit
 
 unfoldable pub InRange : List Value → Type 0
 InRange [] = Unit

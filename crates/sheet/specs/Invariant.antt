@@ -1,5 +1,5 @@
 -- What holds wherever a reading stands, and that a field which passes its checks keeps it. The field's tag is one of seven; each is one law.
-use Prim.Native.Nat.{ℕ, _+_, _-_, _*_, _/_, _≤_, _<_}
+use Prim.Native.Nat.{ℕ, _+_, _≤_, _<_}
 use mathlib.Core.Path.{_≡_, refl, sym, ap, _∙_, subst}
 use mathlib.Core.Bool.{true, false}
 use mathlib.Core.List.{List}
@@ -10,7 +10,9 @@ use Rattle.sheet.specs.Limits.{mostBlocks, mostStrips}
 use Rattle.sheet.specs.Tags.{mosaicHeadTag, mosaicStripTag, sortingHeadTag, sortingStripTag, flightHeadTag, flightBlockTag, flightOrderTag}
 use Rattle.sheet.specs.Sections.{noSection, inMosaic, inSorting, inFlight, afterOrder}
 use Rattle.sheet.specs.Checks.{endsSection}
-use Rattle.sheet.specs.FieldTable.{lengthDue, mosaicStripValues, stationTimes, valuesOf, InRange}
+use Rattle.sheet.specs.FieldTable.{tableOf, lengthsDue, Value, fieldValues, InRange}
+use Rattle.sheet.specs.Among.{Among}
+use Rattle.sheet.specs.Contents.{mosaic-head-values, mosaic-strip-values, sorting-head-values, sorting-strip-values, flight-block-values}
 use Rattle.sheet.specs.Causes.{Permitted, TooMany}
 use Rattle.sheet.specs.Decode.{noFlight, withMosaicHead, withMosaicStrip, withSortingHead, withBlock, withOrder, nextMosaic, nextSorting, nextFlight}
 use Rattle.sheet.specs.Decode.{nextSection, nextHead, nextMembers, nextReading, startReading}
@@ -61,23 +63,20 @@ below i j n = go (decLt i j)
     go (yes h) = h
     go (no h) = absurd (n (omega arith))
 
--- a strip of the length that is due has as many station times as the mosaic has stations
-strip-values : {s : List ℕ} {st : Reading} {len : ℕ} → Passed s st mosaicStripTag len → InRange (mosaicStripValues s (st .at + 3) 0 (st .mosaic .stations))
-unfolding lengthDue stationTimes valuesOf
-strip-values {s} {st} {len} p = subst (λ n. InRange (mosaicStripValues s (st .at + 3) 0 n)) (times (p .length-ok)) (p .range-ok)
-  where
-    times : len ≡ 2 * st .mosaic .stations + 2 → (len - 1) / 2 ≡ st .mosaic .stations
-    times e = omega arith
-
 module _ (s : List ℕ) (st : Reading) (len : ℕ) (k : Kept s st) (w : st .at + 3 + len ≤ length s) where
+  -- a field that passes its checks has the values of its tag's content, each within its range
+  pub within-by : {tag : ℕ} {values : List Value} → Passed s st tag len
+      → (Among len (lengthsDue tag (tableOf st)) → fieldValues s (st .at + 3) tag len (tableOf st) ≡ values) → InRange values
+  within-by p values-are = subst InRange (values-are (p .length-ok)) (p .range-ok)
+
   kept-mosaic-head : Passed s st mosaicHeadTag len → st .section ≡ noSection → Kept s (nextReading s st mosaicHeadTag len)
-  unfolding nextReading nextSection nextHead nextMembers nextMosaic nextSorting nextFlight endsSection valuesOf withMosaicHead
+  unfolding nextReading nextSection nextHead nextMembers nextMosaic nextSorting nextFlight endsSection withMosaicHead
   kept-mosaic-head p e =
       record {
         within = w;
         few-members = omega arith;
         known = omega arith;
-        mosaic = mosaic-head-sound s (st .at + 3) (p .range-ok);
+        mosaic = mosaic-head-sound s (st .at + 3) (within-by p (mosaic-head-values s (st .at + 3) len _ _));
         sorting = k .sorting;
         flight = k .flight;
         in-none = λ q. absurd (omega arith);
@@ -98,7 +97,7 @@ module _ (s : List ℕ) (st : Reading) (len : ℕ) (k : Kept s st) (w : st .at +
         within = w;
         few-members = omega arith;
         known = omega arith;
-        mosaic = mosaic-strip-sound s (st .at + 3) (st .mosaic) (k .mosaic) (omega arith) (strip-values p);
+        mosaic = mosaic-strip-sound s (st .at + 3) (st .mosaic) (k .mosaic) (omega arith) (within-by p (mosaic-strip-values s (st .at + 3) len _ _));
         sorting = k .sorting;
         flight = k .flight;
         in-none = λ q. absurd (omega arith);
@@ -114,14 +113,14 @@ module _ (s : List ℕ) (st : Reading) (len : ℕ) (k : Kept s st) (w : st .at +
   none-yet c = omega (arith, zeros-at 3 0, zeros-at 3 1, zeros-at 3 2)
 
   kept-sorting-head : Passed s st sortingHeadTag len → st .section < inSorting → Kept s (nextReading s st sortingHeadTag len)
-  unfolding nextReading nextSection nextHead nextMembers nextMosaic nextSorting nextFlight endsSection valuesOf
+  unfolding nextReading nextSection nextHead nextMembers nextMosaic nextSorting nextFlight endsSection
   kept-sorting-head p h =
       record {
         within = w;
         few-members = omega arith;
         known = omega arith;
         mosaic = k .mosaic;
-        sorting = sorting-head-sound s (st .at + 3) (p .range-ok);
+        sorting = sorting-head-sound s (st .at + 3) (within-by p (sorting-head-values s (st .at + 3) len _ _));
         flight = k .flight;
         in-none = λ q. absurd (omega arith);
         in-mosaic = λ q. absurd (omega arith);
@@ -132,7 +131,7 @@ module _ (s : List ℕ) (st : Reading) (len : ℕ) (k : Kept s st) (w : st .at +
       }
 
   kept-sorting-strip : Passed s st sortingStripTag len → st .section ≡ inSorting → Kept s (nextReading s st sortingStripTag len)
-  unfolding nextReading nextSection nextHead nextMembers nextMosaic nextSorting nextFlight endsSection valuesOf
+  unfolding nextReading nextSection nextHead nextMembers nextMosaic nextSorting nextFlight endsSection
   kept-sorting-strip p e =
       let f = k .few-members in
       record {
@@ -140,11 +139,11 @@ module _ (s : List ℕ) (st : Reading) (len : ℕ) (k : Kept s st) (w : st .at +
         few-members = omega arith;
         known = omega arith;
         mosaic = k .mosaic;
-        sorting = sorting-strip-sound s (st .at + 3) (st .sorting) (k .sorting) (p .range-ok) (below _ _ (λ h. p .room-ok (TooMany.strip-of-desk refl h)));
+        sorting = sorting-strip-sound s (st .at + 3) (st .sorting) (k .sorting) (within-by p (sorting-strip-values s (st .at + 3) len _ _)) (below _ _ (λ h. p .room-ok (TooMany.strip-of-desk refl h)));
         flight = k .flight;
         in-none = λ q. absurd (omega arith);
         in-mosaic = λ q. absurd (omega arith);
-        in-sorting = λ _. ap (λ n. n + 1) (k .in-sorting e) ∙ sym (sorting-strip-more s (st .at + 3) (st .sorting) (k .sorting) (p .range-ok));
+        in-sorting = λ _. ap (λ n. n + 1) (k .in-sorting e) ∙ sym (sorting-strip-more s (st .at + 3) (st .sorting) (k .sorting) (within-by p (sorting-strip-values s (st .at + 3) len _ _)));
         before-flight = λ h. k .before-flight h;
         in-flight = λ q. absurd (omega arith);
         after-order = λ q. absurd (omega arith);
@@ -170,7 +169,7 @@ module _ (s : List ℕ) (st : Reading) (len : ℕ) (k : Kept s st) (w : st .at +
       }
 
   kept-flight-block : Passed s st flightBlockTag len → st .section ≡ inFlight → Kept s (nextReading s st flightBlockTag len)
-  unfolding nextReading nextSection nextHead nextMembers nextMosaic nextSorting nextFlight endsSection valuesOf withBlock
+  unfolding nextReading nextSection nextHead nextMembers nextMosaic nextSorting nextFlight endsSection withBlock
   kept-flight-block p e =
       let f = k .few-members in
       let b = k .in-flight e in
@@ -181,7 +180,7 @@ module _ (s : List ℕ) (st : Reading) (len : ℕ) (k : Kept s st) (w : st .at +
         known = omega arith;
         mosaic = k .mosaic;
         sorting = k .sorting;
-        flight = block-sound s (st .at + 3) (st .flight) (k .flight) (b .1) (omega (arith, b .0)) (p .range-ok);
+        flight = block-sound s (st .at + 3) (st .flight) (k .flight) (b .1) (omega (arith, b .0)) (within-by p (flight-block-values s (st .at + 3) len _ _));
         in-none = λ q. absurd (omega arith);
         in-mosaic = λ q. absurd (omega arith);
         in-sorting = λ q. absurd (omega arith);

@@ -3,6 +3,7 @@ pub mod Limits
 pub mod Refusals
 pub mod Tags
 pub mod Sections
+pub mod Among
 pub mod FieldTable
 pub mod Rows
 pub mod Causes
@@ -18,6 +19,7 @@ pub mod RowLaws
 pub mod Ranges
 pub mod Decided
 pub mod Passed
+pub mod Contents
 pub mod Stores
 pub mod SectionLaws
 pub mod DeskLaws

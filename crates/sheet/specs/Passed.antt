@@ -3,7 +3,6 @@ use Prim.Native.Nat.{ℕ, _+_}
 use mathlib.Core.Path.{_≡_, refl}
 use mathlib.Core.Bool.{Bool, true, false}
 use mathlib.Core.List.{List, _∷_}
-use native.Mathlib.Decide.{ℕ-discrete}
 use Rattle.field.specs.Bytes.{numberAt}
 use Rattle.field.specs.Field.{fieldAt}
 use Rattle.field.specs.declared.Field.the-variants.{Whole}
@@ -11,7 +10,8 @@ use Rattle.order.specs.Order.{Proper, isProper}
 use Rattle.order.specs.Decided.{proper-true, proper-decided}
 use Rattle.sheet.specs.Tags.{flightOrderTag}
 use Rattle.sheet.specs.Sections.{stripsOfDesk}
-use Rattle.sheet.specs.FieldTable.{lengthDue, Value, valuesOf, Within, InRange}
+use Rattle.sheet.specs.FieldTable.{tableOf, lengthsDue, Value, fieldValues, Within, InRange}
+use Rattle.sheet.specs.Among.{Among, among-else}
 use Rattle.sheet.specs.Rows.{rowAt, NoCause}
 use Rattle.sheet.specs.RowLaws.{answer-passes}
 use Rattle.sheet.specs.Causes.{Permitted, CountOutOfRange, TimeTooLarge, TimeOfZero, FirstOut, TooMany, fieldRows}
@@ -23,8 +23,8 @@ use Rattle.sheet.specs.declared.Reading.{Reading}
 
 pub record Passed (s : List ℕ) (st : Reading) (tag len : ℕ) : Type 0 where
   pub tag-ok : Permitted tag (st .section) (st .members)
-  pub length-ok : len ≡ lengthDue tag (st .mosaic .stations)
-  pub range-ok : InRange (valuesOf s (st .at + 3) tag len (st .sorting .desks))
+  pub length-ok : Among len (lengthsDue tag (tableOf st))
+  pub range-ok : InRange (fieldValues s (st .at + 3) tag len (tableOf st))
   pub room-ok : TooMany tag (st .members) (stripsOfDesk (st .sorting .counts) (numberAt s (st .at + 3) 1)) → ⊥
   pub order-ok : tag ≡ flightOrderTag → Proper (st .members) (numberAt s (st .at + 3) 8)
 
@@ -53,19 +53,12 @@ permitted-else tag section members h = go (permitted tag section members) refl
     go true e = true-permitted tag section members e
     go false e = absurd (h (false-permitted tag section members e))
 
-pub length-else : (len due : ℕ) → ((len ≡ due → ⊥) → ⊥) → len ≡ due
-length-else len due h = go (ℕ-discrete len due)
-  where
-    go : Dec (len ≡ due) → len ≡ due
-    go (yes e) = e
-    go (no n) = absurd (h n)
-
 pub passed-rows : (s : List ℕ) (st : Reading) (tag len : ℕ) → NoCause (fieldRows s st tag len) → Passed s st tag len
 unfolding NoCause fieldRows rowAt
 passed-rows s st tag len p =
     record {
       tag-ok = permitted-else tag (st .section) (st .members) (p 3);
-      length-ok = length-else len _ (p 4);
+      length-ok = among-else len _ (p 4);
       range-ok = in-range _ (p 5) (p 6) (p 7);
       room-ok = p 8;
       order-ok = λ e. proper-else _ _ (λ n. p 9 (record { is-order = e; improper = n }));

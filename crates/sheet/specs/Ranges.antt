@@ -12,7 +12,8 @@ use borrow.Author.Tests.{leb-true, leb-false, le-leb, lt-leb}
 use Rattle.base.specs.Branch.{check}
 use Rattle.sheet.specs.Refusals.{outOfRange, timeTooLarge, timeOfZero}
 use Rattle.sheet.specs.FieldTable.{Value, Within, InRange}
-use Rattle.sheet.specs.FieldTable.Value.{count, time, positiveTime}
+use Rattle.sheet.specs.FieldTable.Range.{count, time, positiveTime, noRange}
+use Rattle.sheet.specs.FieldTable.Value.{value}
 use Rattle.sheet.specs.Rows.{Row, row, firstFailure}
 use Rattle.sheet.specs.RowLaws.{Answers, answers-none, answers-here, answers-behind, first-here}
 use Rattle.sheet.specs.Causes.{CountOutOfRange, TimeTooLarge, TimeOfZero, FirstOut}
@@ -21,32 +22,36 @@ use Rattle.sheet.specs.Checks.{countNumber, timeNumber, valueNumber, val
 -- A value that is out of its range gives the number of its kind, one within it gives 0 ..
 pub count-number : (v : Value) → CountOutOfRange v → valueNumber v ≡ outOfRange
 unfolding valueNumber countNumber check CountOutOfRange
-count-number (count least number most) (inl h) = rw (lt-leb least number (omega (arith, h)))
-count-number (count least number most) (inr h) = rw (lt-leb number most (omega (arith, h))) (go (leb least number))
+count-number (value (count least most) number) (inl h) = rw (lt-leb least number (omega (arith, h)))
+count-number (value (count least most) number) (inr h) = rw (lt-leb number most (omega (arith, h))) (go (leb least number))
   where
     go : (a : Bool) → check (a && false) outOfRange 0 ≡ outOfRange
     go true = refl
     go false = refl
-count-number (time number most) c = absurd c
-count-number (positiveTime number most) c = absurd c
+count-number (value (time most) number) c = absurd c
+count-number (value (positiveTime most) number) c = absurd c
+count-number (value noRange number) c = absurd c
 
 pub too-large-number : (v : Value) → TimeTooLarge v → valueNumber v ≡ timeTooLarge
 unfolding valueNumber timeNumber check TimeTooLarge
-too-large-number (count least number most) c = absurd c
-too-large-number (time number most) h = rw (lt-leb number most (omega (arith, h)))
-too-large-number (positiveTime number most) h = rw (lt-leb number most (omega (arith, h)))
+too-large-number (value (count least most) number) c = absurd c
+too-large-number (value (time most) number) h = rw (lt-leb number most (omega (arith, h)))
+too-large-number (value (positiveTime most) number) h = rw (lt-leb number most (omega (arith, h)))
+too-large-number (value noRange number) c = absurd c
 
 pub zero-number : (v : Value) → TimeOfZero v → valueNumber v ≡ timeOfZero
 unfolding valueNumber timeNumber check TimeOfZero
-zero-number (count least number most) c = absurd c
-zero-number (time number most) c = absurd c
-zero-number (positiveTime number most) z = rw (le-leb number most (omega (arith, z)), lt-leb 1 number (omega (arith, z)))
+zero-number (value (count least most) number) c = absurd c
+zero-number (value (time most) number) c = absurd c
+zero-number (value (positiveTime most) number) z = rw (le-leb number most (omega (arith, z)), lt-leb 1 number (omega (arith, z)))
+zero-number (value noRange number) c = absurd c
 
 within-number : (v : Value) → Within v → valueNumber v ≡ 0
 unfolding valueNumber countNumber timeNumber check Within
-within-number (count least number most) b = rw (le-leb least number (omega (arith, b .at-least)), le-leb number most (omega (arith, b .at-most)))
-within-number (time number most) b = rw (le-leb number most (omega (arith, b .at-most)), le-leb 0 number (omega arith))
-within-number (positiveTime number most) b = rw (le-leb number most (omega (arith, b .at-most)), le-leb 1 number (omega (arith, b .at-least)))
+within-number (value (count least most) number) b = rw (le-leb least number (omega (arith, b .at-least)), le-leb number most (omega (arith, b .at-most)))
+within-number (value (time most) number) b = rw (le-leb number most (omega (arith, b .at-most)), le-leb 0 number (omega arith))
+within-number (value (positiveTime most) number) b = rw (le-leb number most (omega (arith, b .at-most)), le-leb 1 number (omega (arith, b .at-least)))
+within-number (value noRange number) b = refl
 
 -- .. so where the first value that is not within its range is out of it in one way, the number of that way is given.
 pub first-out-number : (Out : Value → Type 0) (number : ℕ) → 0 < number → ((v : Value) → Out v → valueNumber v ≡ number)
@@ -63,38 +68,39 @@ data OneDecided (given : ℕ) (v : Value) : Type 0 where
   of-zero : given ≡ timeOfZero → TimeOfZero v → OneDecided given v
   within : given ≡ 0 → Within v → OneDecided given v
 
-count-decided : (least number most : ℕ) → OneDecided (countNumber least number most) (count least number most)
+count-decided : (least number most : ℕ) → OneDecided (countNumber least number most) (value (count least most) number)
 unfolding countNumber check CountOutOfRange Within
 count-decided least number most = go (leb least number) refl (leb number most) refl
   where
-    go : (a : Bool) → leb least number ≡ a → (b : Bool) → leb number most ≡ b → OneDecided (check (a && b) outOfRange 0) (count least number most)
+    go : (a : Bool) → leb least number ≡ a → (b : Bool) → leb number most ≡ b → OneDecided (check (a && b) outOfRange 0) (value (count least most) number)
     go false p b q = OneDecided.count-out refl (inl (omega (arith, leb-false least number p)))
     go true p false q = OneDecided.count-out refl (inr (omega (arith, leb-false number most q)))
     go true p true q = OneDecided.within refl (record { at-least = omega (arith, leb-true least number p); at-most = omega (arith, leb-true number most q) })
 
-time-decided : (number most : ℕ) → OneDecided (timeNumber 0 number most) (time number most)
+time-decided : (number most : ℕ) → OneDecided (timeNumber 0 number most) (value (time most) number)
 unfolding timeNumber check TimeTooLarge Within
 time-decided number most = go (leb number most) refl
   where
-    go : (b : Bool) → leb number most ≡ b → OneDecided (check b timeTooLarge (check (leb 0 number) timeOfZero 0)) (time number most)
+    go : (b : Bool) → leb number most ≡ b → OneDecided (check b timeTooLarge (check (leb 0 number) timeOfZero 0)) (value (time most) number)
     go false q = OneDecided.too-large refl (omega (arith, leb-false number most q))
     go true q = OneDecided.within (rw (le-leb 0 number (omega arith))) (record { at-least = omega arith; at-most = omega (arith, leb-true number most q) })
 
-positive-decided : (number most : ℕ) → OneDecided (timeNumber 1 number most) (positiveTime number most)
+positive-decided : (number most : ℕ) → OneDecided (timeNumber 1 number most) (value (positiveTime most) number)
 unfolding timeNumber check TimeTooLarge TimeOfZero Within
 positive-decided number most = go (leb number most) refl (leb 1 number) refl
   where
     go : (b : Bool) → leb number most ≡ b → (a : Bool) → leb 1 number ≡ a
-        → OneDecided (check b timeTooLarge (check a timeOfZero 0)) (positiveTime number most)
+        → OneDecided (check b timeTooLarge (check a timeOfZero 0)) (value (positiveTime most) number)
     go false q a p = OneDecided.too-large refl (omega (arith, leb-false number most q))
     go true q false p = OneDecided.of-zero refl (omega (arith, leb-false 1 number p))
     go true q true p = OneDecided.within refl (record { at-least = omega (arith, leb-true 1 number p); at-most = omega (arith, leb-true number most q) })
 
 one-decided : (v : Value) → OneDecided (valueNumber v) v
-unfolding valueNumber
-one-decided (count least number most) = count-decided least number most
-one-decided (time number most) = time-decided number most
-one-decided (positiveTime number most) = positive-decided number most
+unfolding valueNumber Within
+one-decided (value (count least most) number) = count-decided least number most
+one-decided (value (time most) number) = time-decided number most
+one-decided (value (positiveTime most) number) = positive-decided number most
+one-decided (value noRange number) = OneDecided.within refl tt
 
 -- .. and what the values of a field give.
 pub data RangeDecided (given : ℕ) (values : List Value) : Type 0 where

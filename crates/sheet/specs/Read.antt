@@ -11,7 +11,8 @@ use Rattle.field.specs.declared.Field.the-variants.{End, Cut, Whole}
 use Rattle.sheet.specs.Refusals.{fieldCut, tagNotPermitted, lengthWrong, tooMany, noMembers, orderNotProper, orderMissing}
 use Rattle.sheet.specs.Checks.{sectionFilled, orderGiven, fewBlocks, permitted, rangeNumber, hasRoom, orderProper}
 use Rattle.sheet.specs.Sections.{stripsOfDesk}
-use Rattle.sheet.specs.FieldTable.{lengthDue, valuesOf}
+use Rattle.sheet.specs.Among.{isAmong}
+use Rattle.sheet.specs.FieldTable.{tableOf, lengthsDue, fieldValues}
 use Rattle.sheet.specs.Rows.{firstFailure}
 use Rattle.field.specs.Bytes.{numberAt}
 use Rattle.sheet.specs.Decode.{noMosaic, noSorting, noFlight, nextReading, startReading}
@@ -21,8 +22,8 @@ use Rattle.sheet.specs.declared.Sheet.{Sheet}
 -- the checks of a field of a permitted tag for its content: "5, 6, 7, 9", 15 and 16 "in the place of 6"
 unfoldable pub contentChecks : List ℕ → Reading → ℕ → ℕ → List ℕ
 contentChecks s st tag len =
-    check (eqb len (lengthDue tag (st .mosaic .stations))) lengthWrong 0
-    ∷ rangeNumber (valuesOf s (st .at + 3) tag len (st .sorting .desks))
+    check (isAmong len (lengthsDue tag (tableOf st))) lengthWrong 0
+    ∷ rangeNumber (fieldValues s (st .at + 3) tag len (tableOf st))
     ∷ check (hasRoom tag (st .members) (stripsOfDesk (st .sorting .counts) (numberAt s (st .at + 3) 1))) tooMany 0
     ∷ check (orderProper tag (st .members) (numberAt s (st .at + 3) 8)) orderNotProper 0
     ∷ []

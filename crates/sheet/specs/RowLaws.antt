@@ -9,6 +9,7 @@ use native.Mathlib.Decide.{decLt}
 use lib.Dec.{T, ltb, eqb, lit<}
 use borrow.Author.Tests.{eq-eqb}
 use Rattle.base.specs.Branch.{check}
+use Rattle.sheet.specs.Among.{isAmong, neither}
 use Rattle.sheet.specs.Rows.{Row, row, rowAt, Fails, NoCause, firstFailure}
 
 -- what a check gives: the number where the cause lies, 0 where it does not
@@ -143,14 +144,6 @@ module _ (rows : List Row) (place : ℕ → ℕ) (answer : ℕ) where
 unfoldable pub numbersOf : List Row → List ℕ
 numbersOf [] = []
 numbersOf (r ∷ rows) = r .number ∷ numbersOf rows
-
-unfoldable pub isAmong : ℕ → List ℕ → Bool
-isAmong n [] = false
-isAmong n (m ∷ numbers) = eqb m n || isAmong n numbers
-
-pub neither : (a b : Bool) → (a || b) ≡ false → (a ≡ false) × (b ≡ false)
-neither true b e = absurd (true≢false e)
-neither false b e = (refl, e)
 
 not-among : (rows : List Row) (n k : ℕ) → isAmong n (numbersOf rows) ≡ false → rowAt rows k .cause → rowAt rows k .number ≡ n → ⊥
 unfolding rowAt numbersOf isAmong

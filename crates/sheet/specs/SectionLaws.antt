@@ -1,8 +1,8 @@
 -- Each section stays sound as a field that passes its checks is added.
 use Prim.Native.Nat.{ℕ, zero, suc, _+_, _-_, _*_, _≤_, _<_}
-use mathlib.Core.Path.{_≡_, refl, sym, _∙_}
+use mathlib.Core.Path.{_≡_, refl, sym, subst, _∙_}
 use mathlib.Core.Bool.{true, false}
-use mathlib.Core.List.{List}
+use mathlib.Core.List.{List, [], _∷_}
 use native.Mathlib.Decide.{ℕ-discrete}
 use native.Mathlib.Omega.{arith}
 use lib.ListN.{length, getD, set, length-set}
@@ -10,7 +10,10 @@ use Rattle.field.specs.Bytes.{numberAt}
 use Rattle.order.specs.Order.{Proper}
 use Rattle.sheet.specs.Limits.{mostStations, mostDesks, mostTime, mostStrips, mostStripsOfDesk, mostBlocks}
 use Rattle.sheet.specs.Sections.{stripsOfDesk}
-use Rattle.sheet.specs.FieldTable.{mosaicHeadValues, mosaicStripValues, sortingHeadValues, sortingStripValues, flightBlockValues, Between, Within, InRange}
+use Rattle.sheet.specs.FieldTable.{mosaicHead, sortingHead, sortingStrip, flightBlock, valuesOf, Between, Within, InRange}
+use Rattle.sheet.specs.FieldTable.Range.{time}
+use Rattle.sheet.specs.FieldTable.Value.{value}
+use Rattle.sheet.specs.Contents.{stripFrom, strip-bench-left, strip-time-left}
 use Rattle.sheet.specs.Decode.{zeros, noMosaic, noSorting, noFlight, withMosaicHead, withStationTimes, withMosaicStrip, withSortingHead, withStripAt}
 use Rattle.sheet.specs.Decode.{withSortingStrip, withBlock, withOrder}
 use Rattle.sheet.specs.Sound.{MosaicSound, SortingSound, FlightWithin, stripsInAll}
@@ -43,8 +46,8 @@ pub no-mosaic-sound : MosaicSound noMosaic
 unfolding noMosaic
 no-mosaic-sound = mosaic-begun 0 0 (omega arith) (omega arith)
 
-pub mosaic-head-sound : (s : List ℕ) (c : ℕ) → InRange (mosaicHeadValues (numberAt s c 1) (numberAt s (c + 1) 2)) → MosaicSound (withMosaicHead s c)
-unfolding mosaicHeadValues withMosaicHead Within
+pub mosaic-head-sound : (s : List ℕ) (c : ℕ) → InRange (valuesOf mosaicHead (numberAt s c 1 ∷ numberAt s (c + 1) 2 ∷ [])) → MosaicSound (withMosaicHead s c)
+unfolding mosaicHead valuesOf withMosaicHead Within
 mosaic-head-sound s c r = mosaic-begun _ _ (first-within _ _ r .at-most) (first-within _ _ (others-within _ _ r) .at-most)
 
 module _ (s : List ℕ) (c base : ℕ) (times : List ℕ) where
@@ -63,24 +66,27 @@ module _ (s : List ℕ) (c base : ℕ) (times : List ℕ) where
 
 -- the values of a strip from station k on, of which there are n: the station times, and the bench time behind them
 module _ (s : List ℕ) (c : ℕ) where
-  strip-time : (n k : ℕ) → InRange (mosaicStripValues s c k n) → (j : ℕ) → k ≤ j → j < k + n → numberAt s (c + 2 * j) 2 ≤ mostTime
-  unfolding mosaicStripValues Within
-  strip-time zero k r j h l = absurd (omega arith)
-  strip-time (suc n) k r j h l = here (strip-time n (k + 1) (others-within _ _ r) j) (ℕ-discrete j k)
+  strip-time : (n k : ℕ) → InRange (stripFrom s c k n) → (j : ℕ) → k ≤ j → j < k + n → numberAt s (c + 2 * j) 2 ≤ mostTime
+  unfolding Within
+  strip-time zero k q j h l = absurd (omega arith)
+  strip-time (suc n) k q j h l =
+      let r = subst InRange (strip-time-left s c k n) q in
+      here r (strip-time n (k + 1) (others-within _ _ r) j) (ℕ-discrete j k)
     where
-      here : (k + 1 ≤ j → j < k + 1 + n → numberAt s (c + 2 * j) 2 ≤ mostTime) → Dec (j ≡ k) → numberAt s (c + 2 * j) 2 ≤ mostTime
-      here later (yes e) = rw e (first-within _ _ r .at-most)
-      here later (no e) = later (omega arith) (omega arith)
+      here : InRange (value (time mostTime) (numberAt s (c + 2 * k) 2) ∷ stripFrom s c (k + 1) n)
+          → (k + 1 ≤ j → j < k + 1 + n → numberAt s (c + 2 * j) 2 ≤ mostTime) → Dec (j ≡ k) → numberAt s (c + 2 * j) 2 ≤ mostTime
+      here r later (yes e) = rw e (first-within _ _ r .at-most)
+      here r later (no e) = later (omega arith) (omega arith)
 
-  strip-bench : (n k b : ℕ) → k + n ≡ b → InRange (mosaicStripValues s c k n) → Between 1 (numberAt s (c + 2 * b) 2) mostTime
-  unfolding mosaicStripValues Within
-  strip-bench zero k b e r = rw (bench-at e) (first-within _ _ r)
+  strip-bench : (n k b : ℕ) → k + n ≡ b → InRange (stripFrom s c k n) → Between 1 (numberAt s (c + 2 * b) 2) mostTime
+  unfolding Within
+  strip-bench zero k b e r = rw (bench-at e) (first-within _ _ (subst InRange (strip-bench-left s c k) r))
     where
       bench-at : k + 0 ≡ b → b ≡ k
       bench-at e = omega arith
-  strip-bench (suc n) k b e r = strip-bench n (k + 1) b (omega arith) (others-within _ _ r)
+  strip-bench (suc n) k b e r = strip-bench n (k + 1) b (omega arith) (others-within _ _ (subst InRange (strip-time-left s c k n) r))
 
-pub mosaic-strip-sound : (s : List ℕ) (c : ℕ) (m : MosaicSection) → MosaicSound m → m .strips < mostStrips → InRange (mosaicStripValues s c 0 (m .stations))
+pub mosaic-strip-sound : (s : List ℕ) (c : ℕ) (m : MosaicSection) → MosaicSound m → m .strips < mostStrips → InRange (stripFrom s c 0 (m .stations))
     → MosaicSound (withMosaicStrip s c m)
 unfolding withMosaicStrip
 mosaic-strip-sound s c m h room r =
@@ -119,8 +125,8 @@ pub no-sorting-sound : SortingSound noSorting
 unfolding noSorting
 no-sorting-sound = sorting-begun 0 (omega arith)
 
-pub sorting-head-sound : (s : List ℕ) (c : ℕ) → InRange (sortingHeadValues (numberAt s c 1)) → SortingSound (withSortingHead s c)
-unfolding sortingHeadValues withSortingHead Within
+pub sorting-head-sound : (s : List ℕ) (c : ℕ) → InRange (valuesOf sortingHead (numberAt s c 1 ∷ [])) → SortingSound (withSortingHead s c)
+unfolding sortingHead valuesOf withSortingHead Within
 sorting-head-sound s c r = sorting-begun _ (first-within _ _ r .at-most)
 
 -- strip k of desk d is stored with a time at 6 d + k: every strip of every desk has a time of 1 or more
@@ -167,9 +173,9 @@ strip-at-sound s c t d k h hd here room b₁ b₂ =
     }
 
 pub sorting-strip-sound : (s : List ℕ) (c : ℕ) (t : SortingSection) → SortingSound t
-    → InRange (sortingStripValues (t .desks) (numberAt s c 1) (numberAt s (c + 1) 2) (numberAt s (c + 3) 2))
+    → InRange (valuesOf (sortingStrip (t .desks)) (numberAt s c 1 ∷ numberAt s (c + 1) 2 ∷ numberAt s (c + 3) 2 ∷ []))
     → stripsOfDesk (t .counts) (numberAt s c 1) < mostStripsOfDesk → SortingSound (withSortingStrip s c t)
-unfolding sortingStripValues withSortingStrip stripsOfDesk Within
+unfolding sortingStrip valuesOf withSortingStrip stripsOfDesk Within
 sorting-strip-sound s c t h r room =
     let b = first-within _ _ r in
     let times = others-within _ _ r in
@@ -189,9 +195,9 @@ desk-cases l (suc (suc zero)) k long h e =
 desk-cases l (suc (suc (suc d))) k long h e = absurd (omega arith)
 
 pub sorting-strip-more : (s : List ℕ) (c : ℕ) (t : SortingSection) → SortingSound t
-    → InRange (sortingStripValues (t .desks) (numberAt s c 1) (numberAt s (c + 1) 2) (numberAt s (c + 3) 2))
+    → InRange (valuesOf (sortingStrip (t .desks)) (numberAt s c 1 ∷ numberAt s (c + 1) 2 ∷ numberAt s (c + 3) 2 ∷ []))
     → stripsInAll (withSortingStrip s c t) ≡ stripsInAll t + 1
-unfolding sortingStripValues withSortingStrip withStripAt stripsOfDesk stripsInAll Within
+unfolding sortingStrip valuesOf withSortingStrip withStripAt stripsOfDesk stripsInAll Within
 sorting-strip-more s c t h r =
     let b = first-within _ _ r in
     let lo : 1 ≤ numberAt s c 1 = b .at-least in
@@ -222,8 +228,8 @@ no-flight-sound =
     differ q = let z : _≡_ {A = ℕ} 0 1 = cc in omega arith
 
 pub block-sound : (s : List ℕ) (c : ℕ) (f : FlightSection) → FlightWithin mostBlocks f → f .ordered ≡ false → f .blocks < mostBlocks
-    → InRange (flightBlockValues (numberAt s c 2) (numberAt s (c + 2) 2) (numberAt s (c + 4) 2)) → FlightWithin mostBlocks (withBlock s c f)
-unfolding flightBlockValues withBlock Within
+    → InRange (valuesOf flightBlock (numberAt s c 2 ∷ numberAt s (c + 2) 2 ∷ numberAt s (c + 4) 2 ∷ [])) → FlightWithin mostBlocks (withBlock s c f)
+unfolding flightBlock valuesOf withBlock Within
 block-sound s c f h plain room r =
     let a = first-within _ _ r in
     let l = first-within _ _ (others-within _ _ r) in

@@ -7,7 +7,8 @@ use mathlib.Core.List.{List}
 use Rattle.field.specs.Field.{fieldAt}
 use Rattle.field.specs.declared.Field.the-variants.{End, Whole}
 use Rattle.sheet.specs.Rows.{Fails, NoCause}
-use Rattle.sheet.specs.FieldTable.{lengthDue, Value, valuesOf}
+use Rattle.sheet.specs.Among.{Among}
+use Rattle.sheet.specs.FieldTable.{tableOf, lengthsDue, Value, fieldValues}
 use Rattle.sheet.specs.Causes.{NoMembers, OrderMissing, Permitted, FirstOut, fieldRows, endRows, rowsAt}
 use Rattle.sheet.specs.Decode.{nextReading, startReading}
 use Rattle.sheet.specs.declared.Reading.{Reading}
@@ -39,8 +40,8 @@ pub record RefusedForValue (s : List ℕ) (Out : Value → Type 0) (place : ℕ)
   pub some-members : NoMembers tag (reading .section) (reading .members) → ⊥
   pub order-given : OrderMissing tag (reading .section) (reading .members) → ⊥
   pub tag-permitted : Permitted tag (reading .section) (reading .members)
-  pub length-due : len ≡ lengthDue tag (reading .mosaic .stations)
-  pub first-out : FirstOut Out (valuesOf s (reading .at + 3) tag len (reading .sorting .desks))
+  pub length-due : Among len (lengthsDue tag (tableOf reading))
+  pub first-out : FirstOut Out (fieldValues s (reading .at + 3) tag len (tableOf reading))
   pub place-is : place ≡ reading .at
 
 -- a sheet is read to its end

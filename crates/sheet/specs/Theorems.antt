@@ -16,7 +16,8 @@ use Rattle.sheet.specs.Limits.{mostBlocksWithoutOrder}
 use Rattle.sheet.specs.Refusals.{fieldCut, orderImpossible}
 use Rattle.sheet.specs.Sections.{inFlight, afterOrder}
 use Rattle.sheet.specs.Rows.{rowAt, Fails, NoCause}
-use Rattle.sheet.specs.RowLaws.{answer-passes, passes-answer, answer-fails, fails-answer, numbersOf, isAmong, fails-other}
+use Rattle.sheet.specs.RowLaws.{answer-passes, passes-answer, answer-fails, fails-answer, numbersOf, fails-other}
+use Rattle.sheet.specs.Among.{isAmong}
 use Rattle.sheet.specs.Causes.{fieldRows, endRows, rowsAt}
 use Rattle.sheet.specs.Table.{Reached, Cause, Complete}
 use Rattle.sheet.specs.Table.Reached.{at-start, past-field}

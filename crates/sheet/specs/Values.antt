@@ -10,9 +10,10 @@ use Rattle.field.specs.Field.{fieldAt}
 use Rattle.field.specs.declared.Field.{Field}
 use Rattle.field.specs.declared.Field.the-variants.{End, Cut, Whole}
 use Rattle.sheet.specs.Refusals.{outOfRange, timeTooLarge, timeOfZero}
-use Rattle.sheet.specs.FieldTable.{lengthDue, Value, valuesOf}
+use Rattle.sheet.specs.FieldTable.{tableOf, lengthsDue, Value, fieldValues}
+use Rattle.sheet.specs.Among.{isAmong, among-else}
 use Rattle.sheet.specs.Rows.{Row, rowAt, Fails}
-use Rattle.sheet.specs.RowLaws.{passes-zero, answer-fails, numbersOf, isAmong, withoutRow, fails-other, fails-at, given-passes, given-fails}
+use Rattle.sheet.specs.RowLaws.{passes-zero, answer-fails, numbersOf, withoutRow, fails-other, fails-at, given-passes, given-fails}
 use Rattle.sheet.specs.Causes.{CountOutOfRange, TimeTooLarge, TimeOfZero, FirstOut, fieldRows, endRows, rowsAt}
 use Rattle.sheet.specs.Checks.{valueNumber}
 use Rattle.sheet.specs.Read.{contentChecks, fieldChecks, fieldNumber, placeOf}
@@ -20,7 +21,7 @@ use Rattle.sheet.specs.Table.{RefusedFor, RefusedForValue}
 use Rattle.sheet.specs.Ranges.{count-number, too-large-number, zero-number, first-out-number}
 use Rattle.sheet.specs.Decided.{members-given, order-given, permitted-given, length-given, field-answers}
 use Rattle.sheet.specs.Theorems.{at-field}
-use Rattle.sheet.specs.Passed.{permitted-else, length-else}
+use Rattle.sheet.specs.Passed.{permitted-else}
 use Rattle.sheet.specs.declared.Reading.{Reading}
 
 -- where the first value that is not within its range is out of it in this way, the number is given, with the field's place ..
@@ -33,7 +34,7 @@ module _ (Out : Value → Type 0) (number : ℕ) (gives : (v : Value) → Out v 
       given-passes _ _ _ _ refl (passes-zero _ _ _ (members-given (f .tag) (st .section) (st .members)) (f .some-members))
       (given-passes _ _ _ _ refl (passes-zero _ _ _ (order-given (f .tag) (st .section) (st .members)) (f .order-given))
       (given-passes _ _ _ _ refl (passes-zero _ _ _ (permitted-given (f .tag) (st .section) (st .members)) (λ n. n (f .tag-permitted)))
-      (given-passes _ _ _ _ refl (passes-zero _ _ _ (length-given (f .len) (lengthDue (f .tag) (st .mosaic .stations))) (λ n. n (f .length-due)))
+      (given-passes _ _ _ _ refl (passes-zero _ _ _ (length-given (f .len) (lengthsDue (f .tag) (tableOf st))) (λ n. n (f .length-due)))
       (given-fails _ number _ (sym (first-out-number Out number some gives _ (f .first-out))) (λ z. omega arith)))))
 
   value-refused : RefusedFor s number place
@@ -60,7 +61,7 @@ module _ (Out : Value → Type 0) (number k : ℕ) (behind : 4 < k) (s : List �
     (not-cut : (st : Reading) → isAmong number (numbersOf (rowsAt s st Cut)) ≡ false)
     (alone : (st : Reading) (tag len : ℕ) → isAmong number (numbersOf (withoutRow k (fieldRows s st tag len))) ≡ false)
     (place-of : (st : Reading) (tag len : ℕ) → rowAt (fieldRows s st tag len) k .place ≡ st .at)
-    (cause-of : (st : Reading) (tag len : ℕ) → rowAt (fieldRows s st tag len) k .cause → FirstOut Out (valuesOf s (st .at + 3) tag len (st .sorting .desks))) where
+    (cause-of : (st : Reading) (tag len : ℕ) → rowAt (fieldRows s st tag len) k .cause → FirstOut Out (fieldValues s (st .at + 3) tag len (tableOf st))) where
   refused-value : RefusedFor s number place → RefusedForValue s Out place
   unfolding rowsAt fieldRows rowAt
   refused-value r = go (fieldAt s (r .reading .at)) refl (r .cause)
@@ -80,7 +81,7 @@ module _ (Out : Value → Type 0) (number k : ℕ) (behind : 4 < k) (s : List �
             some-members = c .before 1 (omega arith);
             order-given = c .before 2 (omega arith);
             tag-permitted = permitted-else tag (st .section) (st .members) (c .before 3 (omega arith));
-            length-due = length-else len _ (c .before 4 (omega arith));
+            length-due = among-else len _ (c .before 4 (omega arith));
             first-out = cause-of st tag len (subst (λ j. rowAt (fieldRows s st tag len) j .cause) at-k (c .cause));
             place-is = omega (arith, c .place-is, ap (λ j. rowAt (fieldRows s st tag len) j .place) at-k, place-of st tag len);
           }

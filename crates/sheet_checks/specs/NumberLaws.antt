@@ -2,18 +2,31 @@
 -- No law speaks of the rows before its own; those of numbers that a callee gives are crate sheet's (RowLaws.antt).
 use Prim.{tt}
 use Prim.Native.Nat.{ℕ}
-use mathlib.Core.Path.{_≡_, sym, _∙_}
+use mathlib.Core.Path.{_≡_, sym, ap, _∙_}
 use mathlib.Core.Bool.{Bool, true, false, not}
 use mathlib.Core.List.{List, _∷_}
-use lib.Dec.{T, ltb, eqb}
-use borrow.Author.Tests.{eq-eqb, ne-eqb, not-true, not-false}
+use lib.Dec.{T, ltb}
+use borrow.Author.Tests.{not-true, not-false}
 use Rattle.base.specs.Branch.{check}
 use Rattle.field.specs.Bytes.{numberAt, NumberRead}
 use Rattle.sheet.specs.Refusals.{lengthWrong, tooMany, orderNotProper}
 use Rattle.sheet.specs.Sections.{stripsOfDesk}
+use Rattle.sheet.specs.Among.{Among, isAmong, true-among}
+use Rattle.sheet.specs.FieldTable.{fieldTable, lengthsDue}
 use Rattle.sheet.specs.Checks.{hasRoom, orderProper}
 use Rattle.sheet.specs.Rows.{firstFailure}
 use Rattle.sheet.specs.RowLaws.{given-fails, given-passes, test-fails, test-passes}
+use Rattle.sheet_checks.specs.Lengths.{lengthsGiven}
+use Rattle.sheet_checks.specs.declared.lengths.LengthDue.{LengthDue}
+
+-- a length that is compared with the one that is due is compared with those of the table
+module _ (len tag stations desks : ℕ) (due : LengthDue) (x : Bool)
+    (d : (desks : ℕ) → lengthsGiven due ≡ lengthsDue tag (fieldTable stations desks)) (e : x ≡ isAmong len (lengthsGiven due)) where
+  tested : (b : Bool) → x ≡ b → isAmong len (lengthsDue tag (fieldTable stations desks)) ≡ b
+  tested b h = ap (isAmong len) (sym (d desks)) ∙ sym e ∙ h
+
+  pub length-among : not x ≡ false → Among len (lengthsDue tag (fieldTable stations desks))
+  length-among h = true-among len _ (tested true (not-false x h))
 
 module _ (checks : List ℕ) where
   -- a test that a callee answers
@@ -25,12 +38,14 @@ module _ (checks : List ℕ) where
     answer-passes number r h p = test-passes checks b number r (sym e ∙ not-false x h) p
 
   -- the length, by the one that is due
-  module _ (len due is : ℕ) (e : due ≡ is) where
-    pub length-fails : (len ≡ due → ⊥) → lengthWrong ≡ firstFailure (check (eqb len is) lengthWrong 0 ∷ checks)
-    length-fails h = test-fails checks (eqb len is) lengthWrong tt (ne-eqb len is (λ p. h (p ∙ sym e)))
+  module _ (len tag stations desks : ℕ) (due : LengthDue) (x : Bool)
+      (d : (desks : ℕ) → lengthsGiven due ≡ lengthsDue tag (fieldTable stations desks)) (e : x ≡ isAmong len (lengthsGiven due)) where
+    pub length-fails : not x ≡ true → lengthWrong ≡ firstFailure (check (isAmong len (lengthsDue tag (fieldTable stations desks))) lengthWrong 0 ∷ checks)
+    length-fails h = test-fails checks _ lengthWrong tt (tested len tag stations desks due x d e false (not-true x h))
 
-    pub length-passes : (r : ℕ) → len ≡ due → r ≡ firstFailure checks → r ≡ firstFailure (check (eqb len is) lengthWrong 0 ∷ checks)
-    length-passes r h p = test-passes checks (eqb len is) lengthWrong r (eq-eqb len is (h ∙ e)) p
+    pub length-passes : (r : ℕ) → not x ≡ false → r ≡ firstFailure checks
+        → r ≡ firstFailure (check (isAmong len (lengthsDue tag (fieldTable stations desks))) lengthWrong 0 ∷ checks)
+    length-passes r h p = test-passes checks _ lengthWrong r (tested len tag stations desks due x d e true (not-false x h)) p
 
   -- the room for one member more, by the desk that was read
   module _ (s : List ℕ) (c tag members : ℕ) (counts : List ℕ) (desk n : ℕ) (y : Bool)

@@ -1,6 +1,11 @@
 // What each field of a sheet is checked for: one function a check, and the chain of them in 01's order.
+
+pub mod lengths;
+
 use field::byte;
 use field::number;
+use lengths::is_due;
+use lengths::length_due;
 use sheet::Reading;
 use sheet::desks::strips_of_desk;
 use sheet::limits::MOST_BLOCKS;
@@ -26,8 +31,6 @@ use sheet::tags::SORTING_HEAD;
 use sheet::tags::SORTING_STRIP;
 use sheet_ranges::range_number;
 ghost use mathlib.Core.Path.{_≡_};
-ghost use Prim.Native.Nat.{_≤_};
-ghost use Rattle.sheet.specs.FieldTable.{lengthDue};
 ghost use Rattle.sheet.specs.Rows.{firstFailure};
 ghost use Rattle.sheet.specs.Checks.{endsSection, sectionFilled, fewBlocks, orderGiven, orderPermitted, permitted, hasRoom, orderProper};
 ghost use Rattle.sheet.specs.Read.{contentChecks, fieldNumber, endNumber, placeOf};
@@ -89,21 +92,6 @@ fn is_permitted(tag: u8, section: u64, members: usize) -> bool
     }
 }
 
-fn length_due(tag: u8, stations: usize) -> usize
-    requires { ⌜ stations ≤ 4 ⌝ }
-    ensures { λ r. ⌜ r ≡ lengthDue tag stations ⌝ }
-{
-    match tag {
-        MOSAIC_HEAD => 3,
-        MOSAIC_STRIP => 2 * stations + 2,
-        SORTING_HEAD => 1,
-        SORTING_STRIP => 5,
-        FLIGHT_HEAD => 0,
-        FLIGHT_BLOCK => 6,
-        _ => 8,
-    }
-}
-
 fn has_room(tag: u8, members: usize, of_desk: usize) -> bool
     ensures { λ r. ⌜ r ≡ hasRoom tag members «of_desk» ⌝ }
 {
@@ -134,10 +122,10 @@ fn content_number(s: &[u8], st: Reading, tag: u8, length: usize) -> u64
     let desks = st.sorting.desks;
     let counts = st.sorting.counts;
     let members = st.members;
-    if length != length_due(tag, stations) {
+    if !is_due(length, length_due(tag, stations)) {
         return LENGTH_WRONG;
     }
-    let range = range_number(s, content, tag, length, desks);
+    let range = range_number(s, content, tag, length, stations, desks);
     if range != 0 {
         return range;
     }

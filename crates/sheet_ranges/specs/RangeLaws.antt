@@ -1,18 +1,24 @@
 -- Laws of the ranges: how one value after another decides the number, in a loop over the station times too, and that values read from the sheet are the ones
 -- that the field table names.
 use Prim.Native.Nat.{ℕ, suc, _+_, _-_, _*_, _≤_, _<_}
-use mathlib.Core.Path.{_≡_, refl, sym, ap, _∙_}
+use mathlib.Core.Path.{_≡_, refl, sym, ap, subst, _∙_}
 use mathlib.Core.List.{List, [], _∷_}
 use native.Mathlib.Omega.{arith}
-use borrow.Author.Tests.{le-leb, lt-leb, ne-eqb}
+use native.Mathlib.Decide.{ℕ-discrete}
+use borrow.Author.Tests.{le-leb, lt-leb}
 use Rattle.base.specs.Branch.{check}
 use Rattle.field.specs.Bytes.{numberAt, NumberRead}
 use Rattle.sheet.specs.Limits.{mostTime}
 use Rattle.sheet.specs.Refusals.{outOfRange, timeTooLarge, timeOfZero}
-use Rattle.sheet.specs.Tags.{mosaicHeadTag, mosaicStripTag, sortingHeadTag, sortingStripTag, flightBlockTag}
-use Rattle.sheet.specs.FieldTable.{Value, mosaicHeadValues, mosaicStripValues, stationTimes, sortingHeadValues, sortingStripValues, flightBlockValues}
-use Rattle.sheet.specs.FieldTable.{valuesOf}
-use Rattle.sheet.specs.FieldTable.Value.{time, positiveTime}
+use Rattle.sheet.specs.Tags.{mosaicHeadTag, mosaicStripTag, sortingHeadTag, sortingStripTag, flightHeadTag, flightBlockTag, flightOrderTag}
+use Rattle.sheet.specs.Among.{Among}
+use Rattle.sheet.specs.FieldTable.{mosaicHead, sortingHead, sortingStrip, flightBlock, flightOrder, fieldTable, contentsOf, lengthsOf, lengthsDue}
+use Rattle.sheet.specs.FieldTable.{Value, valuesOf, fieldValues}
+use Rattle.sheet.specs.FieldTable.Range.{time}
+use Rattle.sheet.specs.FieldTable.Value.{value}
+use Rattle.sheet.specs.Contents.{stripFrom, strip-time-left, strip-bench-left, mosaic-head-values, mosaic-strip-values, sorting-head-values}
+use Rattle.sheet.specs.Contents.{sorting-strip-values, flight-head-values, flight-block-values, flight-order-values, no-content}
+use Rattle.sheet_ranges.specs.RangePre.{RangePre}
 use Rattle.sheet.specs.Rows.{firstFailure}
 use Rattle.sheet.specs.RowLaws.{given-fails, given-passes, given-last}
 use Rattle.sheet.specs.Checks.{countNumber, timeNumber, valueNumber, valueNumbers, rangeNumber}
@@ -58,39 +64,30 @@ unfolding rangeNumber valueNumbers
 value-last v r e = given-last r _ e
 
 -- the first k station times of a strip pass: those from k on decide
-pub record TimesPassed (s : List ℕ) (c len k : ℕ) : Type 0 where
-  pub within : 2 * k ≤ len
-  pub left : rangeNumber (mosaicStripValues s c 0 (stationTimes len)) ≡ rangeNumber (mosaicStripValues s c k (stationTimes len - k))
+pub record TimesPassed (s : List ℕ) (c stations k : ℕ) : Type 0 where
+  pub within : k ≤ stations
+  pub left : rangeNumber (stripFrom s c 0 stations) ≡ rangeNumber (stripFrom s c k (stations - k))
 
-pub times-none : (s : List ℕ) (c len : ℕ) → TimesPassed s c len 0
-times-none s c len = record { within = omega arith; left = ap (λ n. rangeNumber (mosaicStripValues s c 0 n)) (omega arith) }
+pub times-none : (s : List ℕ) (c stations : ℕ) → TimesPassed s c stations 0
+times-none s c stations = record { within = omega arith; left = ap (λ n. rangeNumber (stripFrom s c 0 n)) (omega arith) }
 
-values-suc : (s : List ℕ) (c k n : ℕ) → mosaicStripValues s c k (suc n) ≡ time (numberAt s (c + 2 * k) 2) mostTime ∷ mosaicStripValues s c (k + 1) n
-unfolding mosaicStripValues
-values-suc s c k n = refl
-
-values-none : (s : List ℕ) (c k : ℕ) → mosaicStripValues s c k 0 ≡ positiveTime (numberAt s (c + 2 * k) 2) mostTime ∷ []
-unfolding mosaicStripValues
-values-none s c k = refl
-
-module _ (s : List ℕ) (c len k : ℕ) (t : TimesPassed s c len k) where
-  module _ (more : 2 * k + 2 < len) (x n : ℕ) (r : NumberRead s (c + 2 * k) 2 x) (e : n ≡ timeNumber 0 x mostTime) where
-    some-left : stationTimes len - k ≡ suc (stationTimes len - (k + 1))
-    unfolding stationTimes
+module _ (s : List ℕ) (c stations k : ℕ) (t : TimesPassed s c stations k) where
+  module _ (more : k < stations) (x n : ℕ) (r : NumberRead s (c + 2 * k) 2 x) (e : n ≡ timeNumber 0 x mostTime) where
+    some-left : stations - k ≡ suc (stations - (k + 1))
     some-left = omega arith
 
-    next : rangeNumber (mosaicStripValues s c 0 (stationTimes len))
-        ≡ rangeNumber (time (numberAt s (c + 2 * k) 2) mostTime ∷ mosaicStripValues s c (k + 1) (stationTimes len - (k + 1)))
-    next = t .left ∙ ap (λ j. rangeNumber (mosaicStripValues s c k j)) some-left ∙ ap rangeNumber (values-suc s c k _)
+    next : rangeNumber (stripFrom s c 0 stations)
+        ≡ rangeNumber (value (time mostTime) (numberAt s (c + 2 * k) 2) ∷ stripFrom s c (k + 1) (stations - (k + 1)))
+    next = t .left ∙ ap (λ j. rangeNumber (stripFrom s c k j)) some-left ∙ ap rangeNumber (strip-time-left s c k _)
 
     read : n ≡ timeNumber 0 (numberAt s (c + 2 * k) 2) mostTime
     read = e ∙ ap (λ x. timeNumber 0 x mostTime) (r .is)
 
-    pub times-wrong : (n ≡ 0 → ⊥) → n ≡ rangeNumber (mosaicStripValues s c 0 (stationTimes len))
+    pub times-wrong : (n ≡ 0 → ⊥) → n ≡ rangeNumber (stripFrom s c 0 stations)
     unfolding valueNumber
     times-wrong h = value-fails _ _ n read h ∙ sym next
 
-    pub times-more : n ≡ 0 → TimesPassed s c len (k + 1)
+    pub times-more : n ≡ 0 → TimesPassed s c stations (k + 1)
     unfolding valueNumber
     times-more z =
         record {
@@ -98,49 +95,68 @@ module _ (s : List ℕ) (c len k : ℕ) (t : TimesPassed s c len k) where
           left = next ∙ sym (value-passes _ _ n read _ z refl);
         }
 
-  all-passed : len ≤ 2 * k + 2 → stationTimes len - k ≡ 0
-  unfolding stationTimes
-  all-passed h = omega arith
-
-  pub times-bench : len ≤ 2 * k + 2 → (x r : ℕ) → NumberRead s (c + 2 * k) 2 x → r ≡ timeNumber 1 x mostTime
-      → r ≡ rangeNumber (mosaicStripValues s c 0 (stationTimes len))
+  pub times-bench : stations ≤ k → (x r : ℕ) → NumberRead s (c + 2 * k) 2 x → r ≡ timeNumber 1 x mostTime → r ≡ rangeNumber (stripFrom s c 0 stations)
   unfolding valueNumber
   times-bench h x r n e =
       value-last _ r (e ∙ ap (λ x. timeNumber 1 x mostTime) (n .is))
-      ∙ sym (t .left ∙ ap (λ j. rangeNumber (mosaicStripValues s c k j)) none-left ∙ ap rangeNumber (values-none s c k))
+      ∙ sym (t .left ∙ ap (λ j. rangeNumber (stripFrom s c k j)) none-left ∙ ap rangeNumber (strip-bench-left s c k))
     where
-      none-left : stationTimes len - k ≡ 0
-      none-left = all-passed h
+      none-left : stations - k ≡ 0
+      none-left = omega arith
+
+-- a flight head has no value, and the pass order no range
+empty-passes : 0 ≡ rangeNumber []
+unfolding rangeNumber valueNumbers firstFailure
+empty-passes = refl
+
+order-passes : (n : ℕ) → 0 ≡ rangeNumber (valuesOf flightOrder (n ∷ []))
+unfolding flightOrder valuesOf rangeNumber valueNumbers valueNumber firstFailure
+order-passes n = refl
 
 -- the values that a field is checked for are read from its content
-module _ (s : List ℕ) (c tag len desks r : ℕ) where
+module _ (s : List ℕ) (c tag len stations desks r : ℕ) (pre : RangePre c tag len stations desks) where
+  -- where the tag is known, by the values that its content has
+  of-tag : (t : ℕ) (values : List Value) → tag ≡ t
+      → (Among len (lengthsDue t (fieldTable stations desks)) → fieldValues s c t len (fieldTable stations desks) ≡ values)
+      → r ≡ rangeNumber values → r ≡ rangeNumber (fieldValues s c tag len (fieldTable stations desks))
+  of-tag t values e law h =
+      h ∙ sym (ap (λ x. rangeNumber (fieldValues s c x len (fieldTable stations desks))) e
+      ∙ ap rangeNumber (law (subst (λ x. Among len (lengthsDue x (fieldTable stations desks))) e (pre .due))))
+
   pub mosaic-head-read : tag ≡ mosaicHeadTag → (m mount : ℕ) → NumberRead s c 1 m → NumberRead s (c + 1) 2 mount
-      → r ≡ rangeNumber (mosaicHeadValues m mount) → r ≡ rangeNumber (valuesOf s c tag len desks)
-  unfolding valuesOf
-  mosaic-head-read e m mount n₁ n₂ h = rw (e, ← n₁ .is, ← n₂ .is) h
+      → r ≡ rangeNumber (valuesOf mosaicHead (m ∷ mount ∷ [])) → r ≡ rangeNumber (fieldValues s c tag len (fieldTable stations desks))
+  mosaic-head-read e m mount n₁ n₂ h = of-tag mosaicHeadTag _ e (mosaic-head-values s c len stations desks) (rw (← n₁ .is, ← n₂ .is) h)
 
-  pub mosaic-strip-read : tag ≡ mosaicStripTag → r ≡ rangeNumber (mosaicStripValues s c 0 (stationTimes len)) → r ≡ rangeNumber (valuesOf s c tag len desks)
-  unfolding valuesOf
-  mosaic-strip-read e h = rw e h
+  pub mosaic-strip-read : tag ≡ mosaicStripTag → r ≡ rangeNumber (stripFrom s c 0 stations)
+      → r ≡ rangeNumber (fieldValues s c tag len (fieldTable stations desks))
+  mosaic-strip-read e h = of-tag mosaicStripTag _ e (mosaic-strip-values s c len stations desks) h
 
-  pub sorting-head-read : tag ≡ sortingHeadTag → (m : ℕ) → NumberRead s c 1 m → r ≡ rangeNumber (sortingHeadValues m)
-      → r ≡ rangeNumber (valuesOf s c tag len desks)
-  unfolding valuesOf
-  sorting-head-read e m n h = rw (e, ← n .is) h
+  pub sorting-head-read : tag ≡ sortingHeadTag → (m : ℕ) → NumberRead s c 1 m → r ≡ rangeNumber (valuesOf sortingHead (m ∷ []))
+      → r ≡ rangeNumber (fieldValues s c tag len (fieldTable stations desks))
+  sorting-head-read e m n h = of-tag sortingHeadTag _ e (sorting-head-values s c len stations desks) (rw (← n .is) h)
 
   pub sorting-strip-read : tag ≡ sortingStripTag → (desk scan deskTime : ℕ) → NumberRead s c 1 desk → NumberRead s (c + 1) 2 scan → NumberRead s (c + 3) 2 deskTime
-      → r ≡ rangeNumber (sortingStripValues desks desk scan deskTime) → r ≡ rangeNumber (valuesOf s c tag len desks)
-  unfolding valuesOf
-  sorting-strip-read e desk scan deskTime n₁ n₂ n₃ h = rw (e, ← n₁ .is, ← n₂ .is, ← n₃ .is) h
+      → r ≡ rangeNumber (valuesOf (sortingStrip desks) (desk ∷ scan ∷ deskTime ∷ []))
+      → r ≡ rangeNumber (fieldValues s c tag len (fieldTable stations desks))
+  sorting-strip-read e desk scan deskTime n₁ n₂ n₃ h =
+      of-tag sortingStripTag _ e (sorting-strip-values s c len stations desks) (rw (← n₁ .is, ← n₂ .is, ← n₃ .is) h)
 
   pub flight-block-read : tag ≡ flightBlockTag → (a l b : ℕ) → NumberRead s c 2 a → NumberRead s (c + 2) 2 l → NumberRead s (c + 4) 2 b
-      → r ≡ rangeNumber (flightBlockValues a l b) → r ≡ rangeNumber (valuesOf s c tag len desks)
-  unfolding valuesOf
-  flight-block-read e a l b n₁ n₂ n₃ h = rw (e, ← n₁ .is, ← n₂ .is, ← n₃ .is) h
+      → r ≡ rangeNumber (valuesOf flightBlock (a ∷ l ∷ b ∷ [])) → r ≡ rangeNumber (fieldValues s c tag len (fieldTable stations desks))
+  flight-block-read e a l b n₁ n₂ n₃ h =
+      of-tag flightBlockTag _ e (flight-block-values s c len stations desks) (rw (← n₁ .is, ← n₂ .is, ← n₃ .is) h)
 
 -- a field of any other tag has no value with a range
-pub no-values-read : (s : List ℕ) (c tag len desks : ℕ)
-    → (tag ≡ mosaicHeadTag → ⊥) → (tag ≡ mosaicStripTag → ⊥) → (tag ≡ sortingHeadTag → ⊥) → (tag ≡ sortingStripTag → ⊥) → (tag ≡ flightBlockTag → ⊥)
-    → 0 ≡ rangeNumber (valuesOf s c tag len desks)
-unfolding valuesOf rangeNumber valueNumbers firstFailure
-no-values-read s c tag len desks h₁ h₂ h₃ h₄ h₅ = rw (ne-eqb _ _ h₁, ne-eqb _ _ h₂, ne-eqb _ _ h₃, ne-eqb _ _ h₄, ne-eqb _ _ h₅)
+module _ (s : List ℕ) (c tag len stations desks : ℕ) (pre : RangePre c tag len stations desks) where
+  none-due : contentsOf tag (fieldTable stations desks) ≡ [] → Among len (lengthsDue tag (fieldTable stations desks)) → ⊥
+  unfolding lengthsDue lengthsOf Among
+  none-due e a = rw e at a
+
+  pub no-values-read : (tag ≡ mosaicHeadTag → ⊥) → (tag ≡ mosaicStripTag → ⊥) → (tag ≡ sortingHeadTag → ⊥) → (tag ≡ sortingStripTag → ⊥)
+      → (tag ≡ flightBlockTag → ⊥) → 0 ≡ rangeNumber (fieldValues s c tag len (fieldTable stations desks))
+  no-values-read h₁ h₂ h₃ h₄ h₅ = go (ℕ-discrete tag flightHeadTag) (ℕ-discrete tag flightOrderTag)
+    where
+      go : Dec (tag ≡ flightHeadTag) → Dec (tag ≡ flightOrderTag) → 0 ≡ rangeNumber (fieldValues s c tag len (fieldTable stations desks))
+      go (yes e) d = of-tag s c tag len stations desks 0 pre flightHeadTag [] e (flight-head-values s c len stations desks) empty-passes
+      go (no n) (yes e) = of-tag s c tag len stations desks 0 pre flightOrderTag _ e (flight-order-values s c len stations desks) (order-passes _)
+      go (no n) (no m) = absurd (none-due (no-content stations desks tag h₁ h₂ h₃ h₄ n h₅ m) (pre .due))

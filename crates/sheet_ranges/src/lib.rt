@@ -14,9 +14,11 @@ use sheet::tags::MOSAIC_STRIP;
 use sheet::tags::SORTING_HEAD;
 use sheet::tags::SORTING_STRIP;
 ghost use mathlib.Core.Path.{_≡_};
-ghost use Prim.Native.Nat.{_+_, _<_, _^_};
-ghost use Rattle.sheet.specs.FieldTable.{mosaicHeadValues, mosaicStripValues, stationTimes, sortingHeadValues, sortingStripValues, flightBlockValues, valuesOf};
+ghost use mathlib.Core.List.{[], _∷_};
+ghost use Rattle.sheet.specs.FieldTable.{mosaicHead, sortingHead, sortingStrip, flightBlock, fieldTable, valuesOf, fieldValues};
+ghost use Rattle.sheet.specs.Contents.{stripFrom};
 ghost use Rattle.sheet.specs.Checks.{countNumber, timeNumber, rangeNumber};
+ghost use Rattle.sheet_ranges.specs.RangePre.{StripPre, RangePre};
 
 // The refusal number that a count gives: 6 where it is not from `least` to `most`, else 0.
 fn count_number(least: u64, value: u64, most: u64) -> u64
@@ -45,7 +47,7 @@ fn time_number(least: u64, time: u64, most: u64) -> u64
 }
 
 fn mosaic_head_number(stations: u64, mount: u64) -> u64
-    ensures { λ r. ⌜ r ≡ rangeNumber (mosaicHeadValues stations mount) ⌝ }
+    ensures { λ r. ⌜ r ≡ rangeNumber (valuesOf mosaicHead (stations ∷ mount ∷ [])) ⌝ }
 {
     let number = count_number(1, stations, MOST_STATIONS);
     if number != 0 {
@@ -54,13 +56,13 @@ fn mosaic_head_number(stations: u64, mount: u64) -> u64
     time_number(0, mount, MOST_TIME)
 }
 
-// A strip of a content length: its station times, and the bench time behind them.
-fn mosaic_strip_number(s: &[u8], c: usize, length: usize) -> u64
-    requires { ⌜ c + length < 2 ^ 63 ⌝ }
-    ensures { λ r. ⌜ r ≡ rangeNumber (mosaicStripValues (now (s .entry)) c 0 (stationTimes length)) ⌝ }
+// A strip: a time for each station, and the bench time behind them.
+fn mosaic_strip_number(s: &[u8], c: usize, stations: usize) -> u64
+    requires { ⌜ StripPre c stations ⌝ }
+    ensures { λ r. ⌜ r ≡ rangeNumber (stripFrom (now (s .entry)) c 0 stations) ⌝ }
 {
     let mut k: usize = 0;
-    while 2 * k + 2 < length {
+    while k < stations {
         let wrong = time_number(0, number(s, c + 2 * k, 2), MOST_TIME);
         if wrong != 0 {
             return wrong;
@@ -71,13 +73,13 @@ fn mosaic_strip_number(s: &[u8], c: usize, length: usize) -> u64
 }
 
 fn sorting_head_number(desks: u64) -> u64
-    ensures { λ r. ⌜ r ≡ rangeNumber (sortingHeadValues desks) ⌝ }
+    ensures { λ r. ⌜ r ≡ rangeNumber (valuesOf sortingHead (desks ∷ [])) ⌝ }
 {
     count_number(1, desks, MOST_DESKS)
 }
 
 fn sorting_strip_number(desks: u64, desk: u64, scan: u64, time: u64) -> u64
-    ensures { λ r. ⌜ r ≡ rangeNumber (sortingStripValues desks desk scan time) ⌝ }
+    ensures { λ r. ⌜ r ≡ rangeNumber (valuesOf (sortingStrip desks) (desk ∷ scan ∷ time ∷ [])) ⌝ }
 {
     let of_desk = count_number(1, desk, desks);
     if of_desk != 0 {
@@ -91,7 +93,7 @@ fn sorting_strip_number(desks: u64, desk: u64, scan: u64, time: u64) -> u64
 }
 
 fn flight_block_number(a: u64, l: u64, b: u64) -> u64
-    ensures { λ r. ⌜ r ≡ rangeNumber (flightBlockValues a l b) ⌝ }
+    ensures { λ r. ⌜ r ≡ rangeNumber (valuesOf flightBlock (a ∷ l ∷ b ∷ [])) ⌝ }
 {
     let of_first = time_number(1, a, MOST_TIME);
     if of_first != 0 {
@@ -104,14 +106,21 @@ fn flight_block_number(a: u64, l: u64, b: u64) -> u64
     time_number(1, b, MOST_TIME)
 }
 
-// The number that the content of a field gives, which begins at an offset and has a length; 0 where every value is in its range.
-pub fn range_number(s: &[u8], c: usize, tag: u8, length: usize, desks: usize) -> u64
-    requires { ⌜ c + length < 2 ^ 63 ⌝ }
-    ensures { λ r. ⌜ r ≡ rangeNumber (valuesOf (now (s .entry)) c tag length desks) ⌝ }
+// The number that the content of a field gives, which begins at an offset and has a length that is due for its tag; 0 where every value is in its range.
+pub fn range_number(
+    s: &[u8],
+    c: usize,
+    tag: u8,
+    length: usize,
+    stations: usize,
+    desks: usize,
+) -> u64
+    requires { ⌜ RangePre c tag length stations desks ⌝ }
+    ensures { λ r. ⌜ r ≡ rangeNumber (fieldValues (now (s .entry)) c tag length (fieldTable stations desks)) ⌝ }
 {
     match tag {
         MOSAIC_HEAD => mosaic_head_number(byte(s, c), number(s, c + 1, 2)),
-        MOSAIC_STRIP => mosaic_strip_number(s, c, length),
+        MOSAIC_STRIP => mosaic_strip_number(s, c, stations),
         SORTING_HEAD => sorting_head_number(byte(s, c)),
         SORTING_STRIP => sorting_strip_number(
             desks as u64,

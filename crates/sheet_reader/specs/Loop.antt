@@ -1,6 +1,6 @@
 -- What the reader's callees require holds at every step: a whole field lies within the sheet, and one that passes its checks has room.
 use Prim.Native.Nat.{ℕ, suc, _+_, _-_, _*_, _≤_, _<_, _^_}
-use mathlib.Core.Path.{_≡_, refl, sym, _∙_}
+use mathlib.Core.Path.{_≡_, refl, sym, subst, _∙_}
 use mathlib.Core.Bool.{Bool, true, false, cond, true≢false}
 use mathlib.Core.List.{List}
 use native.Mathlib.Omega.{arith}
@@ -15,14 +15,15 @@ use Rattle.field.specs.declared.Field.the-variants.{End, Cut, Whole}
 use Rattle.sheet.specs.Limits.{mostBlocks, mostDesks, mostStrips, mostStripsOfDesk}
 use Rattle.sheet.specs.Tags.{mosaicStripTag, sortingStripTag, flightBlockTag}
 use Rattle.sheet.specs.Sections.{inMosaic, inFlight, stripsOfDesk}
-use Rattle.sheet.specs.FieldTable.{sortingStripValues, valuesOf, Within}
+use Rattle.sheet.specs.FieldTable.{sortingStrip, valuesOf, Within}
+use Rattle.sheet.specs.Contents.{sorting-strip-values}
 use Rattle.sheet.specs.Causes.{TooMany}
 use Rattle.sheet.specs.Checks.{permitted}
 use Rattle.sheet.specs.Decode.{nextReading, startReading}
 use Rattle.sheet.specs.Read.{fieldNumber, endNumber, placeOf, refused, accepted, atEnd, readSheet}
 use Rattle.sheet.specs.Decided.{permitted-true}
 use Rattle.sheet.specs.Passed.{Passed, passes, first-within}
-use Rattle.sheet.specs.Invariant.{Kept, below}
+use Rattle.sheet.specs.Invariant.{Kept, below, within-by}
 use Rattle.sheet.specs.Progress.{Progress, progress-start, progress-end, progress-cut, progress-next, progress-refused, progress-less}
 use Rattle.sheet.specs.declared.Reading.{Reading}
 use Rattle.sheet.specs.declared.Sheet.{Sheet}
@@ -40,9 +41,10 @@ module _ (s : List ℕ) (st : Reading) (tag len : ℕ) (k : Kept s st) (w : st .
       omega (arith, k .in-mosaic h)
 
   desk-fits : tag ≡ sortingStripTag → numberAt s (st .at + 3) 1 ≤ mostDesks
-  unfolding valuesOf sortingStripValues Within
+  unfolding sortingStrip valuesOf Within
   desk-fits e =
-      let b : numberAt s (st .at + 3) 1 ≤ st .sorting .desks = first-within _ _ (rw e at (p .range-ok)) .at-most in
+      let q : Passed s st sortingStripTag len = subst (λ x. Passed s st x len) e p in
+      let b = first-within _ _ (within-by s st len k w q (sorting-strip-values s (st .at + 3) len _ _)) .at-most in
       let d = k .sorting .most-desks in
       omega arith
 

@@ -1,7 +1,7 @@
 -- `content_number` meets its contract: the first test that fails gives its number, in the order of the rows.
 use Rattle.sheet.specs.Read.{contentChecks}
 use Rattle.sheet.specs.Rows.{firstFailure}
-use Rattle.sheet_checks.specs.NumberLaws.{rows}
+use Rattle.sheet_checks.specs.NumberLaws.{rows, length-among}
 use borrow.Author.Needs.{needs}
 use Rattle.sheet_checks.proofs.content_number.Statement.{statement}
 use Rattle.sheet_checks.proofs.content_number.Tie as tie
@@ -12,12 +12,15 @@ add-content c = search needs
 length-due-requires : tie.Need-length-due-requires
 length-due-requires c κs = search needs
 
+is-due-requires : tie.Need-is-due-requires
+is-due-requires c κs = search needs
+
 returns : tie.Need-returns
 unfolding contentChecks
 returns c = search rows depth 14
 
 range-number-requires : tie.Need-range-number-requires
-range-number-requires c κs = search needs
+range-number-requires c κs = record { strip = search needs; due = search length-among }
 
 returns-2 : tie.Need-returns-2
 unfolding contentChecks
@@ -56,6 +59,7 @@ content-number-spec =
     (tie.spec
     add-content
     length-due-requires
+    is-due-requires
     returns
     range-number-requires
     returns-2

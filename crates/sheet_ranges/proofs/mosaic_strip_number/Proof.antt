@@ -6,19 +6,13 @@ use Rattle.sheet_ranges.proofs.mosaic_strip_number.Statement.{statement
 use Rattle.sheet_ranges.proofs.mosaic_strip_number.Tie as tie
 
 abbrev Inv-loop : tie.InvT-loop
-Inv-loop s c length k₀ k = TimesPassed s c length k
+Inv-loop s c stations k₀ k = TimesPassed s c stations k
 
 abbrev μ-loop : tie.MeasureT-loop
-μ-loop s c length k₀ k = length - k
+μ-loop s c stations k₀ k = stations - k
 
 loop-holds : tie.Need-loop-holds Inv-loop μ-loop
 loop-holds c = search times-none
-
-mul-loop : tie.Need-mul-loop Inv-loop μ-loop
-mul-loop c = search needs
-
-add-loop : tie.Need-add-loop Inv-loop μ-loop
-add-loop c = search needs
 
 mul-number : tie.Need-mul-number Inv-loop μ-loop
 mul-number c = search needs
@@ -66,8 +60,6 @@ mosaic-strip-number-spec =
     Inv-loop
     μ-loop
     loop-holds
-    mul-loop
-    add-loop
     mul-number
     add-number
     number-requires

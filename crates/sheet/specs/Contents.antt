@@ -1,0 +1,192 @@
+-- The field table by tag: the content that it has for each, and that a field of a length that is due has the values of that content.
+-- The idea: for a tag that is known the table computes, but for the row of a mosaic strip, which is there or not by the number of stations.
+use Prim.Native.Nat.{ℕ, zero, suc, _+_, _*_, _≤_}
+use mathlib.Core.Path.{_≡_, refl, sym, ap, subst, _∙_}
+use mathlib.Core.Bool.{Bool, true, false, cond, _&&_}
+use mathlib.Core.List.{List, [], _∷_, _++_}
+use mathlib.Core.Logic.{inl, inr}
+use native.Mathlib.Omega.{arith}
+use lib.Dec.{eqb, leb}
+use borrow.Author.Tests.{eq-eqb, ne-eqb, le-leb, leb-true}
+use Rattle.base.specs.Branch.{both}
+use Rattle.field.specs.Bytes.{numberAt}
+use Rattle.sheet.specs.Limits.{mostStations, mostTime}
+use Rattle.sheet.specs.Tags.{mosaicHeadTag, mosaicStripTag, sortingHeadTag, sortingStripTag, flightHeadTag, flightBlockTag, flightOrderTag}
+use Rattle.sheet.specs.Among.{Among}
+use Rattle.sheet.specs.FieldTable.{Item, FieldRow, fieldRow, mosaicHead, mosaicStrip, sortingHead, sortingStrip, flightHead, flightBlock, flightOrder}
+use Rattle.sheet.specs.FieldTable.{stripRows, fieldTable, lengthOf, contentsOf, lengthsOf, lengthsDue, ofLength, Value, numbersAt, valuesOf, fieldValues}
+use Rattle.sheet.specs.FieldTable.Range.{time, positiveTime}
+use Rattle.sheet.specs.FieldTable.Value.{value}
+
+-- the row of a strip bears on no other tag ..
+past-strip : (tag stations : ℕ) (rows : List FieldRow) → (tag ≡ mosaicStripTag → ⊥) → contentsOf tag (stripRows stations ++ rows) ≡ contentsOf tag rows
+unfolding stripRows contentsOf
+past-strip tag stations rows h = go (leb 1 stations && leb stations mostStations)
+  where
+    go : (b : Bool) → contentsOf tag (cond b (fieldRow mosaicStripTag (mosaicStrip stations) ∷ []) [] ++ rows) ≡ contentsOf tag rows
+    go true = rw (ne-eqb tag mosaicStripTag h)
+    go false = refl
+
+-- .. and is there for 1 to 4 stations
+at-strip : (stations : ℕ) (rows : List FieldRow) → 1 ≤ stations → stations ≤ mostStations
+    → contentsOf mosaicStripTag (stripRows stations ++ rows) ≡ mosaicStrip stations ∷ contentsOf mosaicStripTag rows
+unfolding stripRows contentsOf
+at-strip stations rows lo hi = rw (le-leb 1 stations lo, le-leb stations mostStations hi)
+
+no-strip : (stations : ℕ) (rows : List FieldRow) → (1 ≤ stations → stations ≤ mostStations → ⊥)
+    → contentsOf mosaicStripTag (stripRows stations ++ rows) ≡ contentsOf mosaicStripTag rows
+unfolding stripRows
+no-strip stations rows h = go (leb 1 stations && leb stations mostStations) refl
+  where
+    go : (b : Bool) → (leb 1 stations && leb stations mostStations) ≡ b
+        → contentsOf mosaicStripTag (cond b (fieldRow mosaicStripTag (mosaicStrip stations) ∷ []) [] ++ rows) ≡ contentsOf mosaicStripTag rows
+    go true e = let p = both _ _ e in absurd (h (leb-true 1 stations (p .0)) (leb-true stations mostStations (p .1)))
+    go false e = refl
+
+-- 2 bytes for each station and 2 for the bench
+pub strip-length : (stations : ℕ) → lengthOf (mosaicStrip stations) ≡ 2 * stations + 2
+unfolding mosaicStrip lengthOf
+strip-length zero = refl
+strip-length (suc m) = let h = strip-length m in omega arith
+
+-- the contents of each tag of the table
+module _ (stations desks : ℕ) where
+  pub mosaic-head-content : contentsOf mosaicHeadTag (fieldTable stations desks) ≡ mosaicHead ∷ []
+  unfolding fieldTable contentsOf
+  mosaic-head-content = ap (λ l. mosaicHead ∷ l) (past-strip mosaicHeadTag stations _ (λ e. omega arith))
+
+  pub mosaic-strip-content : 1 ≤ stations → stations ≤ mostStations → contentsOf mosaicStripTag (fieldTable stations desks) ≡ mosaicStrip stations ∷ []
+  unfolding fieldTable contentsOf
+  mosaic-strip-content lo hi = at-strip stations _ lo hi
+
+  pub no-strip-content : (1 ≤ stations → stations ≤ mostStations → ⊥) → contentsOf mosaicStripTag (fieldTable stations desks) ≡ []
+  unfolding fieldTable contentsOf
+  no-strip-content h = no-strip stations _ h
+
+  pub sorting-head-content : contentsOf sortingHeadTag (fieldTable stations desks) ≡ sortingHead ∷ []
+  unfolding fieldTable contentsOf
+  sorting-head-content = past-strip sortingHeadTag stations _ (λ e. omega arith)
+
+  pub sorting-strip-content : contentsOf sortingStripTag (fieldTable stations desks) ≡ sortingStrip desks ∷ []
+  unfolding fieldTable contentsOf
+  sorting-strip-content = past-strip sortingStripTag stations _ (λ e. omega arith)
+
+  pub flight-head-content : contentsOf flightHeadTag (fieldTable stations desks) ≡ flightHead ∷ []
+  unfolding fieldTable contentsOf
+  flight-head-content = past-strip flightHeadTag stations _ (λ e. omega arith)
+
+  pub flight-block-content : contentsOf flightBlockTag (fieldTable stations desks) ≡ flightBlock ∷ []
+  unfolding fieldTable contentsOf
+  flight-block-content = past-strip flightBlockTag stations _ (λ e. omega arith)
+
+  pub flight-order-content : contentsOf flightOrderTag (fieldTable stations desks) ≡ flightOrder ∷ []
+  unfolding fieldTable contentsOf
+  flight-order-content = past-strip flightOrderTag stations _ (λ e. omega arith)
+
+  -- a tag outside the table has none
+  pub no-content : (tag : ℕ) → (tag ≡ mosaicHeadTag → ⊥) → (tag ≡ mosaicStripTag → ⊥) → (tag ≡ sortingHeadTag → ⊥) → (tag ≡ sortingStripTag → ⊥)
+      → (tag ≡ flightHeadTag → ⊥) → (tag ≡ flightBlockTag → ⊥) → (tag ≡ flightOrderTag → ⊥) → contentsOf tag (fieldTable stations desks) ≡ []
+  unfolding fieldTable contentsOf
+  no-content tag h₁ h₂ h₃ h₄ h₅ h₆ h₇ =
+      rw (
+        ne-eqb tag mosaicHeadTag h₁,
+        past-strip tag stations _ h₂,
+        ne-eqb tag sortingHeadTag h₃,
+        ne-eqb tag sortingStripTag h₄,
+        ne-eqb tag flightHeadTag h₅,
+        ne-eqb tag flightBlockTag h₆,
+        ne-eqb tag flightOrderTag h₇,
+      )
+
+-- where a tag has one content, a field of a length that is due has the values of that content
+module _ (s : List ℕ) (c tag len : ℕ) (table : List FieldRow) (content : List Item) (one : contentsOf tag table ≡ content ∷ [])
+    (due : Among len (lengthsDue tag table)) where
+  sole-length : len ≡ lengthOf content
+  unfolding lengthsDue lengthsOf Among
+  sole-length = only (subst (λ contents. Among len (lengthsOf contents)) one due)
+    where
+      only : Among len (lengthOf content ∷ []) → len ≡ lengthOf content
+      only (inl e) = e
+      only (inr a) = absurd a
+
+  sole-values : fieldValues s c tag len table ≡ valuesOf content (numbersAt s c content)
+  unfolding fieldValues ofLength
+  sole-values = ap (λ items. valuesOf items (numbersAt s c items)) (ap (ofLength len) one ∙ found)
+    where
+      found : cond (eqb len (lengthOf content)) content [] ≡ content
+      found = rw (eq-eqb len (lengthOf content) sole-length)
+
+-- the values of a strip from station k on, of which n are left: the station times, and the bench time behind them
+unfoldable pub stripFrom : List ℕ → ℕ → ℕ → ℕ → List Value
+stripFrom s c k n = valuesOf (mosaicStrip n) (numbersAt s (c + 2 * k) (mosaicStrip n))
+
+module _ (s : List ℕ) (c k : ℕ) where
+  pub strip-bench-left : stripFrom s c k 0 ≡ value (positiveTime mostTime) (numberAt s (c + 2 * k) 2) ∷ []
+  unfolding stripFrom mosaicStrip numbersAt valuesOf
+  strip-bench-left = refl
+
+  pub strip-time-left : (n : ℕ) → stripFrom s c k (suc n) ≡ value (time mostTime) (numberAt s (c + 2 * k) 2) ∷ stripFrom s c (k + 1) n
+  unfolding stripFrom mosaicStrip numbersAt valuesOf
+  strip-time-left n =
+      ap (λ at. value (time mostTime) (numberAt s (c + 2 * k) 2) ∷ valuesOf (mosaicStrip n) (numbersAt s at (mosaicStrip n))) (omega arith)
+
+-- for any other number of stations no length of a strip is due
+no-strip-due : (len stations desks : ℕ) → (leb 1 stations && leb stations mostStations) ≡ false
+    → Among len (lengthsDue mosaicStripTag (fieldTable stations desks)) → ⊥
+unfolding lengthsDue fieldTable stripRows contentsOf lengthsOf Among
+no-strip-due len stations desks e a = rw e at a
+
+-- the values of a field by its tag
+module _ (s : List ℕ) (c len stations desks : ℕ) where
+  pub mosaic-head-values : Among len (lengthsDue mosaicHeadTag (fieldTable stations desks))
+      → fieldValues s c mosaicHeadTag len (fieldTable stations desks) ≡ valuesOf mosaicHead (numberAt s c 1 ∷ numberAt s (c + 1) 2 ∷ [])
+  unfolding mosaicHead numbersAt
+  mosaic-head-values due = sole-values s c mosaicHeadTag len _ mosaicHead (mosaic-head-content stations desks) due
+
+  pub mosaic-strip-values : Among len (lengthsDue mosaicStripTag (fieldTable stations desks))
+      → fieldValues s c mosaicStripTag len (fieldTable stations desks) ≡ stripFrom s c 0 stations
+  unfolding stripFrom
+  mosaic-strip-values due = go (leb 1 stations && leb stations mostStations) refl
+    where
+      from-start : (content : List Item) → valuesOf content (numbersAt s c content) ≡ valuesOf content (numbersAt s (c + 2 * 0) content)
+      from-start content = ap (λ at. valuesOf content (numbersAt s at content)) (omega arith)
+
+      go : (b : Bool) → (leb 1 stations && leb stations mostStations) ≡ b
+          → fieldValues s c mosaicStripTag len (fieldTable stations desks) ≡ stripFrom s c 0 stations
+      go true e =
+          let h = both _ _ e in
+          sole-values s c mosaicStripTag len _ (mosaicStrip stations)
+          (mosaic-strip-content stations desks (leb-true 1 stations (h .0)) (leb-true stations mostStations (h .1))) due
+          ∙ from-start (mosaicStrip stations)
+      go false e = absurd (no-strip-due len stations desks e due)
+
+  pub sorting-head-values : Among len (lengthsDue sortingHeadTag (fieldTable stations desks))
+      → fieldValues s c sortingHeadTag len (fieldTable stations desks) ≡ valuesOf sortingHead (numberAt s c 1 ∷ [])
+  unfolding sortingHead numbersAt
+  sorting-head-values due = sole-values s c sortingHeadTag len _ sortingHead (sorting-head-content stations desks) due
+
+  pub sorting-strip-values : Among len (lengthsDue sortingStripTag (fieldTable stations desks))
+      → fieldValues s c sortingStripTag len (fieldTable stations desks)
+        ≡ valuesOf (sortingStrip desks) (numberAt s c 1 ∷ numberAt s (c + 1) 2 ∷ numberAt s (c + 3) 2 ∷ [])
+  unfolding sortingStrip numbersAt
+  sorting-strip-values due =
+      sole-values s c sortingStripTag len _ (sortingStrip desks) (sorting-strip-content stations desks) due
+      ∙ ap (λ at. valuesOf (sortingStrip desks) (numberAt s c 1 ∷ numberAt s (c + 1) 2 ∷ numberAt s at 2 ∷ [])) (omega arith)
+
+  pub flight-head-values : Among len (lengthsDue flightHeadTag (fieldTable stations desks))
+      → fieldValues s c flightHeadTag len (fieldTable stations desks) ≡ []
+  unfolding flightHead numbersAt valuesOf
+  flight-head-values due = sole-values s c flightHeadTag len _ flightHead (flight-head-content stations desks) due
+
+  pub flight-block-values : Among len (lengthsDue flightBlockTag (fieldTable stations desks))
+      → fieldValues s c flightBlockTag len (fieldTable stations desks)
+        ≡ valuesOf flightBlock (numberAt s c 2 ∷ numberAt s (c + 2) 2 ∷ numberAt s (c + 4) 2 ∷ [])
+  unfolding flightBlock numbersAt
+  flight-block-values due =
+      sole-values s c flightBlockTag len _ flightBlock (flight-block-content stations desks) due
+      ∙ ap (λ at. valuesOf flightBlock (numberAt s c 2 ∷ numberAt s (c + 2) 2 ∷ numberAt s at 2 ∷ [])) (omega arith)
+
+  pub flight-order-values : Among len (lengthsDue flightOrderTag (fieldTable stations desks))
+      → fieldValues s c flightOrderTag len (fieldTable stations desks) ≡ valuesOf flightOrder (numberAt s c 8 ∷ [])
+  unfolding flightOrder numbersAt
+  flight-order-values due = sole-values s c flightOrderTag len _ flightOrder (flight-order-content stations desks) due

@@ -1,0 +1,87 @@
+-- What the cases of `LengthDue` mean, and the laws by which those of `length_due` are the lengths of the field table (02, Req 05).
+-- The idea: for a tag that is known the table computes to the one length that its content has; a tag outside the table has no content.
+use Prim.Native.Nat.{ℕ, zero, suc, _+_, _*_, _≤_}
+use mathlib.Core.Path.{_≡_, refl, ap}
+use mathlib.Core.Bool.{Bool, true, false, _||_}
+use mathlib.Core.List.{List, [], _∷_}
+use native.Mathlib.Omega.{arith}
+use lib.Dec.{eqb}
+use Rattle.sheet.specs.Limits.{mostStations}
+use Rattle.sheet.specs.Tags.{mosaicHeadTag, mosaicStripTag, sortingHeadTag, sortingStripTag, flightHeadTag, flightBlockTag, flightOrderTag}
+use Rattle.sheet.specs.Among.{isAmong}
+use Rattle.sheet.specs.FieldTable.{mosaicHead, mosaicStrip, sortingHead, sortingStrip, flightHead, flightBlock, flightOrder}
+use Rattle.sheet.specs.FieldTable.{fieldTable, lengthOf, contentsOf, lengthsOf, lengthsDue}
+use Rattle.sheet.specs.Contents.{mosaic-head-content, mosaic-strip-content, no-strip-content, sorting-head-content, sorting-strip-content}
+use Rattle.sheet.specs.Contents.{flight-head-content, flight-block-content, flight-order-content, no-content, strip-length}
+use Rattle.sheet_checks.specs.declared.lengths.LengthDue.{LengthDue}
+use Rattle.sheet_checks.specs.declared.lengths.LengthDue.the-variants.{Bytes, None}
+
+-- the lengths that are due: this one, or none
+unfoldable pub lengthsGiven : LengthDue → List ℕ
+lengthsGiven (Bytes n) = n ∷ []
+lengthsGiven None = []
+
+module _ (tag stations n : ℕ) where
+  pub mosaic-head-case : tag ≡ mosaicHeadTag → n ≡ 3 → (desks : ℕ) → lengthsGiven (Bytes n) ≡ lengthsDue tag (fieldTable stations desks)
+  unfolding lengthsGiven lengthsDue lengthsOf lengthOf mosaicHead
+  mosaic-head-case e h desks = rw (e, h, mosaic-head-content stations desks)
+
+  pub mosaic-strip-case : tag ≡ mosaicStripTag → 1 ≤ stations → stations ≤ mostStations → n ≡ 2 * stations + 2
+      → (desks : ℕ) → lengthsGiven (Bytes n) ≡ lengthsDue tag (fieldTable stations desks)
+  unfolding lengthsGiven lengthsDue lengthsOf
+  mosaic-strip-case e lo hi h desks = rw (e, h, mosaic-strip-content stations desks lo hi, strip-length stations)
+
+  pub sorting-head-case : tag ≡ sortingHeadTag → n ≡ 1 → (desks : ℕ) → lengthsGiven (Bytes n) ≡ lengthsDue tag (fieldTable stations desks)
+  unfolding lengthsGiven lengthsDue lengthsOf lengthOf sortingHead
+  sorting-head-case e h desks = rw (e, h, sorting-head-content stations desks)
+
+  pub sorting-strip-case : tag ≡ sortingStripTag → n ≡ 5 → (desks : ℕ) → lengthsGiven (Bytes n) ≡ lengthsDue tag (fieldTable stations desks)
+  unfolding lengthsGiven lengthsDue lengthsOf lengthOf sortingStrip
+  sorting-strip-case e h desks = rw (e, h, sorting-strip-content stations desks)
+
+  pub flight-head-case : tag ≡ flightHeadTag → n ≡ 0 → (desks : ℕ) → lengthsGiven (Bytes n) ≡ lengthsDue tag (fieldTable stations desks)
+  unfolding lengthsGiven lengthsDue lengthsOf lengthOf flightHead
+  flight-head-case e h desks = rw (e, h, flight-head-content stations desks)
+
+  pub flight-block-case : tag ≡ flightBlockTag → n ≡ 6 → (desks : ℕ) → lengthsGiven (Bytes n) ≡ lengthsDue tag (fieldTable stations desks)
+  unfolding lengthsGiven lengthsDue lengthsOf lengthOf flightBlock
+  flight-block-case e h desks = rw (e, h, flight-block-content stations desks)
+
+  pub flight-order-case : tag ≡ flightOrderTag → n ≡ 8 → (desks : ℕ) → lengthsGiven (Bytes n) ≡ lengthsDue tag (fieldTable stations desks)
+  unfolding lengthsGiven lengthsDue lengthsOf lengthOf flightOrder
+  flight-order-case e h desks = rw (e, h, flight-order-content stations desks)
+
+-- no length is due for a strip where the head cannot have so many stations, nor for a tag outside the table
+module _ (tag stations : ℕ) where
+  none-given : (desks : ℕ) → contentsOf tag (fieldTable stations desks) ≡ [] → lengthsGiven None ≡ lengthsDue tag (fieldTable stations desks)
+  unfolding lengthsGiven lengthsDue lengthsOf
+  none-given desks e = rw e
+
+  pub no-strip-case : tag ≡ mosaicStripTag → (stations ≡ 1 → ⊥) → (stations ≡ 2 → ⊥) → (stations ≡ 3 → ⊥) → (stations ≡ 4 → ⊥)
+      → (desks : ℕ) → lengthsGiven None ≡ lengthsDue tag (fieldTable stations desks)
+  no-strip-case e h₁ h₂ h₃ h₄ desks = none-given desks (rw e (no-strip-content stations desks other))
+    where
+      other : 1 ≤ stations → stations ≤ mostStations → ⊥
+      other lo hi = omega arith
+
+  pub other-tag-case : (tag ≡ mosaicHeadTag → ⊥) → (tag ≡ mosaicStripTag → ⊥) → (tag ≡ sortingHeadTag → ⊥) → (tag ≡ sortingStripTag → ⊥)
+      → (tag ≡ flightHeadTag → ⊥) → (tag ≡ flightBlockTag → ⊥) → (tag ≡ flightOrderTag → ⊥)
+      → (desks : ℕ) → lengthsGiven None ≡ lengthsDue tag (fieldTable stations desks)
+  other-tag-case h₁ h₂ h₃ h₄ h₅ h₆ h₇ desks = none-given desks (no-content stations desks tag h₁ h₂ h₃ h₄ h₅ h₆ h₇)
+
+pub ruleset cases =
+    (mosaic-head-case, sorting-head-case, sorting-strip-case, flight-head-case, flight-block-case, flight-order-case, no-strip-case, other-tag-case)
+
+-- a length is compared with the one that is due
+module _ (due : LengthDue) (len : ℕ) where
+  pub bytes-compared : (bytes : ℕ) → due ≡ Bytes bytes → eqb bytes len ≡ isAmong len (lengthsGiven due)
+  unfolding lengthsGiven isAmong
+  bytes-compared bytes e = rw e (last (eqb bytes len))
+    where
+      last : (b : Bool) → b ≡ (b || false)
+      last true = refl
+      last false = refl
+
+  pub none-compared : due ≡ None → false ≡ isAmong len (lengthsGiven due)
+  unfolding lengthsGiven isAmong
+  none-compared e = rw e

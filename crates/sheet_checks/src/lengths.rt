@@ -1,0 +1,52 @@
+// The length that is due for a field's content: one case for each tag of the field table and, for a mosaic strip, one for each number of stations, so that the
+// code can be read against the table (02, Req 05; docs/FORMAT.md shows both side by side).
+use sheet::tags::FLIGHT_BLOCK;
+use sheet::tags::FLIGHT_HEAD;
+use sheet::tags::FLIGHT_ORDER;
+use sheet::tags::MOSAIC_HEAD;
+use sheet::tags::MOSAIC_STRIP;
+use sheet::tags::SORTING_HEAD;
+use sheet::tags::SORTING_STRIP;
+ghost use mathlib.Core.Path.{_≡_};
+ghost use Prim.Native.Nat.{ℕ};
+ghost use Rattle.sheet.specs.Among.{isAmong};
+ghost use Rattle.sheet.specs.FieldTable.{fieldTable, lengthsDue};
+ghost use Rattle.sheet_checks.specs.Lengths.{lengthsGiven};
+
+// So many bytes are due, or there is no length that is: the tag is not in the table.
+pub enum LengthDue {
+    Bytes(usize),
+    None,
+}
+
+// The length due for a tag, with so many stations in the mosaic's head; no length depends on the number of desks.
+pub fn length_due(tag: u8, stations: usize) -> LengthDue
+    ensures { λ r. ⌜ ((desks : ℕ) → lengthsGiven r ≡ lengthsDue tag (fieldTable stations desks)) ⌝ }
+{
+    match tag {
+        MOSAIC_HEAD => LengthDue::Bytes(3),
+        MOSAIC_STRIP => match stations {
+            1 => LengthDue::Bytes(4),
+            2 => LengthDue::Bytes(6),
+            3 => LengthDue::Bytes(8),
+            4 => LengthDue::Bytes(10),
+            _ => LengthDue::None,
+        },
+        SORTING_HEAD => LengthDue::Bytes(1),
+        SORTING_STRIP => LengthDue::Bytes(5),
+        FLIGHT_HEAD => LengthDue::Bytes(0),
+        FLIGHT_BLOCK => LengthDue::Bytes(6),
+        FLIGHT_ORDER => LengthDue::Bytes(8),
+        _ => LengthDue::None,
+    }
+}
+
+// Whether a length is the one that is due.
+pub fn is_due(length: usize, due: LengthDue) -> bool
+    ensures { λ r. ⌜ r ≡ isAmong length (lengthsGiven due) ⌝ }
+{
+    match due {
+        LengthDue::Bytes(bytes) => bytes == length,
+        LengthDue::None => false,
+    }
+}
