@@ -146,19 +146,48 @@ refused("a second order", F + BLOCK + order(2) + order(2), 4, 23)
 refused("a head behind the order", F + BLOCK + order(2) + M, 4, 23)
 refused("an unknown tag behind the order", F + BLOCK + order(2) + field(0x00), 4, 23)
 
-# 5: lengths.
-refused("mosaic head of two bytes", field(0x10, b"\x01\x00"), 5, 0)
-refused("mosaic head of four bytes", field(0x10, b"\x01\x00\x00\x00"), 5, 0)
-for m in range(1, 5):
+# 5: lengths. Each field of the table: its name, what stands before it, its tag, and a good content, whose length is the one that is due.
+LENGTHS = [
+    ("mosaic head", b"", 0x10, b"\x01" + word(0)),
+    *[("strip of %d stations" % m, mosaic(m), 0x11, word(*[7] * m, 1)) for m in (1, 2, 3, 4)],
+    ("sorting head", b"", 0x20, b"\x01"),
+    ("strip of a desk", S, 0x21, b"\x01" + word(1, 1)),
+    ("flight head", b"", 0x30, b""),
+    ("block", F, 0x31, word(1, 0, 1)),
+    ("pass order", F + BLOCK, 0x32, struct.pack("<Q", 2)),
+]
+DUE = [3, 4, 6, 8, 10, 1, 5, 0, 6, 8]
+
+
+def of_length(content, length):
+    """The content cut, or with ones behind it."""
+    return (content + b"\x01" * length)[:length]
+
+
+# Every length from 0 to 12 but the one that is due; and lengths of which only one byte is right.
+for (kind, before, tag, content), due in zip(LENGTHS, DUE):
+    for length in [*range(13), due + 256, due * 256]:
+        if length != due:
+            refused("%s of %d bytes" % (kind, length), before + field(tag, of_length(content, length)), 5, len(before))
+for m in (1, 2, 3, 4):
     sound("a strip of %d stations" % m, mosaic(m) + strip(*[7] * m, 1), strips=1)
-    refused("a strip short of one of %d stations" % m, mosaic(m) + strip(*[7] * (m - 1), 1), 5, 6)
-    refused("a strip with one over %d stations" % m, mosaic(m) + strip(*[7] * (m + 1), 1), 5, 6)
-refused("sorting head without content", field(0x20), 5, 0)
-refused("job of four bytes", S + field(0x21, bytes(4)), 5, 4)
-refused("flight head with content", flight(b"\x00"), 5, 0)
-refused("block of four bytes", F + field(0x31, bytes(4)), 5, 3)
-refused("block of eight bytes", F + field(0x31, bytes(8)), 5, 3)
-refused("order of seven bytes", F + BLOCK + field(0x32, bytes(7)), 5, 12)
+    for n in {1, 2, 3, 4} - {m}:
+        refused("a strip of %d stations behind two of %d" % (n, m), mosaic(m) + strip(*[7] * m, 1) * 2 + strip(*[7] * n, 1), 5, 6 + 2 * (5 + 2 * m))
+
+# 3, 8, 10 and 4 go before 5, and 5 before all others.
+for kind, before, tag, content in LENGTHS:
+    refused("3 goes before 5: " + kind, before + field(tag, content + b"\x01")[:-1], 3, len(before))
+    if tag in (0x10, 0x20, 0x30):
+        refused("8 goes before 5: " + kind, M + field(tag, content + b"\x01"), 8, 0)
+        refused("10 goes before 5: " + kind, F + BLOCK * 9 + field(tag, content + b"\x01"), 10, 0)
+    else:
+        refused("4 goes before 5: %s, first" % kind, field(tag, content + b"\x01"), 4, 0)
+for tag in sorted({*range(256)} - {0x10, 0x11, 0x20, 0x21, 0x30, 0x31, 0x32}):
+    refused("tag %02X has no length" % tag, M + field(tag, bytes(tag % 11)), 4, 6)
+refused("5 goes before 6: stations 0", field(0x10, bytes(4)), 5, 0)
+refused("5 goes before 16: first pass 0", F + field(0x31, bytes(8)), 5, 3)
+refused("5 goes before 7: a 41st strip", M + STRIP * 40 + field(0x11, word(0, 1, 1)), 5, 6 + 7 * 40)
+refused("5 goes before 9: an order of seven bytes", F + BLOCK + field(0x32, bytes(7)), 5, 12)
 
 # 6, 15 and 16: the values of a field are examined from left to right.
 OVER = MOST_TIME + 1

@@ -3,17 +3,19 @@
 -- `sevulamon_plan` (viewer, Viewed.antt), `j ≡ judged sheet plan` of `judge::judge` and `sevulamon_judge` (judge, Judged.antt), and `Paged` of `page::page` and
 -- `sevulamon_page` (page, Call.antt). When a plan is allowed is said by the rules alone (rules: Mosaic, Sorting, Flight, Plan). Rows of bytes are lists of
 -- numbers; where a law needs that they are below 256, as those of every lent slice are, it says so (`AreBytes`).
-use Prim.Native.Nat.{ℕ, _*_, _≤_, _<_}
+use Prim.Native.Nat.{ℕ, _+_, _*_, _≤_, _<_}
 use mathlib.Core.Path.{_≡_, refl, sym, ap, ap₂, subst, _∙_}
 use mathlib.Core.Bool.{true}
 use mathlib.Core.List.{List, _++_}
 use lib.ListN.{length, drop}
 use native.Mathlib.Omega.{arith}
-use Rattle.sheet.specs.Limits.{ceiling, tableLength, planLength, pageLength}
+use Rattle.sheet.specs.Limits.{ceiling, mostStations, tableLength, planLength, pageLength}
+use Rattle.sheet.specs.Tags.{mosaicStripTag}
 use Rattle.sheet.specs.Refusals.{outOfRange, orderImpossible, bufferTooSmall, layoutWrong, figureUntrue, timeTooLarge, timeOfZero}
 use Rattle.sheet.specs.Read.{readSheet}
 use Rattle.sheet.specs.Theorems.{read-sound}
-use Rattle.sheet.specs.FieldTable.{Value}
+use Rattle.sheet.specs.Among.{Among}
+use Rattle.sheet.specs.FieldTable.{FieldRow, fieldTable, lengthOf, lengthsDue, Value}
 use Rattle.sheet.specs.Causes.{CountOutOfRange, TimeTooLarge, TimeOfZero}
 use Rattle.sheet.specs.Table.{RefusedFor, RefusedForValue}
 use Rattle.sheet.specs.Refused.{sound-exactly}
@@ -23,6 +25,10 @@ use Rattle.sheet.specs.Stores.{length-zeros}
 use Rattle.sheet.specs.Sound.{SheetSound}
 use Rattle.sheet.specs.declared.FlightSection.{FlightSection}
 use Rattle.sheet.specs.declared.Sheet.{Sheet}
+use Rattle.sheet_checks.specs.Lengths.{lengthsGiven}
+use Rattle.sheet_checks.specs.Theorems.{row-length, strip-length-due, no-length}
+use Rattle.sheet_checks.specs.declared.lengths.LengthDue.{LengthDue}
+use Rattle.sheet_checks.specs.declared.lengths.LengthDue.the-variants.{Bytes, None}
 use Rattle.order.specs.Order.{Proper}
 use Rattle.base.specs.Answer.{answer, written}
 use Rattle.base.specs.declared.Answer.{Answer}
@@ -560,3 +566,19 @@ module _ (sheet plan page pageAfter : List ℕ) (r : Answer) (call : Paged sheet
 
   pub paged-sixteen : PagedForValue timeOfZero TimeOfZero
   paged-sixteen = paged-for-value timeOfZero TimeOfZero (omega arith) (judged-sixteen sheet plan (judged sheet plan) refl)
+
+-- REQ 05. "However the length due is found now, make it one case for each tag and, for 11, each station count from 1 to 4." These are the cases of `length_due`
+-- (crate sheet_checks, src/lengths.rt). The field table is `fieldTable` (crate sheet, FieldTable.antt), a list of rows; the length of a row is the sum of the widths of
+-- its content. A call of `length_due`: a tag, the number of stations in the head of the mosaic, and the answer; `lengthsGiven` says what its cases mean.
+module _ (tag stations : ℕ) (due : LengthDue) (call : (desks : ℕ) → lengthsGiven due ≡ lengthsDue tag (fieldTable stations desks)) where
+  -- "Show that the cases give the field table's length for each tag in it"
+  pub length-by-list : (desks : ℕ) (r : FieldRow) → Among r (fieldTable stations desks) → tag ≡ r .tag → due ≡ Bytes (lengthOf (r .content))
+  length-by-list = row-length tag stations due call
+
+  -- for 11 this is, with 1 to 4 stations, two bytes for each of them and two for the bench
+  pub length-of-a-strip : tag ≡ mosaicStripTag → 1 ≤ stations → stations ≤ mostStations → due ≡ Bytes (2 * stations + 2)
+  length-of-a-strip = strip-length-due tag stations due call
+
+  -- "and none for any other": for a tag that is in no row
+  pub no-length-outside-the-table : (desks : ℕ) → ((r : FieldRow) → Among r (fieldTable stations desks) → tag ≡ r .tag → ⊥) → due ≡ None
+  no-length-outside-the-table = no-length tag stations due call

@@ -98,6 +98,24 @@ module _ (stations desks : ℕ) where
         ne-eqb tag flightOrderTag h₇,
       )
 
+-- the length of each row is due for its tag, and for a tag of no row none is
+module _ (tag : ℕ) where
+  pub row-due : (table : List FieldRow) (r : FieldRow) → Among r table → tag ≡ r .tag → Among (lengthOf (r .content)) (lengthsDue tag table)
+  unfolding Among lengthsDue contentsOf lengthsOf
+  row-due [] r a e = absurd a
+  row-due (q ∷ table) r (inl h) e = rw (eq-eqb tag (q .tag) (e ∙ ap (λ (x : FieldRow). x .tag) h)) (inl (ap (λ (x : FieldRow). lengthOf (x .content)) h))
+  row-due (q ∷ table) r (inr a) e = behind (eqb tag (q .tag)) (row-due table r a e)
+    where
+      behind : (b : Bool) → Among (lengthOf (r .content)) (lengthsOf (contentsOf tag table))
+          → Among (lengthOf (r .content)) (lengthsOf (cond b (q .content ∷ contentsOf tag table) (contentsOf tag table)))
+      behind true a = inr a
+      behind false a = a
+
+  pub none-due : (table : List FieldRow) → ((r : FieldRow) → Among r table → tag ≡ r .tag → ⊥) → lengthsDue tag table ≡ []
+  unfolding Among lengthsDue contentsOf lengthsOf
+  none-due [] none = refl
+  none-due (q ∷ table) none = rw (ne-eqb tag (q .tag) (none q (inl refl))) (none-due table (λ r a. none r (inr a)))
+
 -- where a tag has one content, a field of a length that is due has the values of that content
 module _ (s : List ℕ) (c tag len : ℕ) (table : List FieldRow) (content : List Item) (one : contentsOf tag table ≡ content ∷ [])
     (due : Among len (lengthsDue tag table)) where
