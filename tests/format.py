@@ -1,0 +1,99 @@
+#!/usr/bin/env python3
+"""Compares docs/FORMAT.md with the code that gives the length due for a field (02, Req 05).
+
+Of the table of fields: each length is the sum of the bytes of its content. Of the table of lengths: its rows are the rows of the table of fields and one for
+each tag and station count that has none, each length is the sum of the bytes that its content names, and its cases are those of `length_due`, in their order.
+Ends with status 1 and the first difference.
+"""
+import pathlib
+import re
+import sys
+
+ROOT = pathlib.Path(__file__).resolve().parent.parent
+FORMAT = (ROOT / "docs/FORMAT.md").read_text()
+CODE = (ROOT / "crates/sheet_checks/src/lengths.rt").read_text()
+TAGS = (ROOT / "crates/sheet/src/tags.rt").read_text()
+STATIONS = (1, 2, 3, 4)
+
+
+def same(what, one, other):
+    if one != other:
+        sys.exit("%s:\n  %s\n  %s" % (what, one, other))
+
+
+def table(columns):
+    """The rows of the table of docs/FORMAT.md with these columns."""
+    head = "| %s |\n" % " | ".join(columns)
+    if FORMAT.count(head) != 1:
+        sys.exit("docs/FORMAT.md: the table with the columns %s stands %d times" % (", ".join(columns), FORMAT.count(head)))
+    lines = FORMAT.split(head)[1].splitlines()[1:]
+    end = next(k for k, line in enumerate(lines) if not line.startswith("|"))
+    return [[cell.strip() for cell in line.strip("|").split("|")] for line in lines[:end]]
+
+
+def fields():
+    """Of each field: its tag, its length in words, and each number of its content with its bytes in words."""
+    found = []
+    for tag, _, length, content, width, _ in table(["tag", "field", "length", "content", "bytes", "range"]):
+        if tag:
+            found.append((tag, length, []))
+        if width:
+            found[-1][2].append((content.split(",")[0].split(";")[0], width))
+    return found
+
+
+def with_stations(tag, length, content, m):
+    """The length, and the content with the bytes of its numbers, of a field with m stations."""
+    numbers = []
+    for name, width in content:
+        if width == "2 each":
+            numbers.append(("%d station time%s" % (m, "s" if m > 1 else ""), 2 * m))
+        else:
+            numbers.append((name, int(width)))
+    due = sum(width for _, width in numbers)
+    same("tag %s: its length and the sum of its bytes" % tag, 2 * m + 2 if length == "2 m + 2" else int(length), due)
+    return due, " + ".join("%s (%d)" % number for number in numbers) or "nothing"
+
+
+def lengths_of_fields():
+    """The rows of the table of lengths by the table of fields, without their cases."""
+    for tag, length, content in fields():
+        for m in STATIONS if length == "2 m + 2" else [0]:
+            due, words = with_stations(tag, length, content, m)
+            yield tag, str(m or ""), words, str(due)
+        if length == "2 m + 2":
+            yield tag, "other", "none: no head has so many stations", "none"
+    yield "other", "", "none: the tag is not in the table", "none"
+
+
+def cases_of_code():
+    """The cases of `length_due`, in their order: the tag, the station count, and the case."""
+    names = dict(re.findall(r"pub const (\w+): u8 = 0x([0-9a-f]{2});", TAGS))
+    body = CODE.split("    match tag {\n")[1].split("\n    }\n")[0]
+    outer, inner = "other", None
+    for line in body.splitlines():
+        line = line.strip()
+        if line == "},":
+            outer, inner = "other", None
+            continue
+        pattern, answer = line.split(" => ")
+        if answer == "match stations {":
+            outer, inner = names[pattern].upper(), "other"
+        elif inner is not None:
+            yield outer, pattern if pattern != "_" else "other", line
+        else:
+            yield names[pattern].upper() if pattern != "_" else "other", "", line
+
+
+def main():
+    rows = [tuple(row) for row in table(["tag", "stations", "content", "length", "case"])]
+    same("docs/FORMAT.md: rows of lengths, and rows by the table of fields", [row[:4] for row in rows], list(lengths_of_fields()))
+    same("docs/FORMAT.md: cases, and cases of the code", [(tag, m, case.strip("`")) for tag, m, _, _, case in rows], list(cases_of_code()))
+    for tag, m, _, length, case in rows:
+        given = "LengthDue::None" if length == "none" else "LengthDue::Bytes(%s)" % length
+        same("tag %s %s: length and case" % (tag, m), given, case.strip("`").split(" => ")[1].rstrip(","))
+    print("%d lengths of docs/FORMAT.md are those of the code" % len(rows))
+
+
+if __name__ == "__main__":
+    main()
