@@ -11,7 +11,7 @@ import sys
 
 ROOT = pathlib.Path(__file__).resolve().parent.parent
 FORMAT = (ROOT / "docs/FORMAT.md").read_text()
-CODE = (ROOT / "crates/sheet_checks/src/lengths.rt").read_text()
+CODE = (ROOT / "crates/sheet_lengths/src/lib.rt").read_text()
 TAGS = (ROOT / "crates/sheet/src/tags.rt").read_text()
 STATIONS = (1, 2, 3, 4)
 

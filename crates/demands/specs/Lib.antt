@@ -25,10 +25,10 @@ use Rattle.sheet.specs.Stores.{length-zeros}
 use Rattle.sheet.specs.Sound.{SheetSound}
 use Rattle.sheet.specs.declared.FlightSection.{FlightSection}
 use Rattle.sheet.specs.declared.Sheet.{Sheet}
-use Rattle.sheet_checks.specs.Lengths.{lengthsGiven}
-use Rattle.sheet_checks.specs.Theorems.{row-length, strip-length-due, no-length}
-use Rattle.sheet_checks.specs.declared.lengths.LengthDue.{LengthDue}
-use Rattle.sheet_checks.specs.declared.lengths.LengthDue.the-variants.{Bytes, None}
+use Rattle.sheet_lengths.specs.Lengths.{lengthsGiven}
+use Rattle.sheet_lengths.specs.Theorems.{row-length, strip-length-due, no-length}
+use Rattle.sheet_lengths.specs.declared.LengthDue.{LengthDue}
+use Rattle.sheet_lengths.specs.declared.LengthDue.the-variants.{Bytes, None}
 use Rattle.order.specs.Order.{Proper}
 use Rattle.base.specs.Answer.{answer, written}
 use Rattle.base.specs.declared.Answer.{Answer}
@@ -568,7 +568,7 @@ module _ (sheet plan page pageAfter : List ℕ) (r : Answer) (call : Paged sheet
   paged-sixteen = paged-for-value timeOfZero TimeOfZero (omega arith) (judged-sixteen sheet plan (judged sheet plan) refl)
 
 -- REQ 05. "However the length due is found now, make it one case for each tag and, for 11, each station count from 1 to 4." These are the cases of `length_due`
--- (crate sheet_checks, src/lengths.rt). The field table is `fieldTable` (crate sheet, FieldTable.antt), a list of rows; the length of a row is the sum of the widths of
+-- (crate sheet_lengths). The field table is `fieldTable` (crate sheet, FieldTable.antt), a list of rows; the length of a row is the sum of the widths of
 -- its content. A call of `length_due`: a tag, the number of stations in the head of the mosaic, and the answer; `lengthsGiven` says what its cases mean.
 module _ (tag stations : ℕ) (due : LengthDue) (call : (desks : ℕ) → lengthsGiven due ≡ lengthsDue tag (fieldTable stations desks)) where
   -- "Show that the cases give the field table's length for each tag in it"

@@ -2,11 +2,11 @@
 -- The idea: for a tag that is known the table computes, but for the row of a mosaic strip, which is there or not by the number of stations.
 use Prim.Native.Nat.{ℕ, zero, suc, _+_, _*_, _≤_}
 use mathlib.Core.Path.{_≡_, refl, sym, ap, subst, _∙_}
-use mathlib.Core.Bool.{Bool, true, false, cond, _&&_}
+use mathlib.Core.Bool.{Bool, true, false, cond}
 use mathlib.Core.List.{List, [], _∷_, _++_}
 use mathlib.Core.Logic.{inl, inr}
 use native.Mathlib.Omega.{arith}
-use lib.Dec.{eqb, leb}
+use lib.Dec.{eqb}
 use borrow.Author.Tests.{eq-eqb, ne-eqb, le-leb, leb-true}
 use Rattle.base.specs.Branch.{both}
 use Rattle.field.specs.Bytes.{numberAt}
@@ -14,33 +14,38 @@ use Rattle.sheet.specs.Limits.{mostStations, mostTime}
 use Rattle.sheet.specs.Tags.{mosaicHeadTag, mosaicStripTag, sortingHeadTag, sortingStripTag, flightHeadTag, flightBlockTag, flightOrderTag}
 use Rattle.sheet.specs.Among.{Among}
 use Rattle.sheet.specs.FieldTable.{Item, FieldRow, fieldRow, mosaicHead, mosaicStrip, sortingHead, sortingStrip, flightHead, flightBlock, flightOrder}
-use Rattle.sheet.specs.FieldTable.{stripRows, fieldTable, lengthOf, contentsOf, lengthsOf, lengthsDue, ofLength, Value, numbersAt, valuesOf, fieldValues}
+use Rattle.sheet.specs.FieldTable.{isStationCount, stripRows, fieldTable, lengthOf, contentsOf, lengthsOf, lengthsDue, ofLength, Value, numbersAt, valuesOf, fieldValues}
 use Rattle.sheet.specs.FieldTable.Range.{time, positiveTime}
 use Rattle.sheet.specs.FieldTable.Value.{value}
+
+-- a station count is 1 to 4
+pub count-bounds : (stations : ℕ) → isStationCount stations ≡ true → (1 ≤ stations) × (stations ≤ mostStations)
+unfolding isStationCount
+count-bounds stations e = let p = both _ _ e in (leb-true 1 stations (p .0), leb-true stations mostStations (p .1))
 
 -- the row of a strip bears on no other tag ..
 past-strip : (tag stations : ℕ) (rows : List FieldRow) → (tag ≡ mosaicStripTag → ⊥) → contentsOf tag (stripRows stations ++ rows) ≡ contentsOf tag rows
 unfolding stripRows contentsOf
-past-strip tag stations rows h = go (leb 1 stations && leb stations mostStations)
+past-strip tag stations rows h = go (isStationCount stations)
   where
     go : (b : Bool) → contentsOf tag (cond b (fieldRow mosaicStripTag (mosaicStrip stations) ∷ []) [] ++ rows) ≡ contentsOf tag rows
-    go true = rw (ne-eqb tag mosaicStripTag h)
+    go true = rw (ne-eqb tag mosaicStripTag h) refl
     go false = refl
 
 -- .. and is there for 1 to 4 stations
 at-strip : (stations : ℕ) (rows : List FieldRow) → 1 ≤ stations → stations ≤ mostStations
     → contentsOf mosaicStripTag (stripRows stations ++ rows) ≡ mosaicStrip stations ∷ contentsOf mosaicStripTag rows
-unfolding stripRows contentsOf
+unfolding stripRows isStationCount contentsOf
 at-strip stations rows lo hi = rw (le-leb 1 stations lo, le-leb stations mostStations hi)
 
 no-strip : (stations : ℕ) (rows : List FieldRow) → (1 ≤ stations → stations ≤ mostStations → ⊥)
     → contentsOf mosaicStripTag (stripRows stations ++ rows) ≡ contentsOf mosaicStripTag rows
 unfolding stripRows
-no-strip stations rows h = go (leb 1 stations && leb stations mostStations) refl
+no-strip stations rows h = go (isStationCount stations) refl
   where
-    go : (b : Bool) → (leb 1 stations && leb stations mostStations) ≡ b
+    go : (b : Bool) → isStationCount stations ≡ b
         → contentsOf mosaicStripTag (cond b (fieldRow mosaicStripTag (mosaicStrip stations) ∷ []) [] ++ rows) ≡ contentsOf mosaicStripTag rows
-    go true e = let p = both _ _ e in absurd (h (leb-true 1 stations (p .0)) (leb-true stations mostStations (p .1)))
+    go true e = let p = count-bounds stations e in absurd (h (p .0) (p .1))
     go false e = refl
 
 -- 2 bytes for each station and 2 for the bench
@@ -149,7 +154,7 @@ module _ (s : List ℕ) (c k : ℕ) where
       ap (λ at. value (time mostTime) (numberAt s (c + 2 * k) 2) ∷ valuesOf (mosaicStrip n) (numbersAt s at (mosaicStrip n))) (omega arith)
 
 -- for any other number of stations no length of a strip is due
-no-strip-due : (len stations desks : ℕ) → (leb 1 stations && leb stations mostStations) ≡ false
+no-strip-due : (len stations desks : ℕ) → isStationCount stations ≡ false
     → Among len (lengthsDue mosaicStripTag (fieldTable stations desks)) → ⊥
 unfolding lengthsDue fieldTable stripRows contentsOf lengthsOf Among
 no-strip-due len stations desks e a = rw e at a
@@ -164,17 +169,17 @@ module _ (s : List ℕ) (c len stations desks : ℕ) where
   pub mosaic-strip-values : Among len (lengthsDue mosaicStripTag (fieldTable stations desks))
       → fieldValues s c mosaicStripTag len (fieldTable stations desks) ≡ stripFrom s c 0 stations
   unfolding stripFrom
-  mosaic-strip-values due = go (leb 1 stations && leb stations mostStations) refl
+  mosaic-strip-values due = go (isStationCount stations) refl
     where
       from-start : (content : List Item) → valuesOf content (numbersAt s c content) ≡ valuesOf content (numbersAt s (c + 2 * 0) content)
       from-start content = ap (λ at. valuesOf content (numbersAt s at content)) (omega arith)
 
-      go : (b : Bool) → (leb 1 stations && leb stations mostStations) ≡ b
+      go : (b : Bool) → isStationCount stations ≡ b
           → fieldValues s c mosaicStripTag len (fieldTable stations desks) ≡ stripFrom s c 0 stations
       go true e =
-          let h = both _ _ e in
+          let h = count-bounds stations e in
           sole-values s c mosaicStripTag len _ (mosaicStrip stations)
-          (mosaic-strip-content stations desks (leb-true 1 stations (h .0)) (leb-true stations mostStations (h .1))) due
+          (mosaic-strip-content stations desks (h .0) (h .1)) due
           ∙ from-start (mosaicStrip stations)
       go false e = absurd (no-strip-due len stations desks e due)
 
@@ -185,7 +190,7 @@ module _ (s : List ℕ) (c len stations desks : ℕ) where
 
   pub sorting-strip-values : Among len (lengthsDue sortingStripTag (fieldTable stations desks))
       → fieldValues s c sortingStripTag len (fieldTable stations desks)
-        ≡ valuesOf (sortingStrip desks) (numberAt s c 1 ∷ numberAt s (c + 1) 2 ∷ numberAt s (c + 3) 2 ∷ [])
+      ≡ valuesOf (sortingStrip desks) (numberAt s c 1 ∷ numberAt s (c + 1) 2 ∷ numberAt s (c + 3) 2 ∷ [])
   unfolding sortingStrip numbersAt
   sorting-strip-values due =
       sole-values s c sortingStripTag len _ (sortingStrip desks) (sorting-strip-content stations desks) due
@@ -198,7 +203,7 @@ module _ (s : List ℕ) (c len stations desks : ℕ) where
 
   pub flight-block-values : Among len (lengthsDue flightBlockTag (fieldTable stations desks))
       → fieldValues s c flightBlockTag len (fieldTable stations desks)
-        ≡ valuesOf flightBlock (numberAt s c 2 ∷ numberAt s (c + 2) 2 ∷ numberAt s (c + 4) 2 ∷ [])
+      ≡ valuesOf flightBlock (numberAt s c 2 ∷ numberAt s (c + 2) 2 ∷ numberAt s (c + 4) 2 ∷ [])
   unfolding flightBlock numbersAt
   flight-block-values due =
       sole-values s c flightBlockTag len _ flightBlock (flight-block-content stations desks) due

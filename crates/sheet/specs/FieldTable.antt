@@ -63,9 +63,12 @@ pub record FieldRow : Type 0 where
 abbrev pub fieldRow : ℕ → List Item → FieldRow
 fieldRow tag content = record { tag = tag; content = content }
 
--- the row of a mosaic strip, for a number of stations that a mosaic head may have; for no other is there one
+-- The row of a mosaic strip, which is there for the station counts that a mosaic head may have, 1 to 4.
+unfoldable pub isStationCount : ℕ → Bool
+isStationCount stations = leb 1 stations && leb stations mostStations
+
 unfoldable pub stripRows : ℕ → List FieldRow
-stripRows stations = cond (leb 1 stations && leb stations mostStations) (fieldRow mosaicStripTag (mosaicStrip stations) ∷ []) []
+stripRows stations = cond (isStationCount stations) (fieldRow mosaicStripTag (mosaicStrip stations) ∷ []) []
 
 -- The table, with so many stations in the head of the mosaic and so many desks in that of the sorting.
 unfoldable pub fieldTable : ℕ → ℕ → List FieldRow

@@ -16,8 +16,8 @@ use Rattle.sheet.specs.FieldTable.{fieldTable, lengthsDue}
 use Rattle.sheet.specs.Checks.{hasRoom, orderProper}
 use Rattle.sheet.specs.Rows.{firstFailure}
 use Rattle.sheet.specs.RowLaws.{given-fails, given-passes, test-fails, test-passes}
-use Rattle.sheet_checks.specs.Lengths.{lengthsGiven}
-use Rattle.sheet_checks.specs.declared.lengths.LengthDue.{LengthDue}
+use Rattle.sheet_lengths.specs.Lengths.{lengthsGiven}
+use Rattle.sheet_lengths.specs.declared.LengthDue.{LengthDue}
 
 -- a length that is compared with the one that is due is compared with those of the table
 module _ (len tag stations desks : ℕ) (due : LengthDue) (x : Bool)

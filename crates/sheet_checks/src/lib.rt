@@ -1,11 +1,6 @@
 // What each field of a sheet is checked for: one function a check, and the chain of them in 01's order.
-
-pub mod lengths;
-
 use field::byte;
 use field::number;
-use lengths::is_due;
-use lengths::length_due;
 use sheet::Reading;
 use sheet::desks::strips_of_desk;
 use sheet::limits::MOST_BLOCKS;
@@ -29,6 +24,8 @@ use sheet::tags::MOSAIC_HEAD;
 use sheet::tags::MOSAIC_STRIP;
 use sheet::tags::SORTING_HEAD;
 use sheet::tags::SORTING_STRIP;
+use sheet_lengths::is_due;
+use sheet_lengths::length_due;
 use sheet_ranges::range_number;
 ghost use mathlib.Core.Path.{_≡_};
 ghost use Rattle.sheet.specs.Rows.{firstFailure};

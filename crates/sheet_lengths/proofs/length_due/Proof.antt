@@ -1,9 +1,9 @@
 -- `length_due` meets its contract: each of its cases is the length that the field table has for the tag, or no length where it has none.
-use Rattle.sheet_checks.specs.Lengths.{cases, mosaic-strip-case}
+use Rattle.sheet_lengths.specs.Lengths.{cases, mosaic-strip-case}
 use borrow.Author.Needs.{needs}
 use native.Mathlib.Omega.{arith}
-use Rattle.sheet_checks.proofs.lengths.length_due.Statement.{statement}
-use Rattle.sheet_checks.proofs.lengths.length_due.Tie as tie
+use Rattle.sheet_lengths.proofs.length_due.Statement.{statement}
+use Rattle.sheet_lengths.proofs.length_due.Tie as tie
 
 returns : tie.Need-returns
 returns c = search cases

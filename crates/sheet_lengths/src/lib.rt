@@ -11,7 +11,7 @@ ghost use mathlib.Core.Path.{_≡_};
 ghost use Prim.Native.Nat.{ℕ};
 ghost use Rattle.sheet.specs.Among.{isAmong};
 ghost use Rattle.sheet.specs.FieldTable.{fieldTable, lengthsDue};
-ghost use Rattle.sheet_checks.specs.Lengths.{lengthsGiven};
+ghost use Rattle.sheet_lengths.specs.Lengths.{lengthsGiven};
 
 // So many bytes are due, or there is no length that is: the tag is not in the table.
 pub enum LengthDue {

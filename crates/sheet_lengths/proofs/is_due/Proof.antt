@@ -1,8 +1,8 @@
 -- `is_due` meets its contract: a length is among those that are due exactly where it is the one that is.
-use Rattle.sheet_checks.specs.Lengths.{bytes-compared, none-compared}
+use Rattle.sheet_lengths.specs.Lengths.{bytes-compared, none-compared}
 use borrow.Author.Needs.{needs}
-use Rattle.sheet_checks.proofs.lengths.is_due.Statement.{statement}
-use Rattle.sheet_checks.proofs.lengths.is_due.Tie as tie
+use Rattle.sheet_lengths.proofs.is_due.Statement.{statement}
+use Rattle.sheet_lengths.proofs.is_due.Tie as tie
 
 enum-known-due : tie.Need-enum-known-due
 enum-known-due c = search needs

@@ -13,8 +13,8 @@ use Rattle.sheet.specs.FieldTable.{mosaicHead, mosaicStrip, sortingHead, sortin
 use Rattle.sheet.specs.FieldTable.{fieldTable, lengthOf, contentsOf, lengthsOf, lengthsDue}
 use Rattle.sheet.specs.Contents.{mosaic-head-content, mosaic-strip-content, no-strip-content, sorting-head-content, sorting-strip-content}
 use Rattle.sheet.specs.Contents.{flight-head-content, flight-block-content, flight-order-content, no-content, strip-length}
-use Rattle.sheet_checks.specs.declared.lengths.LengthDue.{LengthDue}
-use Rattle.sheet_checks.specs.declared.lengths.LengthDue.the-variants.{Bytes, None}
+use Rattle.sheet_lengths.specs.declared.LengthDue.{LengthDue}
+use Rattle.sheet_lengths.specs.declared.LengthDue.the-variants.{Bytes, None}
 
 -- the lengths that are due: this one, or none
 unfoldable pub lengthsGiven : LengthDue → List ℕ
@@ -55,7 +55,7 @@ module _ (tag stations n : ℕ) where
 module _ (tag stations : ℕ) where
   none-given : (desks : ℕ) → contentsOf tag (fieldTable stations desks) ≡ [] → lengthsGiven None ≡ lengthsDue tag (fieldTable stations desks)
   unfolding lengthsGiven lengthsDue lengthsOf
-  none-given desks e = rw e
+  none-given desks e = rw e refl
 
   pub no-strip-case : tag ≡ mosaicStripTag → (stations ≡ 1 → ⊥) → (stations ≡ 2 → ⊥) → (stations ≡ 3 → ⊥) → (stations ≡ 4 → ⊥)
       → (desks : ℕ) → lengthsGiven None ≡ lengthsDue tag (fieldTable stations desks)

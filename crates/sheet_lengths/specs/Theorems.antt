@@ -10,9 +10,9 @@ use Rattle.sheet.specs.Tags.{mosaicStripTag}
 use Rattle.sheet.specs.Among.{Among}
 use Rattle.sheet.specs.FieldTable.{FieldRow, fieldTable, lengthOf, lengthsDue}
 use Rattle.sheet.specs.Contents.{row-due, none-due}
-use Rattle.sheet_checks.specs.Lengths.{lengthsGiven, mosaic-strip-case}
-use Rattle.sheet_checks.specs.declared.lengths.LengthDue.{LengthDue}
-use Rattle.sheet_checks.specs.declared.lengths.LengthDue.the-variants.{Bytes, None}
+use Rattle.sheet_lengths.specs.Lengths.{lengthsGiven, mosaic-strip-case}
+use Rattle.sheet_lengths.specs.declared.LengthDue.{LengthDue}
+use Rattle.sheet_lengths.specs.declared.LengthDue.the-variants.{Bytes, None}
 
 -- an answer is known by the lengths that it means
 given-bytes : (due : LengthDue) (n : ℕ) → Among n (lengthsGiven due) → due ≡ Bytes n

@@ -1,0 +1,3 @@
+-- What the cases of the length due mean, and that they are those of the field table.
+pub mod Lengths
+pub mod Theorems
