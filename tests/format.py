@@ -1,8 +1,8 @@
 #!/usr/bin/env python3
 """Compares docs/FORMAT.md with the code that gives the length due for a field (02, Req 05).
 
-Of the table of fields: each length is the sum of the bytes of its content. Of the table of lengths: its rows are the rows of the table of fields and one for
-each tag and station count that has none, each length is the sum of the bytes that its content names, and its cases are those of `length_due`, in their order.
+Of the table of fields: each length is the sum of the bytes of its content. Of the table of lengths: its rows are those of the table of fields, 11 once for each
+station count, and two for what has no length: 11 with any other count, and any other tag; its cases are those of `length_due`, in their order, and give its lengths.
 Ends with status 1 and the first difference.
 """
 import pathlib
@@ -62,7 +62,7 @@ def lengths_of_fields():
             due, words = with_stations(tag, length, content, m)
             yield tag, str(m or ""), words, str(due)
         if length == "2 m + 2":
-            yield tag, "other", "none: no head has so many stations", "none"
+            yield tag, "other", "none: a head has 1 to 4 stations", "none"
     yield "other", "", "none: the tag is not in the table", "none"
 
 
@@ -70,19 +70,18 @@ def cases_of_code():
     """The cases of `length_due`, in their order: the tag, the station count, and the case."""
     names = dict(re.findall(r"pub const (\w+): u8 = 0x([0-9a-f]{2});", TAGS))
     body = CODE.split("    match tag {\n")[1].split("\n    }\n")[0]
-    outer, inner = "other", None
-    for line in body.splitlines():
-        line = line.strip()
+    within = None
+    for line in map(str.strip, body.splitlines()):
         if line == "},":
-            outer, inner = "other", None
+            within = None
             continue
         pattern, answer = line.split(" => ")
         if answer == "match stations {":
-            outer, inner = names[pattern].upper(), "other"
-        elif inner is not None:
-            yield outer, pattern if pattern != "_" else "other", line
+            within = names[pattern]
+        elif within:
+            yield within, "other" if pattern == "_" else pattern, line
         else:
-            yield names[pattern].upper() if pattern != "_" else "other", "", line
+            yield "other" if pattern == "_" else names[pattern], "", line
 
 
 def main():

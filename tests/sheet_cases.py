@@ -2,8 +2,8 @@
 """The sheets that the program sheet_cases reads, with what it must write for each.
 
 Each case is a name, the bytes of a sheet, and the line due: number and place, and for a sound sheet the strips of the mosaic, of each desk,
-the blocks and the order number. The lines are written by hand from 01 and the requests of 02; those of values out of range come from a table of bad values with
-their numbers.
+the blocks and the order number. The lines are written by hand from 01 and the requests of 02; those of wrong lengths come from a table of fields with
+their lengths, those of values out of range from a table of bad values with their numbers.
 
     sheet_cases.py           writes crates/sheet_cases/stdin and stdout
     sheet_cases.py --check   says whether they are as written here
@@ -146,17 +146,19 @@ refused("a second order", F + BLOCK + order(2) + order(2), 4, 23)
 refused("a head behind the order", F + BLOCK + order(2) + M, 4, 23)
 refused("an unknown tag behind the order", F + BLOCK + order(2) + field(0x00), 4, 23)
 
-# 5: lengths. Each field of the table: its name, what stands before it, its tag, and a good content, whose length is the one that is due.
+# 5: lengths. Each field of the table: its name, what stands before it, its tag, the length that is due, and a good content of that length.
 LENGTHS = [
-    ("mosaic head", b"", 0x10, b"\x01" + word(0)),
-    *[("strip of %d stations" % m, mosaic(m), 0x11, word(*[7] * m, 1)) for m in (1, 2, 3, 4)],
-    ("sorting head", b"", 0x20, b"\x01"),
-    ("strip of a desk", S, 0x21, b"\x01" + word(1, 1)),
-    ("flight head", b"", 0x30, b""),
-    ("block", F, 0x31, word(1, 0, 1)),
-    ("pass order", F + BLOCK, 0x32, struct.pack("<Q", 2)),
+    ("mosaic head", b"", 0x10, 3, b"\x01" + word(0)),
+    ("strip of 1 station", mosaic(1), 0x11, 4, word(7, 1)),
+    ("strip of 2 stations", mosaic(2), 0x11, 6, word(7, 7, 1)),
+    ("strip of 3 stations", mosaic(3), 0x11, 8, word(7, 7, 7, 1)),
+    ("strip of 4 stations", mosaic(4), 0x11, 10, word(7, 7, 7, 7, 1)),
+    ("sorting head", b"", 0x20, 1, b"\x01"),
+    ("strip of a desk", S, 0x21, 5, b"\x01" + word(1, 1)),
+    ("flight head", b"", 0x30, 0, b""),
+    ("block", F, 0x31, 6, word(1, 0, 1)),
+    ("pass order", F + BLOCK, 0x32, 8, struct.pack("<Q", 2)),
 ]
-DUE = [3, 4, 6, 8, 10, 1, 5, 0, 6, 8]
 
 
 def of_length(content, length):
@@ -164,8 +166,8 @@ def of_length(content, length):
     return (content + b"\x01" * length)[:length]
 
 
-# Every length from 0 to 12 but the one that is due; and lengths of which only one byte is right.
-for (kind, before, tag, content), due in zip(LENGTHS, DUE):
+# Every length from 0 to 12 but the one that is due; the same low byte with another high byte, and the two bytes exchanged.
+for kind, before, tag, due, content in LENGTHS:
     for length in [*range(13), due + 256, due * 256]:
         if length != due:
             refused("%s of %d bytes" % (kind, length), before + field(tag, of_length(content, length)), 5, len(before))
@@ -175,15 +177,17 @@ for m in (1, 2, 3, 4):
         refused("a strip of %d stations behind two of %d" % (n, m), mosaic(m) + strip(*[7] * m, 1) * 2 + strip(*[7] * n, 1), 5, 6 + 2 * (5 + 2 * m))
 
 # 3, 8, 10 and 4 go before 5, and 5 before all others.
-for kind, before, tag, content in LENGTHS:
+for kind, before, tag, due, content in LENGTHS:
     refused("3 goes before 5: " + kind, before + field(tag, content + b"\x01")[:-1], 3, len(before))
     if tag in (0x10, 0x20, 0x30):
         refused("8 goes before 5: " + kind, M + field(tag, content + b"\x01"), 8, 0)
         refused("10 goes before 5: " + kind, F + BLOCK * 9 + field(tag, content + b"\x01"), 10, 0)
+        refused("4 goes before 5: a %s behind a block" % kind, F + BLOCK + field(tag, content + b"\x01"), 4, 12)
     else:
         refused("4 goes before 5: %s, first" % kind, field(tag, content + b"\x01"), 4, 0)
+# A tag outside the table may stand nowhere; the lengths go from 0 to 10, so that each length of the table is among them.
 for tag in sorted({*range(256)} - {0x10, 0x11, 0x20, 0x21, 0x30, 0x31, 0x32}):
-    refused("tag %02X has no length" % tag, M + field(tag, bytes(tag % 11)), 4, 6)
+    refused("tag %02X is not permitted" % tag, M + field(tag, bytes(tag % 11)), 4, 6)
 refused("5 goes before 6: stations 0", field(0x10, bytes(4)), 5, 0)
 refused("5 goes before 16: first pass 0", F + field(0x31, bytes(8)), 5, 3)
 refused("5 goes before 7: a 41st strip", M + STRIP * 40 + field(0x11, word(0, 1, 1)), 5, 6 + 7 * 40)

@@ -10,12 +10,12 @@ use mathlib.Core.List.{List, _++_}
 use lib.ListN.{length, drop}
 use native.Mathlib.Omega.{arith}
 use Rattle.sheet.specs.Limits.{ceiling, mostStations, tableLength, planLength, pageLength}
-use Rattle.sheet.specs.Tags.{mosaicStripTag}
+use Rattle.sheet.specs.Tags.{mosaicHeadTag, mosaicStripTag, sortingHeadTag, sortingStripTag, flightHeadTag, flightBlockTag, flightOrderTag}
 use Rattle.sheet.specs.Refusals.{outOfRange, orderImpossible, bufferTooSmall, layoutWrong, figureUntrue, timeTooLarge, timeOfZero}
 use Rattle.sheet.specs.Read.{readSheet}
 use Rattle.sheet.specs.Theorems.{read-sound}
 use Rattle.sheet.specs.Among.{Among}
-use Rattle.sheet.specs.FieldTable.{FieldRow, fieldTable, lengthOf, lengthsDue, Value}
+use Rattle.sheet.specs.FieldTable.{TableRow, fieldTable, lengthOf, Value}
 use Rattle.sheet.specs.Causes.{CountOutOfRange, TimeTooLarge, TimeOfZero}
 use Rattle.sheet.specs.Table.{RefusedFor, RefusedForValue}
 use Rattle.sheet.specs.Refused.{sound-exactly}
@@ -25,8 +25,8 @@ use Rattle.sheet.specs.Stores.{length-zeros}
 use Rattle.sheet.specs.Sound.{SheetSound}
 use Rattle.sheet.specs.declared.FlightSection.{FlightSection}
 use Rattle.sheet.specs.declared.Sheet.{Sheet}
-use Rattle.sheet_lengths.specs.Lengths.{lengthsGiven}
-use Rattle.sheet_lengths.specs.Theorems.{row-length, strip-length-due, no-length}
+use Rattle.sheet_lengths.specs.Lengths.{GivesLength}
+use Rattle.sheet_lengths.specs.Theorems.{row-length, strip-length-due, no-length, other-tag-none, other-count-none}
 use Rattle.sheet_lengths.specs.declared.LengthDue.{LengthDue}
 use Rattle.sheet_lengths.specs.declared.LengthDue.the-variants.{Bytes, None}
 use Rattle.order.specs.Order.{Proper}
@@ -567,18 +567,25 @@ module _ (sheet plan page pageAfter : List ℕ) (r : Answer) (call : Paged sheet
   pub paged-sixteen : PagedForValue timeOfZero TimeOfZero
   paged-sixteen = paged-for-value timeOfZero TimeOfZero (omega arith) (judged-sixteen sheet plan (judged sheet plan) refl)
 
--- REQ 05. "However the length due is found now, make it one case for each tag and, for 11, each station count from 1 to 4." These are the cases of `length_due`
--- (crate sheet_lengths). The field table is `fieldTable` (crate sheet, FieldTable.antt), a list of rows; the length of a row is the sum of the widths of
--- its content. A call of `length_due`: a tag, the number of stations in the head of the mosaic, and the answer; `lengthsGiven` says what its cases mean.
-module _ (tag stations : ℕ) (due : LengthDue) (call : (desks : ℕ) → lengthsGiven due ≡ lengthsDue tag (fieldTable stations desks)) where
+-- REQ 05. "However the length due is found now, make it one case for each tag and, for 11, each station count from 1 to 4." These are the cases of
+-- `sheet_lengths::length_due`. The field table is `fieldTable` (sheet, FieldTable.antt), a list of rows; `lengthOf` a row's content is the sum of its widths.
+-- A call of `length_due`: a tag, the number of stations in the head of the mosaic, and the answer; `GivesLength` is its contract (sheet_lengths, Lengths.antt).
+module _ (tag stations : ℕ) (due : LengthDue) (call : GivesLength tag stations due) where
   -- "Show that the cases give the field table's length for each tag in it"
-  pub length-by-list : (desks : ℕ) (r : FieldRow) → Among r (fieldTable stations desks) → tag ≡ r .tag → due ≡ Bytes (lengthOf (r .content))
+  pub length-by-list : (desks : ℕ) (r : TableRow) → Among r (fieldTable stations desks) → tag ≡ r .tag → due ≡ Bytes (lengthOf (r .content))
   length-by-list = row-length tag stations due call
 
-  -- for 11 this is, with 1 to 4 stations, two bytes for each of them and two for the bench
+  -- for 11 this is, with 1 to 4 stations, two bytes for each of them and two for the bench; with any other number there is none
   pub length-of-a-strip : tag ≡ mosaicStripTag → 1 ≤ stations → stations ≤ mostStations → due ≡ Bytes (2 * stations + 2)
   length-of-a-strip = strip-length-due tag stations due call
 
-  -- "and none for any other": for a tag that is in no row
-  pub no-length-outside-the-table : (desks : ℕ) → ((r : FieldRow) → Among r (fieldTable stations desks) → tag ≡ r .tag → ⊥) → due ≡ None
+  pub no-length-of-a-strip : tag ≡ mosaicStripTag → (1 ≤ stations → stations ≤ mostStations → ⊥) → due ≡ None
+  no-length-of-a-strip = other-count-none tag stations due call
+
+  -- "and none for any other": for a tag that is in no row, and so for every tag but 10, 11, 20, 21, 30, 31 and 32
+  pub no-length-outside-the-table : (desks : ℕ) → ((r : TableRow) → Among r (fieldTable stations desks) → tag ≡ r .tag → ⊥) → due ≡ None
   no-length-outside-the-table = no-length tag stations due call
+
+  pub no-length-of-another-tag : (tag ≡ mosaicHeadTag → ⊥) → (tag ≡ mosaicStripTag → ⊥) → (tag ≡ sortingHeadTag → ⊥) → (tag ≡ sortingStripTag → ⊥)
+      → (tag ≡ flightHeadTag → ⊥) → (tag ≡ flightBlockTag → ⊥) → (tag ≡ flightOrderTag → ⊥) → due ≡ None
+  no-length-of-another-tag = other-tag-none tag stations due call

@@ -34,7 +34,7 @@ false-not-among n [] e a = a
 false-not-among n (m ∷ numbers) e (inl h) = true≢false (sym (eq-eqb m n (sym h)) ∙ neither (eqb m n) (isAmong n numbers) e .0)
 false-not-among n (m ∷ numbers) e (inr a) = false-not-among n numbers (neither (eqb m n) (isAmong n numbers) e .1) a
 
--- what is not shut out stands there
+-- a number that cannot be missing from a list is among its numbers
 pub among-else : (n : ℕ) (numbers : List ℕ) → ((Among n numbers → ⊥) → ⊥) → Among n numbers
 among-else n numbers h = go (isAmong n numbers) refl
   where

@@ -16,7 +16,7 @@ use Rattle.sheet.specs.Refusals.{fieldCut, tagNotPermitted, lengthWrong,
 use Rattle.sheet.specs.Refusals.{timeTooLarge, timeOfZero}
 use Rattle.sheet.specs.Sections.{noSection, inMosaic, inSorting, inFlight, stripsOfDesk}
 use Rattle.sheet.specs.Among.{Among}
-use Rattle.sheet.specs.FieldTable.{tableOf, lengthsDue, fieldValues, Value, Within}
+use Rattle.sheet.specs.FieldTable.{TableRow, tableOf, lengthsDue, fieldValues, Value, Within}
 use Rattle.sheet.specs.FieldTable.Range.{count, time, positiveTime, noRange}
 use Rattle.sheet.specs.FieldTable.Value.{value}
 use Rattle.sheet.specs.Rows.{Row, row}
@@ -59,6 +59,10 @@ pub data Permitted (tag section members : ℕ) : Type 0 where
   flight-block : tag ≡ flightBlockTag → section ≡ inFlight → Permitted tag section members
   flight-order : tag ≡ flightOrderTag → section ≡ inFlight → 1 ≤ members → Permitted tag section members
 
+-- 5: "length wrong for the tag": not among those that the field table has for it
+abbrev pub LengthWrong : ℕ → ℕ → List TableRow → Type 0
+LengthWrong len tag table = Among len (lengthsDue tag table) → ⊥
+
 -- 6: "value out of its range", of a count: "Keep 6 for station, desk and other counts" (02, Req 04)
 unfoldable pub CountOutOfRange : Value → Type 0
 CountOutOfRange (value (count least most) number) = (number < least) ⊎ (most < number)
@@ -98,8 +102,8 @@ pub record OrderNotProper (tag blocks order : ℕ) : Type 0 where
   pub improper : Proper blocks order → ⊥
 
 -- The rows that a field of a tag and a content length is checked for, in the order of the checks: "each field for 3, then 8 or 10 if its tag ends the section
--- before, then 4, 5, 6, 7, 9"; 15 and 16 "both in the place of 6". At most one of these three causes lies in a field, so their order among themselves
--- decides nothing. "Place is the offset of the tag of the field named": the head of the section for 8 and 10, else the field.
+-- before, then 4, 5, 6, 7, 9"; 15 and 16 "both in the place of 6". At most one of the causes of 6, 15 and 16 lies in a field, and none where its length
+-- is wrong, because such a field has no values; so their order among themselves and behind 5 decides nothing. "Place is the offset of the tag of the field named": the head of the section for 8 and 10, else the field.
 abbrev pub cutRow : List ℕ → Reading → Row
 cutRow s st = row fieldCut (st .at) (FieldCut s (st .at))
 
@@ -110,7 +114,7 @@ fieldRows s st tag len =
     ∷ row noMembers (st .head) (NoMembers tag (st .section) (st .members))
     ∷ row orderMissing (st .head) (OrderMissing tag (st .section) (st .members))
     ∷ row tagNotPermitted (st .at) (Permitted tag (st .section) (st .members) → ⊥)
-    ∷ row lengthWrong (st .at) (Among len (lengthsDue tag (tableOf st)) → ⊥)
+    ∷ row lengthWrong (st .at) (LengthWrong len tag (tableOf st))
     ∷ row outOfRange (st .at) (FirstOut CountOutOfRange values)
     ∷ row timeTooLarge (st .at) (FirstOut TimeTooLarge values)
     ∷ row timeOfZero (st .at) (FirstOut TimeOfZero values)

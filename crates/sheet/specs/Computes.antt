@@ -7,7 +7,7 @@ use Rattle.field.specs.Field.{fieldAt, fieldBytes}
 use Rattle.sheet.specs.Sections.{stripsOfDesk}
 use Rattle.sheet.specs.Among.{isAmong}
 use Rattle.sheet.specs.FieldTable.{mosaicHead, mosaicStrip, sortingHead, sortingStrip, flightHead, flightBlock, flightOrder, isStationCount, stripRows}
-use Rattle.sheet.specs.FieldTable.{fieldTable, lengthOf, contentsOf, lengthsOf, lengthsDue, ofLength, numbersAt, valuesOf, fieldValues}
+use Rattle.sheet.specs.FieldTable.{fieldTable, lengthOf, contentsOf, lengthsOf, lengthsDue, ofLength, numbersAt, valuesOf, contentValues, fieldValues}
 use Rattle.sheet.specs.Rows.{firstFailure}
 use Rattle.sheet.specs.Checks.{endsSection, sectionFilled, fewBlocks, orderGiven, orderPermitted, permitted}
 use Rattle.sheet.specs.Checks.{countNumber, timeNumber, valueNumber, valueNumbers, rangeNumber, hasRoom, orderProper}
@@ -21,7 +21,7 @@ unfoldable pub sheetComputes : Unit {0}
 unfolding
     seconds firsts neverMoreSeconds isProper numberAt bytesOf fieldAt fieldBytes check
     mosaicHead mosaicStrip sortingHead sortingStrip flightHead flightBlock flightOrder isStationCount stripRows fieldTable
-    lengthOf contentsOf lengthsOf lengthsDue ofLength isAmong numbersAt valuesOf fieldValues
+    lengthOf contentsOf lengthsOf lengthsDue ofLength isAmong numbersAt valuesOf contentValues fieldValues
     endsSection sectionFilled fewBlocks orderGiven orderPermitted permitted firstFailure countNumber timeNumber valueNumber valueNumbers rangeNumber
     hasRoom stripsOfDesk orderProper
     zeros noMosaic noSorting noFlight withMosaicHead withStationTimes withMosaicStrip withSortingHead withStripAt withSortingStrip withBlock withOrder

@@ -1,8 +1,8 @@
 -- The field table by tag: the content that it has for each, and that a field of a length that is due has the values of that content.
--- The idea: for a tag that is known the table computes, but for the row of a mosaic strip, which is there or not by the number of stations.
+-- The idea: for a tag that is known the table computes. Only the row of a mosaic strip does not: it is there or not by the number of stations.
 use Prim.Native.Nat.{ℕ, zero, suc, _+_, _*_, _≤_}
-use mathlib.Core.Path.{_≡_, refl, sym, ap, subst, _∙_}
-use mathlib.Core.Bool.{Bool, true, false, cond}
+use mathlib.Core.Path.{_≡_, refl, sym, ap, ap₂, subst, _∙_}
+use mathlib.Core.Bool.{Bool, true, false, cond, _&&_}
 use mathlib.Core.List.{List, [], _∷_, _++_}
 use mathlib.Core.Logic.{inl, inr}
 use native.Mathlib.Omega.{arith}
@@ -13,38 +13,43 @@ use Rattle.field.specs.Bytes.{numberAt}
 use Rattle.sheet.specs.Limits.{mostStations, mostTime}
 use Rattle.sheet.specs.Tags.{mosaicHeadTag, mosaicStripTag, sortingHeadTag, sortingStripTag, flightHeadTag, flightBlockTag, flightOrderTag}
 use Rattle.sheet.specs.Among.{Among}
-use Rattle.sheet.specs.FieldTable.{Item, FieldRow, fieldRow, mosaicHead, mosaicStrip, sortingHead, sortingStrip, flightHead, flightBlock, flightOrder}
-use Rattle.sheet.specs.FieldTable.{isStationCount, stripRows, fieldTable, lengthOf, contentsOf, lengthsOf, lengthsDue, ofLength, Value, numbersAt, valuesOf, fieldValues}
+use Rattle.sheet.specs.FieldTable.{Item, TableRow, tableRow, mosaicHead, mosaicStrip, sortingHead, sortingStrip, flightHead, flightBlock, flightOrder}
+use Rattle.sheet.specs.FieldTable.{isStationCount, stripRows, fieldTable, lengthOf, contentsOf, lengthsOf, lengthsDue, ofLength, Value, numbersAt, valuesOf}
+use Rattle.sheet.specs.FieldTable.{contentValues, fieldValues}
 use Rattle.sheet.specs.FieldTable.Range.{time, positiveTime}
 use Rattle.sheet.specs.FieldTable.Value.{value}
 
 -- a station count is 1 to 4
+is-count : (stations : ℕ) → 1 ≤ stations → stations ≤ mostStations → isStationCount stations ≡ true
+unfolding isStationCount
+is-count stations lo hi = ap₂ _&&_ (le-leb 1 stations lo) (le-leb stations mostStations hi)
+
 pub count-bounds : (stations : ℕ) → isStationCount stations ≡ true → (1 ≤ stations) × (stations ≤ mostStations)
 unfolding isStationCount
 count-bounds stations e = let p = both _ _ e in (leb-true 1 stations (p .0), leb-true stations mostStations (p .1))
 
--- the row of a strip bears on no other tag ..
-past-strip : (tag stations : ℕ) (rows : List FieldRow) → (tag ≡ mosaicStripTag → ⊥) → contentsOf tag (stripRows stations ++ rows) ≡ contentsOf tag rows
+-- the row of a strip changes nothing for another tag ..
+past-strip : (tag stations : ℕ) (rows : List TableRow) → (tag ≡ mosaicStripTag → ⊥) → contentsOf tag (stripRows stations ++ rows) ≡ contentsOf tag rows
 unfolding stripRows contentsOf
 past-strip tag stations rows h = go (isStationCount stations)
   where
-    go : (b : Bool) → contentsOf tag (cond b (fieldRow mosaicStripTag (mosaicStrip stations) ∷ []) [] ++ rows) ≡ contentsOf tag rows
+    go : (b : Bool) → contentsOf tag (cond b (tableRow mosaicStripTag (mosaicStrip stations) ∷ []) [] ++ rows) ≡ contentsOf tag rows
     go true = rw (ne-eqb tag mosaicStripTag h) refl
     go false = refl
 
 -- .. and is there for 1 to 4 stations
-at-strip : (stations : ℕ) (rows : List FieldRow) → 1 ≤ stations → stations ≤ mostStations
+at-strip : (stations : ℕ) (rows : List TableRow) → 1 ≤ stations → stations ≤ mostStations
     → contentsOf mosaicStripTag (stripRows stations ++ rows) ≡ mosaicStrip stations ∷ contentsOf mosaicStripTag rows
-unfolding stripRows isStationCount contentsOf
-at-strip stations rows lo hi = rw (le-leb 1 stations lo, le-leb stations mostStations hi)
+unfolding stripRows contentsOf
+at-strip stations rows lo hi = rw (is-count stations lo hi)
 
-no-strip : (stations : ℕ) (rows : List FieldRow) → (1 ≤ stations → stations ≤ mostStations → ⊥)
+no-strip : (stations : ℕ) (rows : List TableRow) → (1 ≤ stations → stations ≤ mostStations → ⊥)
     → contentsOf mosaicStripTag (stripRows stations ++ rows) ≡ contentsOf mosaicStripTag rows
 unfolding stripRows
 no-strip stations rows h = go (isStationCount stations) refl
   where
     go : (b : Bool) → isStationCount stations ≡ b
-        → contentsOf mosaicStripTag (cond b (fieldRow mosaicStripTag (mosaicStrip stations) ∷ []) [] ++ rows) ≡ contentsOf mosaicStripTag rows
+        → contentsOf mosaicStripTag (cond b (tableRow mosaicStripTag (mosaicStrip stations) ∷ []) [] ++ rows) ≡ contentsOf mosaicStripTag rows
     go true e = let p = count-bounds stations e in absurd (h (p .0) (p .1))
     go false e = refl
 
@@ -105,10 +110,10 @@ module _ (stations desks : ℕ) where
 
 -- the length of each row is due for its tag, and for a tag of no row none is
 module _ (tag : ℕ) where
-  pub row-due : (table : List FieldRow) (r : FieldRow) → Among r table → tag ≡ r .tag → Among (lengthOf (r .content)) (lengthsDue tag table)
+  pub row-due : (table : List TableRow) (r : TableRow) → Among r table → tag ≡ r .tag → Among (lengthOf (r .content)) (lengthsDue tag table)
   unfolding Among lengthsDue contentsOf lengthsOf
   row-due [] r a e = absurd a
-  row-due (q ∷ table) r (inl h) e = rw (eq-eqb tag (q .tag) (e ∙ ap (λ (x : FieldRow). x .tag) h)) (inl (ap (λ (x : FieldRow). lengthOf (x .content)) h))
+  row-due (q ∷ table) r (inl h) e = rw (eq-eqb tag (q .tag) (e ∙ ap (λ (x : TableRow). x .tag) h)) (inl (ap (λ (x : TableRow). lengthOf (x .content)) h))
   row-due (q ∷ table) r (inr a) e = behind (eqb tag (q .tag)) (row-due table r a e)
     where
       behind : (b : Bool) → Among (lengthOf (r .content)) (lengthsOf (contentsOf tag table))
@@ -116,13 +121,13 @@ module _ (tag : ℕ) where
       behind true a = inr a
       behind false a = a
 
-  pub none-due : (table : List FieldRow) → ((r : FieldRow) → Among r table → tag ≡ r .tag → ⊥) → lengthsDue tag table ≡ []
+  pub no-row-due : (table : List TableRow) → ((r : TableRow) → Among r table → tag ≡ r .tag → ⊥) → lengthsDue tag table ≡ []
   unfolding Among lengthsDue contentsOf lengthsOf
-  none-due [] none = refl
-  none-due (q ∷ table) none = rw (ne-eqb tag (q .tag) (none q (inl refl))) (none-due table (λ r a. none r (inr a)))
+  no-row-due [] none = refl
+  no-row-due (q ∷ table) none = rw (ne-eqb tag (q .tag) (none q (inl refl))) (no-row-due table (λ r a. none r (inr a)))
 
 -- where a tag has one content, a field of a length that is due has the values of that content
-module _ (s : List ℕ) (c tag len : ℕ) (table : List FieldRow) (content : List Item) (one : contentsOf tag table ≡ content ∷ [])
+module _ (s : List ℕ) (c tag len : ℕ) (table : List TableRow) (content : List Item) (one : contentsOf tag table ≡ content ∷ [])
     (due : Among len (lengthsDue tag table)) where
   sole-length : len ≡ lengthOf content
   unfolding lengthsDue lengthsOf Among
@@ -132,84 +137,88 @@ module _ (s : List ℕ) (c tag len : ℕ) (table : List FieldRow) (content : Lis
       only (inl e) = e
       only (inr a) = absurd a
 
-  sole-values : fieldValues s c tag len table ≡ valuesOf content (numbersAt s c content)
+  sole-values : fieldValues s c tag len table ≡ contentValues s c content
   unfolding fieldValues ofLength
-  sole-values = ap (λ items. valuesOf items (numbersAt s c items)) (ap (ofLength len) one ∙ found)
+  sole-values = ap (contentValues s c) (ap (ofLength len) one ∙ found)
     where
       found : cond (eqb len (lengthOf content)) content [] ≡ content
       found = rw (eq-eqb len (lengthOf content) sole-length)
 
 -- the values of a strip from station k on, of which n are left: the station times, and the bench time behind them
 unfoldable pub stripFrom : List ℕ → ℕ → ℕ → ℕ → List Value
-stripFrom s c k n = valuesOf (mosaicStrip n) (numbersAt s (c + 2 * k) (mosaicStrip n))
+stripFrom s c k n = contentValues s (c + 2 * k) (mosaicStrip n)
 
 module _ (s : List ℕ) (c k : ℕ) where
+  pub strip-from-start : contentValues s c (mosaicStrip k) ≡ stripFrom s c 0 k
+  unfolding stripFrom
+  strip-from-start = ap (λ at. contentValues s at (mosaicStrip k)) (omega arith)
+
   pub strip-bench-left : stripFrom s c k 0 ≡ value (positiveTime mostTime) (numberAt s (c + 2 * k) 2) ∷ []
-  unfolding stripFrom mosaicStrip numbersAt valuesOf
+  unfolding stripFrom contentValues mosaicStrip numbersAt valuesOf
   strip-bench-left = refl
 
   pub strip-time-left : (n : ℕ) → stripFrom s c k (suc n) ≡ value (time mostTime) (numberAt s (c + 2 * k) 2) ∷ stripFrom s c (k + 1) n
-  unfolding stripFrom mosaicStrip numbersAt valuesOf
+  unfolding stripFrom contentValues mosaicStrip numbersAt valuesOf
   strip-time-left n =
-      ap (λ at. value (time mostTime) (numberAt s (c + 2 * k) 2) ∷ valuesOf (mosaicStrip n) (numbersAt s at (mosaicStrip n))) (omega arith)
+      ap (λ at. value (time mostTime) (numberAt s (c + 2 * k) 2) ∷ contentValues s at (mosaicStrip n)) (omega arith)
 
--- for any other number of stations no length of a strip is due
+-- where the table has no content for a tag, no length is due for it; so it is with a strip where the number of stations is not 1 to 4
+pub none-due : (len tag : ℕ) (table : List TableRow) → contentsOf tag table ≡ [] → Among len (lengthsDue tag table) → ⊥
+unfolding lengthsDue lengthsOf Among
+none-due len tag table e a = rw e at a
+
 no-strip-due : (len stations desks : ℕ) → isStationCount stations ≡ false
     → Among len (lengthsDue mosaicStripTag (fieldTable stations desks)) → ⊥
-unfolding lengthsDue fieldTable stripRows contentsOf lengthsOf Among
-no-strip-due len stations desks e a = rw e at a
+unfolding fieldTable stripRows contentsOf
+no-strip-due len stations desks e = none-due len mosaicStripTag (fieldTable stations desks) (rw e refl)
+
+pub strip-stations : (len stations desks : ℕ) → Among len (lengthsDue mosaicStripTag (fieldTable stations desks)) → (1 ≤ stations) × (stations ≤ mostStations)
+strip-stations len stations desks due = go (isStationCount stations) refl
+  where
+    go : (b : Bool) → isStationCount stations ≡ b → (1 ≤ stations) × (stations ≤ mostStations)
+    go true e = count-bounds stations e
+    go false e = absurd (no-strip-due len stations desks e due)
 
 -- the values of a field by its tag
 module _ (s : List ℕ) (c len stations desks : ℕ) where
   pub mosaic-head-values : Among len (lengthsDue mosaicHeadTag (fieldTable stations desks))
       → fieldValues s c mosaicHeadTag len (fieldTable stations desks) ≡ valuesOf mosaicHead (numberAt s c 1 ∷ numberAt s (c + 1) 2 ∷ [])
-  unfolding mosaicHead numbersAt
+  unfolding contentValues mosaicHead numbersAt
   mosaic-head-values due = sole-values s c mosaicHeadTag len _ mosaicHead (mosaic-head-content stations desks) due
 
   pub mosaic-strip-values : Among len (lengthsDue mosaicStripTag (fieldTable stations desks))
-      → fieldValues s c mosaicStripTag len (fieldTable stations desks) ≡ stripFrom s c 0 stations
-  unfolding stripFrom
-  mosaic-strip-values due = go (isStationCount stations) refl
-    where
-      from-start : (content : List Item) → valuesOf content (numbersAt s c content) ≡ valuesOf content (numbersAt s (c + 2 * 0) content)
-      from-start content = ap (λ at. valuesOf content (numbersAt s at content)) (omega arith)
-
-      go : (b : Bool) → isStationCount stations ≡ b
-          → fieldValues s c mosaicStripTag len (fieldTable stations desks) ≡ stripFrom s c 0 stations
-      go true e =
-          let h = count-bounds stations e in
-          sole-values s c mosaicStripTag len _ (mosaicStrip stations)
-          (mosaic-strip-content stations desks (h .0) (h .1)) due
-          ∙ from-start (mosaicStrip stations)
-      go false e = absurd (no-strip-due len stations desks e due)
+      → fieldValues s c mosaicStripTag len (fieldTable stations desks) ≡ contentValues s c (mosaicStrip stations)
+  mosaic-strip-values due =
+      let h = strip-stations len stations desks due in
+      sole-values s c mosaicStripTag len _ (mosaicStrip stations) (mosaic-strip-content stations desks (h .0) (h .1)) due
 
   pub sorting-head-values : Among len (lengthsDue sortingHeadTag (fieldTable stations desks))
       → fieldValues s c sortingHeadTag len (fieldTable stations desks) ≡ valuesOf sortingHead (numberAt s c 1 ∷ [])
-  unfolding sortingHead numbersAt
+  unfolding contentValues sortingHead numbersAt
   sorting-head-values due = sole-values s c sortingHeadTag len _ sortingHead (sorting-head-content stations desks) due
 
   pub sorting-strip-values : Among len (lengthsDue sortingStripTag (fieldTable stations desks))
       → fieldValues s c sortingStripTag len (fieldTable stations desks)
       ≡ valuesOf (sortingStrip desks) (numberAt s c 1 ∷ numberAt s (c + 1) 2 ∷ numberAt s (c + 3) 2 ∷ [])
-  unfolding sortingStrip numbersAt
+  unfolding contentValues sortingStrip numbersAt
   sorting-strip-values due =
       sole-values s c sortingStripTag len _ (sortingStrip desks) (sorting-strip-content stations desks) due
       ∙ ap (λ at. valuesOf (sortingStrip desks) (numberAt s c 1 ∷ numberAt s (c + 1) 2 ∷ numberAt s at 2 ∷ [])) (omega arith)
 
   pub flight-head-values : Among len (lengthsDue flightHeadTag (fieldTable stations desks))
       → fieldValues s c flightHeadTag len (fieldTable stations desks) ≡ []
-  unfolding flightHead numbersAt valuesOf
+  unfolding contentValues flightHead numbersAt valuesOf
   flight-head-values due = sole-values s c flightHeadTag len _ flightHead (flight-head-content stations desks) due
 
   pub flight-block-values : Among len (lengthsDue flightBlockTag (fieldTable stations desks))
       → fieldValues s c flightBlockTag len (fieldTable stations desks)
       ≡ valuesOf flightBlock (numberAt s c 2 ∷ numberAt s (c + 2) 2 ∷ numberAt s (c + 4) 2 ∷ [])
-  unfolding flightBlock numbersAt
+  unfolding contentValues flightBlock numbersAt
   flight-block-values due =
       sole-values s c flightBlockTag len _ flightBlock (flight-block-content stations desks) due
       ∙ ap (λ at. valuesOf flightBlock (numberAt s c 2 ∷ numberAt s (c + 2) 2 ∷ numberAt s at 2 ∷ [])) (omega arith)
 
   pub flight-order-values : Among len (lengthsDue flightOrderTag (fieldTable stations desks))
       → fieldValues s c flightOrderTag len (fieldTable stations desks) ≡ valuesOf flightOrder (numberAt s c 8 ∷ [])
-  unfolding flightOrder numbersAt
+  unfolding contentValues flightOrder numbersAt
   flight-order-values due = sole-values s c flightOrderTag len _ flightOrder (flight-order-content stations desks) due

@@ -56,74 +56,81 @@ unfoldable pub flightOrder : List Item
 flightOrder = item 8 noRange ∷ []
 
 -- A row of the table: a tag and what its content is.
-pub record FieldRow : Type 0 where
+pub record TableRow : Type 0 where
   pub tag : ℕ
   pub content : List Item
 
-abbrev pub fieldRow : ℕ → List Item → FieldRow
-fieldRow tag content = record { tag = tag; content = content }
+abbrev pub tableRow : ℕ → List Item → TableRow
+tableRow tag content = record { tag = tag; content = content }
 
 -- The row of a mosaic strip, which is there for the station counts that a mosaic head may have, 1 to 4.
 unfoldable pub isStationCount : ℕ → Bool
 isStationCount stations = leb 1 stations && leb stations mostStations
 
-unfoldable pub stripRows : ℕ → List FieldRow
-stripRows stations = cond (isStationCount stations) (fieldRow mosaicStripTag (mosaicStrip stations) ∷ []) []
+unfoldable pub stripRows : ℕ → List TableRow
+stripRows stations = cond (isStationCount stations) (tableRow mosaicStripTag (mosaicStrip stations) ∷ []) []
 
 -- The table, with so many stations in the head of the mosaic and so many desks in that of the sorting.
-unfoldable pub fieldTable : ℕ → ℕ → List FieldRow
+unfoldable pub fieldTable : ℕ → ℕ → List TableRow
 fieldTable stations desks =
-    fieldRow mosaicHeadTag mosaicHead
+    tableRow mosaicHeadTag mosaicHead
     ∷ (stripRows stations
-    ++ (fieldRow sortingHeadTag sortingHead
-    ∷ fieldRow sortingStripTag (sortingStrip desks)
-    ∷ fieldRow flightHeadTag flightHead
-    ∷ fieldRow flightBlockTag flightBlock
-    ∷ fieldRow flightOrderTag flightOrder
+    ++ (tableRow sortingHeadTag sortingHead
+    ∷ tableRow sortingStripTag (sortingStrip desks)
+    ∷ tableRow flightHeadTag flightHead
+    ∷ tableRow flightBlockTag flightBlock
+    ∷ tableRow flightOrderTag flightOrder
     ∷ []))
 
 -- the table where a reading stands: with the stations and the desks of the heads before
-abbrev pub tableOf : Reading → List FieldRow
+abbrev pub tableOf : Reading → List TableRow
 tableOf st = fieldTable (st .mosaic .stations) (st .sorting .desks)
 
--- the length of a content: the sum of its widths
+-- The length of a content: the sum of its widths.
 unfoldable pub lengthOf : List Item → ℕ
 lengthOf [] = 0
 lengthOf (i ∷ content) = i .width + lengthOf content
 
--- the contents that the table has for a tag, none for a tag outside it; the lengths that are due for the tag are theirs
-unfoldable pub contentsOf : ℕ → List FieldRow → List (List Item)
+-- the contents that the table has for a tag: today one for each tag in it, and none for a tag outside it
+unfoldable pub contentsOf : ℕ → List TableRow → List (List Item)
 contentsOf tag [] = []
 contentsOf tag (r ∷ table) = cond (eqb tag (r .tag)) (r .content ∷ contentsOf tag table) (contentsOf tag table)
 
+-- the lengths of several contents
 unfoldable pub lengthsOf : List (List Item) → List ℕ
 lengthsOf [] = []
 lengthsOf (content ∷ contents) = lengthOf content ∷ lengthsOf contents
 
-unfoldable pub lengthsDue : ℕ → List FieldRow → List ℕ
+-- the lengths that are due for a tag
+unfoldable pub lengthsDue : ℕ → List TableRow → List ℕ
 lengthsDue tag table = lengthsOf (contentsOf tag table)
 
--- of several contents the one of a length
+-- of several contents the one of a length; no content where none has it
 unfoldable pub ofLength : ℕ → List (List Item) → List Item
 ofLength len [] = []
 ofLength len (content ∷ contents) = cond (eqb len (lengthOf content)) content (ofLength len contents)
 
--- A value is a number with its range. The numbers of a content that begins at an offset c of the sheet s stand one behind the other.
+-- A value is a number with its range.
 pub data Value : Type 0 where
   value : Range → ℕ → Value
 
+-- the numbers of a content that begins at an offset c of the sheet s: they stand one behind the other
 unfoldable pub numbersAt : List ℕ → ℕ → List Item → List ℕ
 numbersAt s c [] = []
 numbersAt s c (i ∷ content) = numberAt s c (i .width) ∷ numbersAt s (c + i .width) content
 
+-- the values of a content: its numbers with their ranges
 unfoldable pub valuesOf : List Item → List ℕ → List Value
 valuesOf [] numbers = []
 valuesOf (i ∷ content) [] = []
 valuesOf (i ∷ content) (n ∷ numbers) = value (i .range) n ∷ valuesOf content numbers
 
--- the values of a field of a tag and a content length
-unfoldable pub fieldValues : List ℕ → ℕ → ℕ → ℕ → List FieldRow → List Value
-fieldValues s c tag len table = let content : List Item = ofLength len (contentsOf tag table) in valuesOf content (numbersAt s c content)
+unfoldable pub contentValues : List ℕ → ℕ → List Item → List Value
+contentValues s c content = valuesOf content (numbersAt s c content)
+
+-- the values of a field of a tag and a content length: those of the content of that length, and none where no content of the tag has it
+unfoldable pub fieldValues : List ℕ → ℕ → ℕ → ℕ → List TableRow → List Value
+fieldValues s c tag len table = contentValues s c (ofLength len (contentsOf tag table))
 
 -- a number from `least` to `most`
 pub record Between (least number most : ℕ) : Type 0 where

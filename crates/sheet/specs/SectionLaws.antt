@@ -10,10 +10,11 @@ use Rattle.field.specs.Bytes.{numberAt}
 use Rattle.order.specs.Order.{Proper}
 use Rattle.sheet.specs.Limits.{mostStations, mostDesks, mostTime, mostStrips, mostStripsOfDesk, mostBlocks}
 use Rattle.sheet.specs.Sections.{stripsOfDesk}
-use Rattle.sheet.specs.FieldTable.{mosaicHead, sortingHead, sortingStrip, flightBlock, valuesOf, Between, Within, InRange}
+use Rattle.sheet.specs.FieldTable.{mosaicHead, mosaicStrip, sortingHead, sortingStrip, flightBlock, valuesOf, contentValues}
+use Rattle.sheet.specs.FieldTable.{Between, Within, InRange}
 use Rattle.sheet.specs.FieldTable.Range.{time}
 use Rattle.sheet.specs.FieldTable.Value.{value}
-use Rattle.sheet.specs.Contents.{stripFrom, strip-bench-left, strip-time-left}
+use Rattle.sheet.specs.Contents.{stripFrom, strip-from-start, strip-bench-left, strip-time-left}
 use Rattle.sheet.specs.Decode.{zeros, noMosaic, noSorting, noFlight, withMosaicHead, withStationTimes, withMosaicStrip, withSortingHead, withStripAt}
 use Rattle.sheet.specs.Decode.{withSortingStrip, withBlock, withOrder}
 use Rattle.sheet.specs.Sound.{MosaicSound, SortingSound, FlightWithin, stripsInAll}
@@ -86,10 +87,11 @@ module _ (s : List ℕ) (c : ℕ) where
       bench-at e = omega arith
   strip-bench (suc n) k b e r = strip-bench n (k + 1) b (omega arith) (others-within _ _ (subst InRange (strip-time-left s c k n) r))
 
-pub mosaic-strip-sound : (s : List ℕ) (c : ℕ) (m : MosaicSection) → MosaicSound m → m .strips < mostStrips → InRange (stripFrom s c 0 (m .stations))
+pub mosaic-strip-sound : (s : List ℕ) (c : ℕ) (m : MosaicSection) → MosaicSound m → m .strips < mostStrips → InRange (contentValues s c (mosaicStrip (m .stations)))
     → MosaicSound (withMosaicStrip s c m)
 unfolding withMosaicStrip
-mosaic-strip-sound s c m h room r =
+mosaic-strip-sound s c m h room q =
+    let r = subst InRange (strip-from-start s c (m .stations)) q in
     let b = strip-bench s c (m .stations) 0 (m .stations) (omega arith) r in
     let long = h .bench-length in
     record {

@@ -16,17 +16,24 @@ use Rattle.sheet.specs.FieldTable.{fieldTable, lengthsDue}
 use Rattle.sheet.specs.Checks.{hasRoom, orderProper}
 use Rattle.sheet.specs.Rows.{firstFailure}
 use Rattle.sheet.specs.RowLaws.{given-fails, given-passes, test-fails, test-passes}
-use Rattle.sheet_lengths.specs.Lengths.{lengthsGiven}
+use Rattle.sheet_lengths.specs.Lengths.{lengthsGiven, GivesLength}
 use Rattle.sheet_lengths.specs.declared.LengthDue.{LengthDue}
 
--- a length that is compared with the one that is due is compared with those of the table
-module _ (len tag stations desks : ℕ) (due : LengthDue) (x : Bool)
-    (d : (desks : ℕ) → lengthsGiven due ≡ lengthsDue tag (fieldTable stations desks)) (e : x ≡ isAmong len (lengthsGiven due)) where
+-- the length, by the one that is due
+module _ (len tag stations desks : ℕ) (due : LengthDue) (x : Bool) (d : GivesLength tag stations due) (e : x ≡ isAmong len (lengthsGiven due)) where
   tested : (b : Bool) → x ≡ b → isAmong len (lengthsDue tag (fieldTable stations desks)) ≡ b
   tested b h = ap (isAmong len) (sym (d desks)) ∙ sym e ∙ h
 
   pub length-among : not x ≡ false → Among len (lengthsDue tag (fieldTable stations desks))
   length-among h = true-among len _ (tested true (not-false x h))
+
+  pub length-fails : (checks : List ℕ) → not x ≡ true
+      → lengthWrong ≡ firstFailure (check (isAmong len (lengthsDue tag (fieldTable stations desks))) lengthWrong 0 ∷ checks)
+  length-fails checks h = test-fails checks _ lengthWrong tt (tested false (not-true x h))
+
+  pub length-passes : (checks : List ℕ) (r : ℕ) → not x ≡ false → r ≡ firstFailure checks
+      → r ≡ firstFailure (check (isAmong len (lengthsDue tag (fieldTable stations desks))) lengthWrong 0 ∷ checks)
+  length-passes checks r h p = test-passes checks _ lengthWrong r (tested true (not-false x h)) p
 
 module _ (checks : List ℕ) where
   -- a test that a callee answers
@@ -36,16 +43,6 @@ module _ (checks : List ℕ) where
 
     pub answer-passes : (number r : ℕ) → not x ≡ false → r ≡ firstFailure checks → r ≡ firstFailure (check b number 0 ∷ checks)
     answer-passes number r h p = test-passes checks b number r (sym e ∙ not-false x h) p
-
-  -- the length, by the one that is due
-  module _ (len tag stations desks : ℕ) (due : LengthDue) (x : Bool)
-      (d : (desks : ℕ) → lengthsGiven due ≡ lengthsDue tag (fieldTable stations desks)) (e : x ≡ isAmong len (lengthsGiven due)) where
-    pub length-fails : not x ≡ true → lengthWrong ≡ firstFailure (check (isAmong len (lengthsDue tag (fieldTable stations desks))) lengthWrong 0 ∷ checks)
-    length-fails h = test-fails checks _ lengthWrong tt (tested len tag stations desks due x d e false (not-true x h))
-
-    pub length-passes : (r : ℕ) → not x ≡ false → r ≡ firstFailure checks
-        → r ≡ firstFailure (check (isAmong len (lengthsDue tag (fieldTable stations desks))) lengthWrong 0 ∷ checks)
-    length-passes r h p = test-passes checks _ lengthWrong r (tested len tag stations desks due x d e true (not-false x h)) p
 
   -- the room for one member more, by the desk that was read
   module _ (s : List ℕ) (c tag members : ℕ) (counts : List ℕ) (desk n : ℕ) (y : Bool)

@@ -16,38 +16,42 @@ use Rattle.sheet.specs.Contents.{flight-head-content, flight-block-content, fli
 use Rattle.sheet_lengths.specs.declared.LengthDue.{LengthDue}
 use Rattle.sheet_lengths.specs.declared.LengthDue.the-variants.{Bytes, None}
 
--- the lengths that are due: this one, or none
+-- the lengths that an answer means. `Bytes n`: n alone is due. `None`: no length is due.
 unfoldable pub lengthsGiven : LengthDue → List ℕ
 lengthsGiven (Bytes n) = n ∷ []
 lengthsGiven None = []
 
+-- What `length_due` answers for a tag and a number of stations: the lengths of the tag's contents in the field table. No width depends on the number of desks.
+abbrev pub GivesLength : ℕ → ℕ → LengthDue → Type 0
+GivesLength tag stations due = (desks : ℕ) → lengthsGiven due ≡ lengthsDue tag (fieldTable stations desks)
+
 module _ (tag stations n : ℕ) where
-  pub mosaic-head-case : tag ≡ mosaicHeadTag → n ≡ 3 → (desks : ℕ) → lengthsGiven (Bytes n) ≡ lengthsDue tag (fieldTable stations desks)
+  pub mosaic-head-case : tag ≡ mosaicHeadTag → n ≡ 3 → GivesLength tag stations (Bytes n)
   unfolding lengthsGiven lengthsDue lengthsOf lengthOf mosaicHead
   mosaic-head-case e h desks = rw (e, h, mosaic-head-content stations desks)
 
   pub mosaic-strip-case : tag ≡ mosaicStripTag → 1 ≤ stations → stations ≤ mostStations → n ≡ 2 * stations + 2
-      → (desks : ℕ) → lengthsGiven (Bytes n) ≡ lengthsDue tag (fieldTable stations desks)
+      → GivesLength tag stations (Bytes n)
   unfolding lengthsGiven lengthsDue lengthsOf
   mosaic-strip-case e lo hi h desks = rw (e, h, mosaic-strip-content stations desks lo hi, strip-length stations)
 
-  pub sorting-head-case : tag ≡ sortingHeadTag → n ≡ 1 → (desks : ℕ) → lengthsGiven (Bytes n) ≡ lengthsDue tag (fieldTable stations desks)
+  pub sorting-head-case : tag ≡ sortingHeadTag → n ≡ 1 → GivesLength tag stations (Bytes n)
   unfolding lengthsGiven lengthsDue lengthsOf lengthOf sortingHead
   sorting-head-case e h desks = rw (e, h, sorting-head-content stations desks)
 
-  pub sorting-strip-case : tag ≡ sortingStripTag → n ≡ 5 → (desks : ℕ) → lengthsGiven (Bytes n) ≡ lengthsDue tag (fieldTable stations desks)
+  pub sorting-strip-case : tag ≡ sortingStripTag → n ≡ 5 → GivesLength tag stations (Bytes n)
   unfolding lengthsGiven lengthsDue lengthsOf lengthOf sortingStrip
   sorting-strip-case e h desks = rw (e, h, sorting-strip-content stations desks)
 
-  pub flight-head-case : tag ≡ flightHeadTag → n ≡ 0 → (desks : ℕ) → lengthsGiven (Bytes n) ≡ lengthsDue tag (fieldTable stations desks)
+  pub flight-head-case : tag ≡ flightHeadTag → n ≡ 0 → GivesLength tag stations (Bytes n)
   unfolding lengthsGiven lengthsDue lengthsOf lengthOf flightHead
   flight-head-case e h desks = rw (e, h, flight-head-content stations desks)
 
-  pub flight-block-case : tag ≡ flightBlockTag → n ≡ 6 → (desks : ℕ) → lengthsGiven (Bytes n) ≡ lengthsDue tag (fieldTable stations desks)
+  pub flight-block-case : tag ≡ flightBlockTag → n ≡ 6 → GivesLength tag stations (Bytes n)
   unfolding lengthsGiven lengthsDue lengthsOf lengthOf flightBlock
   flight-block-case e h desks = rw (e, h, flight-block-content stations desks)
 
-  pub flight-order-case : tag ≡ flightOrderTag → n ≡ 8 → (desks : ℕ) → lengthsGiven (Bytes n) ≡ lengthsDue tag (fieldTable stations desks)
+  pub flight-order-case : tag ≡ flightOrderTag → n ≡ 8 → GivesLength tag stations (Bytes n)
   unfolding lengthsGiven lengthsDue lengthsOf lengthOf flightOrder
   flight-order-case e h desks = rw (e, h, flight-order-content stations desks)
 
@@ -57,16 +61,16 @@ module _ (tag stations : ℕ) where
   unfolding lengthsGiven lengthsDue lengthsOf
   none-given desks e = rw e refl
 
+  pub other-count-case : tag ≡ mosaicStripTag → (1 ≤ stations → stations ≤ mostStations → ⊥) → GivesLength tag stations None
+  other-count-case e other desks = none-given desks (rw e (no-strip-content stations desks other))
+
   pub no-strip-case : tag ≡ mosaicStripTag → (stations ≡ 1 → ⊥) → (stations ≡ 2 → ⊥) → (stations ≡ 3 → ⊥) → (stations ≡ 4 → ⊥)
-      → (desks : ℕ) → lengthsGiven None ≡ lengthsDue tag (fieldTable stations desks)
-  no-strip-case e h₁ h₂ h₃ h₄ desks = none-given desks (rw e (no-strip-content stations desks other))
-    where
-      other : 1 ≤ stations → stations ≤ mostStations → ⊥
-      other lo hi = omega arith
+      → GivesLength tag stations None
+  no-strip-case e h₁ h₂ h₃ h₄ = other-count-case e (λ lo hi. omega arith)
 
   pub other-tag-case : (tag ≡ mosaicHeadTag → ⊥) → (tag ≡ mosaicStripTag → ⊥) → (tag ≡ sortingHeadTag → ⊥) → (tag ≡ sortingStripTag → ⊥)
       → (tag ≡ flightHeadTag → ⊥) → (tag ≡ flightBlockTag → ⊥) → (tag ≡ flightOrderTag → ⊥)
-      → (desks : ℕ) → lengthsGiven None ≡ lengthsDue tag (fieldTable stations desks)
+      → GivesLength tag stations None
   other-tag-case h₁ h₂ h₃ h₄ h₅ h₆ h₇ desks = none-given desks (no-content stations desks tag h₁ h₂ h₃ h₄ h₅ h₆ h₇)
 
 pub ruleset cases =

@@ -8,20 +8,18 @@ use sheet::tags::MOSAIC_STRIP;
 use sheet::tags::SORTING_HEAD;
 use sheet::tags::SORTING_STRIP;
 ghost use mathlib.Core.Path.{_≡_};
-ghost use Prim.Native.Nat.{ℕ};
 ghost use Rattle.sheet.specs.Among.{isAmong};
-ghost use Rattle.sheet.specs.FieldTable.{fieldTable, lengthsDue};
-ghost use Rattle.sheet_lengths.specs.Lengths.{lengthsGiven};
+ghost use Rattle.sheet_lengths.specs.Lengths.{lengthsGiven, GivesLength};
 
-// So many bytes are due, or there is no length that is: the tag is not in the table.
+// The length due: so many bytes, or none, because the tag is not in the table, or is that of a strip and no head has this number of stations.
 pub enum LengthDue {
     Bytes(usize),
     None,
 }
 
-// The length due for a tag, with so many stations in the mosaic's head; no length depends on the number of desks.
+// The length due for a tag, with so many stations in the mosaic's head.
 pub fn length_due(tag: u8, stations: usize) -> LengthDue
-    ensures { λ r. ⌜ ((desks : ℕ) → lengthsGiven r ≡ lengthsDue tag (fieldTable stations desks)) ⌝ }
+    ensures { λ r. ⌜ GivesLength tag stations r ⌝ }
 {
     match tag {
         MOSAIC_HEAD => LengthDue::Bytes(3),

@@ -12,13 +12,13 @@ use Rattle.sheet.specs.Limits.{mostTime}
 use Rattle.sheet.specs.Refusals.{outOfRange, timeTooLarge, timeOfZero}
 use Rattle.sheet.specs.Tags.{mosaicHeadTag, mosaicStripTag, sortingHeadTag, sortingStripTag, flightHeadTag, flightBlockTag, flightOrderTag}
 use Rattle.sheet.specs.Among.{Among}
-use Rattle.sheet.specs.FieldTable.{mosaicHead, sortingHead, sortingStrip, flightBlock, flightOrder, fieldTable, contentsOf, lengthsOf, lengthsDue}
-use Rattle.sheet.specs.FieldTable.{Value, valuesOf, fieldValues}
+use Rattle.sheet.specs.FieldTable.{mosaicHead, mosaicStrip, sortingHead, sortingStrip, flightBlock, flightOrder, fieldTable, lengthsDue}
+use Rattle.sheet.specs.FieldTable.{Value, valuesOf, contentValues, fieldValues}
 use Rattle.sheet.specs.FieldTable.Range.{time}
 use Rattle.sheet.specs.FieldTable.Value.{value}
-use Rattle.sheet.specs.Contents.{stripFrom, strip-time-left, strip-bench-left, mosaic-head-values, mosaic-strip-values, sorting-head-values}
-use Rattle.sheet.specs.Contents.{sorting-strip-values, flight-head-values, flight-block-values, flight-order-values, no-content}
-use Rattle.sheet_ranges.specs.RangePre.{RangePre}
+use Rattle.sheet.specs.Contents.{stripFrom, strip-from-start, strip-time-left, strip-bench-left, strip-stations, mosaic-head-values, mosaic-strip-values, sorting-head-values}
+use Rattle.sheet.specs.Contents.{sorting-strip-values, flight-head-values, flight-block-values, flight-order-values, no-content, none-due}
+use Rattle.sheet_ranges.specs.RangePre.{StripPre, RangePre}
 use Rattle.sheet.specs.Rows.{firstFailure}
 use Rattle.sheet.specs.RowLaws.{given-fails, given-passes, given-last}
 use Rattle.sheet.specs.Checks.{countNumber, timeNumber, valueNumber, valueNumbers, rangeNumber}
@@ -66,24 +66,28 @@ value-last v r e = given-last r _ e
 -- the first k station times of a strip pass: those from k on decide
 pub record TimesPassed (s : List ℕ) (c stations k : ℕ) : Type 0 where
   pub within : k ≤ stations
-  pub left : rangeNumber (stripFrom s c 0 stations) ≡ rangeNumber (stripFrom s c k (stations - k))
+  pub left : rangeNumber (contentValues s c (mosaicStrip stations)) ≡ rangeNumber (stripFrom s c k (stations - k))
 
 pub times-none : (s : List ℕ) (c stations : ℕ) → TimesPassed s c stations 0
-times-none s c stations = record { within = omega arith; left = ap (λ n. rangeNumber (stripFrom s c 0 n)) (omega arith) }
+times-none s c stations =
+    record {
+      within = omega arith;
+      left = ap rangeNumber (strip-from-start s c stations) ∙ ap (λ n. rangeNumber (stripFrom s c 0 n)) (omega arith);
+    }
 
 module _ (s : List ℕ) (c stations k : ℕ) (t : TimesPassed s c stations k) where
   module _ (more : k < stations) (x n : ℕ) (r : NumberRead s (c + 2 * k) 2 x) (e : n ≡ timeNumber 0 x mostTime) where
     some-left : stations - k ≡ suc (stations - (k + 1))
     some-left = omega arith
 
-    next : rangeNumber (stripFrom s c 0 stations)
+    next : rangeNumber (contentValues s c (mosaicStrip stations))
         ≡ rangeNumber (value (time mostTime) (numberAt s (c + 2 * k) 2) ∷ stripFrom s c (k + 1) (stations - (k + 1)))
     next = t .left ∙ ap (λ j. rangeNumber (stripFrom s c k j)) some-left ∙ ap rangeNumber (strip-time-left s c k _)
 
     read : n ≡ timeNumber 0 (numberAt s (c + 2 * k) 2) mostTime
     read = e ∙ ap (λ x. timeNumber 0 x mostTime) (r .is)
 
-    pub times-wrong : (n ≡ 0 → ⊥) → n ≡ rangeNumber (stripFrom s c 0 stations)
+    pub times-wrong : (n ≡ 0 → ⊥) → n ≡ rangeNumber (contentValues s c (mosaicStrip stations))
     unfolding valueNumber
     times-wrong h = value-fails _ _ n read h ∙ sym next
 
@@ -95,7 +99,7 @@ module _ (s : List ℕ) (c stations k : ℕ) (t : TimesPassed s c stations k) wh
           left = next ∙ sym (value-passes _ _ n read _ z refl);
         }
 
-  pub times-bench : stations ≤ k → (x r : ℕ) → NumberRead s (c + 2 * k) 2 x → r ≡ timeNumber 1 x mostTime → r ≡ rangeNumber (stripFrom s c 0 stations)
+  pub times-bench : stations ≤ k → (x r : ℕ) → NumberRead s (c + 2 * k) 2 x → r ≡ timeNumber 1 x mostTime → r ≡ rangeNumber (contentValues s c (mosaicStrip stations))
   unfolding valueNumber
   times-bench h x r n e =
       value-last _ r (e ∙ ap (λ x. timeNumber 1 x mostTime) (n .is))
@@ -127,7 +131,15 @@ module _ (s : List ℕ) (c tag len stations desks r : ℕ) (pre : RangePre c tag
       → r ≡ rangeNumber (valuesOf mosaicHead (m ∷ mount ∷ [])) → r ≡ rangeNumber (fieldValues s c tag len (fieldTable stations desks))
   mosaic-head-read e m mount n₁ n₂ h = of-tag mosaicHeadTag _ e (mosaic-head-values s c len stations desks) (rw (← n₁ .is, ← n₂ .is) h)
 
-  pub mosaic-strip-read : tag ≡ mosaicStripTag → r ≡ rangeNumber (stripFrom s c 0 stations)
+  -- a strip whose length is due has few stations
+  pub strip-pre : tag ≡ mosaicStripTag → StripPre c stations
+  strip-pre e =
+      record {
+        begins = pre .begins;
+        few-stations = strip-stations len stations desks (subst (λ x. Among len (lengthsDue x (fieldTable stations desks))) e (pre .due)) .1;
+      }
+
+  pub mosaic-strip-read : tag ≡ mosaicStripTag → r ≡ rangeNumber (contentValues s c (mosaicStrip stations))
       → r ≡ rangeNumber (fieldValues s c tag len (fieldTable stations desks))
   mosaic-strip-read e h = of-tag mosaicStripTag _ e (mosaic-strip-values s c len stations desks) h
 
@@ -148,10 +160,6 @@ module _ (s : List ℕ) (c tag len stations desks r : ℕ) (pre : RangePre c tag
 
 -- a field of any other tag has no value with a range
 module _ (s : List ℕ) (c tag len stations desks : ℕ) (pre : RangePre c tag len stations desks) where
-  none-due : contentsOf tag (fieldTable stations desks) ≡ [] → Among len (lengthsDue tag (fieldTable stations desks)) → ⊥
-  unfolding lengthsDue lengthsOf Among
-  none-due e a = rw e at a
-
   pub no-values-read : (tag ≡ mosaicHeadTag → ⊥) → (tag ≡ mosaicStripTag → ⊥) → (tag ≡ sortingHeadTag → ⊥) → (tag ≡ sortingStripTag → ⊥)
       → (tag ≡ flightBlockTag → ⊥) → 0 ≡ rangeNumber (fieldValues s c tag len (fieldTable stations desks))
   no-values-read h₁ h₂ h₃ h₄ h₅ = go (ℕ-discrete tag flightHeadTag) (ℕ-discrete tag flightOrderTag)
@@ -159,4 +167,4 @@ module _ (s : List ℕ) (c tag len stations desks : ℕ) (pre : RangePre c tag l
       go : Dec (tag ≡ flightHeadTag) → Dec (tag ≡ flightOrderTag) → 0 ≡ rangeNumber (fieldValues s c tag len (fieldTable stations desks))
       go (yes e) d = of-tag s c tag len stations desks 0 pre flightHeadTag [] e (flight-head-values s c len stations desks) empty-passes
       go (no n) (yes e) = of-tag s c tag len stations desks 0 pre flightOrderTag _ e (flight-order-values s c len stations desks) (order-passes _)
-      go (no n) (no m) = absurd (none-due (no-content stations desks tag h₁ h₂ h₃ h₄ n h₅ m) (pre .due))
+      go (no n) (no m) = absurd (none-due len tag (fieldTable stations desks) (no-content stations desks tag h₁ h₂ h₃ h₄ n h₅ m) (pre .due))

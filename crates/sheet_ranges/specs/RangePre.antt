@@ -1,13 +1,15 @@
--- What the tests of ranges ask of their callers: a content that lies within the sheet, for no more stations than a mosaic may have, and a length that is due.
+-- What the tests of ranges ask of their callers.
 use Prim.Native.Nat.{ℕ, _≤_, _<_, _^_}
 use Rattle.sheet.specs.Limits.{mostStations}
 use Rattle.sheet.specs.Among.{Among}
 use Rattle.sheet.specs.FieldTable.{fieldTable, lengthsDue}
 
+-- of a strip: its content begins so far from the end of the numbers of 64 bits, and it has so few stations, that no offset within it wraps
 pub record StripPre (c stations : ℕ) : Type 0 where
-  pub content : c < 2 ^ 63
+  pub begins : c < 2 ^ 63
   pub few-stations : stations ≤ mostStations
 
+-- of any field: its content begins there, and its length is one that is due
 pub record RangePre (c tag len stations desks : ℕ) : Type 0 where
-  pub strip : StripPre c stations
+  pub begins : c < 2 ^ 63
   pub due : Among len (lengthsDue tag (fieldTable stations desks))

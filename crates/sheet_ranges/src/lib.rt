@@ -15,8 +15,7 @@ use sheet::tags::SORTING_HEAD;
 use sheet::tags::SORTING_STRIP;
 ghost use mathlib.Core.Path.{_≡_};
 ghost use mathlib.Core.List.{[], _∷_};
-ghost use Rattle.sheet.specs.FieldTable.{mosaicHead, sortingHead, sortingStrip, flightBlock, fieldTable, valuesOf, fieldValues};
-ghost use Rattle.sheet.specs.Contents.{stripFrom};
+ghost use Rattle.sheet.specs.FieldTable.{mosaicHead, mosaicStrip, sortingHead, sortingStrip, flightBlock, fieldTable, valuesOf, contentValues, fieldValues};
 ghost use Rattle.sheet.specs.Checks.{countNumber, timeNumber, rangeNumber};
 ghost use Rattle.sheet_ranges.specs.RangePre.{StripPre, RangePre};
 
@@ -59,7 +58,7 @@ fn mosaic_head_number(stations: u64, mount: u64) -> u64
 // A strip: a time for each station, and the bench time behind them.
 fn mosaic_strip_number(s: &[u8], c: usize, stations: usize) -> u64
     requires { ⌜ StripPre c stations ⌝ }
-    ensures { λ r. ⌜ r ≡ rangeNumber (stripFrom (now (s .entry)) c 0 stations) ⌝ }
+    ensures { λ r. ⌜ r ≡ rangeNumber (contentValues (now (s .entry)) c (mosaicStrip stations)) ⌝ }
 {
     let mut k: usize = 0;
     while k < stations {
@@ -106,7 +105,7 @@ fn flight_block_number(a: u64, l: u64, b: u64) -> u64
     time_number(1, b, MOST_TIME)
 }
 
-// The number that the content of a field gives, which begins at an offset and has a length that is due for its tag; 0 where every value is in its range.
+// The number that a field gives whose content begins at c and has a length that is due for its tag; 0 where every value is in its range.
 pub fn range_number(
     s: &[u8],
     c: usize,

@@ -73,7 +73,7 @@ module _ (s : List ℕ) (st : Reading) (p : Progress s st) (f : Field) (ef : f �
   within = whole-at s (st .at) tag len (sym ef ∙ e) .within
 
   pub field-pre : FieldPre s st len
-  field-pre = record { within = within; stations = p .kept .mosaic .most-stations }
+  field-pre = record { within = within }
 
   pub progress-pre : (number : ℕ) → number ≡ fieldNumber s st tag len → number ≡ 0 → length s * 1 < 2 ^ 63 → NextReadingPre s st tag len
   progress-pre number en hn big = next-pre s st tag len (p .kept) within (passes s st tag len (sym ef ∙ e) (sym en ∙ hn)) big

@@ -20,7 +20,7 @@ unfolding contentChecks
 returns c = search rows depth 14
 
 range-number-requires : tie.Need-range-number-requires
-range-number-requires c κs = record { strip = search needs; due = search length-among }
+range-number-requires c κs = record { begins = search needs; due = search length-among }
 
 returns-2 : tie.Need-returns-2
 unfolding contentChecks

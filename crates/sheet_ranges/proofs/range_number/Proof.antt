@@ -1,5 +1,5 @@
 -- `range_number` meets its contract: one case a tag: the values tested are those that stand in the content.
-use Rattle.sheet_ranges.specs.RangeLaws.{mosaic-head-read, mosaic-strip-read, sorting-head-read, sorting-strip-read, flight-block-read, no-values-read}
+use Rattle.sheet_ranges.specs.RangeLaws.{strip-pre, mosaic-head-read, mosaic-strip-read, sorting-head-read, sorting-strip-read, flight-block-read, no-values-read}
 use borrow.Author.Needs.{needs}
 use Rattle.sheet_ranges.proofs.range_number.Statement.{statement}
 use Rattle.sheet_ranges.proofs.range_number.Tie as tie
@@ -17,7 +17,7 @@ mosaic-head-number-requires : tie.Need-mosaic-head-number-requires
 mosaic-head-number-requires c κs = search needs
 
 mosaic-strip-number-requires : tie.Need-mosaic-strip-number-requires
-mosaic-strip-number-requires c κs = search needs
+mosaic-strip-number-requires c κs = search strip-pre
 
 byte-requires-2 : tie.Need-byte-requires-2
 byte-requires-2 c κs = search needs
