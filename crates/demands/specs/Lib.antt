@@ -1,8 +1,9 @@
 -- The three demands on the planner and the judge, in their own words and order, as theorems about calls; behind them what the change requests of 02 ask to be
 -- shown. What a theorem asks of a call is what the contract of the function gives: `Called` of `planner::plan` (planner, Call.antt), `Viewed` of
--- `sevulamon_plan` (viewer, Viewed.antt), `j ≡ judged sheet plan` of `judge::judge` and `sevulamon_judge` (judge, Judged.antt), and `Paged` of `page::page` and
--- `sevulamon_page` (page, Call.antt). When a plan is allowed is said by the rules alone (rules: Mosaic, Sorting, Flight, Plan). Rows of bytes are lists of
--- numbers; where a law needs that they are below 256, as those of every lent slice are, it says so (`AreBytes`).
+-- `sevulamon_plan` (viewer, Viewed.antt), `j ≡ judged sheet plan` of `judge::judge` and `sevulamon_judge` (judge, Judged.antt), `Paged` of `page::page` and
+-- `sevulamon_page` (page, Call.antt), and `GivesLength` of `sheet_lengths::length_due` (sheet_lengths, Lengths.antt). When a plan is allowed is said by
+-- the rules alone (rules: Mosaic, Sorting, Flight, Plan). Rows of bytes are lists of numbers; where a law needs that they are below 256, as those of every
+-- lent slice are, it says so (`AreBytes`).
 use Prim.Native.Nat.{ℕ, _+_, _*_, _≤_, _<_}
 use mathlib.Core.Path.{_≡_, refl, sym, ap, ap₂, subst, _∙_}
 use mathlib.Core.Bool.{true}

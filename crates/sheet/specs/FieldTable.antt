@@ -91,7 +91,7 @@ unfoldable pub lengthOf : List Item → ℕ
 lengthOf [] = 0
 lengthOf (i ∷ content) = i .width + lengthOf content
 
--- the contents that the table has for a tag: today one for each tag in it, and none for a tag outside it
+-- the contents that the table has for a tag, none for a tag outside it
 unfoldable pub contentsOf : ℕ → List TableRow → List (List Item)
 contentsOf tag [] = []
 contentsOf tag (r ∷ table) = cond (eqb tag (r .tag)) (r .content ∷ contentsOf tag table) (contentsOf tag table)
@@ -125,6 +125,7 @@ valuesOf [] numbers = []
 valuesOf (i ∷ content) [] = []
 valuesOf (i ∷ content) (n ∷ numbers) = value (i .range) n ∷ valuesOf content numbers
 
+-- the values of a content that begins at an offset c of the sheet s
 unfoldable pub contentValues : List ℕ → ℕ → List Item → List Value
 contentValues s c content = valuesOf content (numbersAt s c content)
 

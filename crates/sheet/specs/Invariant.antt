@@ -134,16 +134,17 @@ module _ (s : List ℕ) (st : Reading) (len : ℕ) (k : Kept s st) (w : st .at +
   unfolding nextReading nextSection nextHead nextMembers nextMosaic nextSorting nextFlight endsSection
   kept-sorting-strip p e =
       let f = k .few-members in
+      let r = within-by p (sorting-strip-values s (st .at + 3) len _ _) in
       record {
         within = w;
         few-members = omega arith;
         known = omega arith;
         mosaic = k .mosaic;
-        sorting = sorting-strip-sound s (st .at + 3) (st .sorting) (k .sorting) (within-by p (sorting-strip-values s (st .at + 3) len _ _)) (below _ _ (λ h. p .room-ok (TooMany.strip-of-desk refl h)));
+        sorting = sorting-strip-sound s (st .at + 3) (st .sorting) (k .sorting) r (below _ _ (λ h. p .room-ok (TooMany.strip-of-desk refl h)));
         flight = k .flight;
         in-none = λ q. absurd (omega arith);
         in-mosaic = λ q. absurd (omega arith);
-        in-sorting = λ _. ap (λ n. n + 1) (k .in-sorting e) ∙ sym (sorting-strip-more s (st .at + 3) (st .sorting) (k .sorting) (within-by p (sorting-strip-values s (st .at + 3) len _ _)));
+        in-sorting = λ _. ap (λ n. n + 1) (k .in-sorting e) ∙ sym (sorting-strip-more s (st .at + 3) (st .sorting) (k .sorting) r);
         before-flight = λ h. k .before-flight h;
         in-flight = λ q. absurd (omega arith);
         after-order = λ q. absurd (omega arith);

@@ -29,8 +29,9 @@ pub record RefusedFor (s : List ℕ) (number place : ℕ) : Type 0 where
   pub reached : Reached s reading
   pub cause : Cause s reading number place
 
--- What 6, 15 and 16 say of a sheet (02, Req 04), row by row: a whole field is reached, the section before it ends well if its tag ends it, its tag is permitted
--- there and its length is due (else it has no values); and of its values, from left to right, the first that is not within its range is out of it in this way. The place is the field's.
+-- What 6, 15 and 16 say of a sheet (02, Req 04), row by row: a whole field is reached, the section before it ends well if its tag ends it, its tag is
+-- permitted there and its length is due (else it has no values); and of its values, from left to right, the first that is not within its range is out of it
+-- in this way. The place is the field's.
 pub record RefusedForValue (s : List ℕ) (Out : Value → Type 0) (place : ℕ) : Type 0 where
   pub reading : Reading
   pub reached : Reached s reading

@@ -1,7 +1,7 @@
 -- What the cases of `LengthDue` mean, and the laws by which those of `length_due` are the lengths of the field table (02, Req 05).
 -- The idea: for a tag that is known the table computes to the one length that its content has; a tag outside the table has no content.
-use Prim.Native.Nat.{ℕ, zero, suc, _+_, _*_, _≤_}
-use mathlib.Core.Path.{_≡_, refl, ap}
+use Prim.Native.Nat.{ℕ, _+_, _*_, _≤_}
+use mathlib.Core.Path.{_≡_, refl}
 use mathlib.Core.Bool.{Bool, true, false, _||_}
 use mathlib.Core.List.{List, [], _∷_}
 use native.Mathlib.Omega.{arith}
@@ -9,14 +9,14 @@ use lib.Dec.{eqb}
 use Rattle.sheet.specs.Limits.{mostStations}
 use Rattle.sheet.specs.Tags.{mosaicHeadTag, mosaicStripTag, sortingHeadTag, sortingStripTag, flightHeadTag, flightBlockTag, flightOrderTag}
 use Rattle.sheet.specs.Among.{isAmong}
-use Rattle.sheet.specs.FieldTable.{mosaicHead, mosaicStrip, sortingHead, sortingStrip, flightHead, flightBlock, flightOrder}
+use Rattle.sheet.specs.FieldTable.{mosaicHead, sortingHead, sortingStrip, flightHead, flightBlock, flightOrder}
 use Rattle.sheet.specs.FieldTable.{fieldTable, lengthOf, contentsOf, lengthsOf, lengthsDue}
 use Rattle.sheet.specs.Contents.{mosaic-head-content, mosaic-strip-content, no-strip-content, sorting-head-content, sorting-strip-content}
 use Rattle.sheet.specs.Contents.{flight-head-content, flight-block-content, flight-order-content, no-content, strip-length}
 use Rattle.sheet_lengths.specs.declared.LengthDue.{LengthDue}
 use Rattle.sheet_lengths.specs.declared.LengthDue.the-variants.{Bytes, None}
 
--- the lengths that an answer means. `Bytes n`: n alone is due. `None`: no length is due.
+-- The lengths that an answer means. `Bytes n`: n alone is due. `None`: no length is due.
 unfoldable pub lengthsGiven : LengthDue → List ℕ
 lengthsGiven (Bytes n) = n ∷ []
 lengthsGiven None = []
@@ -25,6 +25,7 @@ lengthsGiven None = []
 abbrev pub GivesLength : ℕ → ℕ → LengthDue → Type 0
 GivesLength tag stations due = (desks : ℕ) → lengthsGiven due ≡ lengthsDue tag (fieldTable stations desks)
 
+-- the cases of the seven tags: each is the length of the content that the table has for the tag
 module _ (tag stations n : ℕ) where
   pub mosaic-head-case : tag ≡ mosaicHeadTag → n ≡ 3 → GivesLength tag stations (Bytes n)
   unfolding lengthsGiven lengthsDue lengthsOf lengthOf mosaicHead

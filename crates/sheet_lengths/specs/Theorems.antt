@@ -45,5 +45,4 @@ module _ (tag stations : ℕ) (due : LengthDue) (call : GivesLength tag stations
 
   pub other-count-none : tag ≡ mosaicStripTag → (1 ≤ stations → stations ≤ mostStations → ⊥) → due ≡ None
   unfolding lengthsGiven
-  other-count-none e other =
-      given-none due (call 0 ∙ sym (other-count-case tag stations e other 0))
+  other-count-none e other = given-none due (call 0 ∙ sym (other-count-case tag stations e other 0))
