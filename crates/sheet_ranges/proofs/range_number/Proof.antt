@@ -17,7 +17,7 @@ mosaic-head-number-requires : tie.Need-mosaic-head-number-requires
 mosaic-head-number-requires c κs = search needs
 
 mosaic-strip-number-requires : tie.Need-mosaic-strip-number-requires
-mosaic-strip-number-requires c κs = search strip-pre
+mosaic-strip-number-requires c κs = search (strip-pre, needs)
 
 byte-requires-2 : tie.Need-byte-requires-2
 byte-requires-2 c κs = search needs
