@@ -574,11 +574,11 @@ module _ (sheet plan page pageAfter : List ℕ) (r : Answer) (call : Paged sheet
 module _ (tag stations : ℕ) (due : LengthDue) (call : GivesLength tag stations due) where
   -- "Show that the cases give the field table's length for each tag in it"
   pub length-by-list : (desks : ℕ) (r : TableRow) → Among r (fieldTable stations desks) → tag ≡ r .tag → due ≡ Bytes (lengthOf (r .content))
-  length-by-list = row-length tag stations due call
+  length-by-list desks r a e = row-length tag stations due call desks r a (omega arith)
 
   -- for 11 this is, with 1 to 4 stations, two bytes for each of them and two for the bench; with any other number there is none
   pub length-of-a-strip : tag ≡ mosaicStripTag → 1 ≤ stations → stations ≤ mostStations → due ≡ Bytes (2 * stations + 2)
-  length-of-a-strip = strip-length-due tag stations due call
+  length-of-a-strip e lo hi = strip-length-due tag stations due call e lo hi ∙ ap Bytes (omega arith)
 
   pub no-length-of-a-strip : tag ≡ mosaicStripTag → (1 ≤ stations → stations ≤ mostStations → ⊥) → due ≡ None
   no-length-of-a-strip = other-count-none tag stations due call

@@ -6,6 +6,7 @@ use mathlib.Core.List.{List, [], _∷_}
 use mathlib.Core.Logic.{_⊎_, inl, inr}
 use lib.Dec.{eqb}
 use borrow.Author.Tests.{eqb-true, eq-eqb}
+use Rattle.base.specs.Branch.{neither}
 
 unfoldable pub Among : {A : Type 0} → A → List A → Type 0
 Among a [] = ⊥
@@ -14,10 +15,6 @@ Among a (b ∷ list) = (a ≡ b) ⊎ Among a list
 unfoldable pub isAmong : ℕ → List ℕ → Bool
 isAmong n [] = false
 isAmong n (m ∷ numbers) = eqb m n || isAmong n numbers
-
-pub neither : (a b : Bool) → (a || b) ≡ false → (a ≡ false) × (b ≡ false)
-neither true b e = absurd (true≢false e)
-neither false b e = (refl, e)
 
 pub true-among : (n : ℕ) (numbers : List ℕ) → isAmong n numbers ≡ true → Among n numbers
 unfolding Among isAmong

@@ -2,7 +2,7 @@
 -- The idea: for a tag that is known the table computes. Only the row of a mosaic strip does not: it is there or not by the number of stations.
 use Prim.Native.Nat.{ℕ, zero, suc, _+_, _*_, _≤_}
 use mathlib.Core.Path.{_≡_, refl, sym, ap, ap₂, subst, _∙_}
-use mathlib.Core.Bool.{Bool, true, false, cond, _&&_}
+use mathlib.Core.Bool.{Bool, true, false, cond, _&&_, true≢false}
 use mathlib.Core.List.{List, [], _∷_, _++_}
 use mathlib.Core.Logic.{inl, inr}
 use native.Mathlib.Omega.{arith}
@@ -24,7 +24,7 @@ is-count : (stations : ℕ) → 1 ≤ stations → stations ≤ mostStations →
 unfolding isStationCount
 is-count stations lo hi = ap₂ _&&_ (le-leb 1 stations lo) (le-leb stations mostStations hi)
 
-pub count-bounds : (stations : ℕ) → isStationCount stations ≡ true → (1 ≤ stations) × (stations ≤ mostStations)
+count-bounds : (stations : ℕ) → isStationCount stations ≡ true → (1 ≤ stations) × (stations ≤ mostStations)
 unfolding isStationCount
 count-bounds stations e = let p = both _ _ e in (leb-true 1 stations (p .0), leb-true stations mostStations (p .1))
 
@@ -162,22 +162,23 @@ module _ (s : List ℕ) (c k : ℕ) where
   strip-time-left n =
       ap (λ at. value (time mostTime) (numberAt s (c + 2 * k) 2) ∷ contentValues s at (mosaicStrip n)) (omega arith)
 
--- where the table has no content for a tag, no length is due for it; so it is with a strip where the number of stations is not 1 to 4
-pub none-due : (len tag : ℕ) (table : List TableRow) → contentsOf tag table ≡ [] → Among len (lengthsDue tag table) → ⊥
-unfolding lengthsDue lengthsOf Among
-none-due len tag table e a = rw e at a
+-- where the table has no content for a tag, no length is due for it ..
+module _ (tag : ℕ) (table : List TableRow) (none : contentsOf tag table ≡ []) where
+  pub no-lengths : lengthsDue tag table ≡ []
+  unfolding lengthsDue lengthsOf
+  no-lengths = ap lengthsOf none
 
-no-strip-due : (len stations desks : ℕ) → isStationCount stations ≡ false
-    → Among len (lengthsDue mosaicStripTag (fieldTable stations desks)) → ⊥
-unfolding fieldTable stripRows contentsOf
-no-strip-due len stations desks e = none-due len mosaicStripTag (fieldTable stations desks) (rw e refl)
+  pub none-due : (len : ℕ) → Among len (lengthsDue tag table) → ⊥
+  unfolding Among
+  none-due len a = subst (Among len) no-lengths a
 
+-- .. so where a length is due for a strip, the number of stations is 1 to 4
 pub strip-stations : (len stations desks : ℕ) → Among len (lengthsDue mosaicStripTag (fieldTable stations desks)) → (1 ≤ stations) × (stations ≤ mostStations)
 strip-stations len stations desks due = go (isStationCount stations) refl
   where
     go : (b : Bool) → isStationCount stations ≡ b → (1 ≤ stations) × (stations ≤ mostStations)
     go true e = count-bounds stations e
-    go false e = absurd (no-strip-due len stations desks e due)
+    go false e = absurd (none-due mosaicStripTag _ (no-strip-content stations desks (λ lo hi. true≢false (sym (is-count stations lo hi) ∙ e))) len due)
 
 -- the values of a field by its tag
 module _ (s : List ℕ) (c len stations desks : ℕ) where

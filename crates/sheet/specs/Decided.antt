@@ -3,14 +3,14 @@
 -- The idea: for each row the cause makes the test false, and where the test is false the cause lies.
 use Prim.Native.Nat.{ℕ, _+_, _-_, _≤_, _<_}
 use mathlib.Core.Path.{_≡_, refl, sym, _∙_}
-use mathlib.Core.Bool.{Bool, true, false, cond, not, _&&_, _||_, true≢false}
+use mathlib.Core.Bool.{Bool, true, false, cond, not, _||_, true≢false}
 use mathlib.Core.List.{List, [], _∷_}
 use mathlib.Core.Logic.{_⊎_, inl, inr, ⊎-elim}
 use native.Mathlib.Omega.{arith}
 use lib.ListN.{length, getD}
 use lib.Dec.{leb, ltb, eqb}
 use borrow.Author.Tests.{eqb-true, eqb-false, eq-eqb, ne-eqb, leb-true, leb-false, le-leb, lt-leb, ltb-true, ltb-false, lt-ltb, le-ltb, not-false}
-use Rattle.base.specs.Branch.{check, both}
+use Rattle.base.specs.Branch.{check, both, neither}
 use Rattle.field.specs.Bytes.{numberAt}
 use Rattle.field.specs.Field.{fieldAt}
 use Rattle.field.specs.Fields.{whole-at}
@@ -23,7 +23,7 @@ use Rattle.sheet.specs.Sections.{noSection, inFlight, stripsOfDesk}
 use Rattle.sheet.specs.FieldTable.{tableOf, lengthsDue, fieldValues}
 use Rattle.sheet.specs.Rows.{firstFailure}
 use Rattle.sheet.specs.RowLaws.{Gives, Answers, gives-check, answers-none, answers-behind, answers-row, answers-rows}
-use Rattle.sheet.specs.Among.{Among, isAmong, neither, true-among, false-not-among}
+use Rattle.sheet.specs.Among.{Among, isAmong, true-among, false-not-among}
 use Rattle.sheet.specs.Causes.{FieldCut, EndsSection, NoMembers, ManyBlocks, OrderMissing, Permitted, TooMany, OrderNotProper, cutRow, fieldRows, endRows}
 use Rattle.sheet.specs.Checks.{endsSection, sectionFilled, fewBlocks, orderGiven, orderPermitted, permitted, hasRoom, orderProper}
 use Rattle.sheet.specs.Ranges.{range-answers}

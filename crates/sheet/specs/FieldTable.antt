@@ -105,7 +105,7 @@ lengthsOf (content ∷ contents) = lengthOf content ∷ lengthsOf contents
 unfoldable pub lengthsDue : ℕ → List TableRow → List ℕ
 lengthsDue tag table = lengthsOf (contentsOf tag table)
 
--- of several contents the one of a length; no content where none has it
+-- of several contents the first that has a length; the empty content where none has it
 unfoldable pub ofLength : ℕ → List (List Item) → List Item
 ofLength len [] = []
 ofLength len (content ∷ contents) = cond (eqb len (lengthOf content)) content (ofLength len contents)
@@ -119,7 +119,7 @@ unfoldable pub numbersAt : List ℕ → ℕ → List Item → List ℕ
 numbersAt s c [] = []
 numbersAt s c (i ∷ content) = numberAt s c (i .width) ∷ numbersAt s (c + i .width) content
 
--- the values of a content: its numbers with their ranges
+-- the values of a content: each of its numbers with its range
 unfoldable pub valuesOf : List Item → List ℕ → List Value
 valuesOf [] numbers = []
 valuesOf (i ∷ content) [] = []
@@ -138,13 +138,14 @@ pub record Between (least number most : ℕ) : Type 0 where
   pub at-least : least ≤ number
   pub at-most : number ≤ most
 
--- a value is within its range, and every value is; a number without a range always is
+-- a value is within its range; one without a range always is
 unfoldable pub Within : Value → Type 0
 Within (value (count least most) number) = Between least number most
 Within (value (time most) number) = Between 0 number most
 Within (value (positiveTime most) number) = Between 1 number most
 Within (value noRange number) = Unit
 
+-- every value is within its range
 unfoldable pub InRange : List Value → Type 0
 InRange [] = Unit
 InRange (v ∷ values) = Within v × InRange values

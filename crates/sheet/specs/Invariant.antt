@@ -10,15 +10,13 @@ use Rattle.sheet.specs.Limits.{mostBlocks, mostStrips}
 use Rattle.sheet.specs.Tags.{mosaicHeadTag, mosaicStripTag, sortingHeadTag, sortingStripTag, flightHeadTag, flightBlockTag, flightOrderTag}
 use Rattle.sheet.specs.Sections.{noSection, inMosaic, inSorting, inFlight, afterOrder}
 use Rattle.sheet.specs.Checks.{endsSection}
-use Rattle.sheet.specs.FieldTable.{tableOf, lengthsDue, Value, fieldValues, InRange}
-use Rattle.sheet.specs.Among.{Among}
 use Rattle.sheet.specs.Contents.{mosaic-head-values, mosaic-strip-values, sorting-head-values, sorting-strip-values, flight-block-values}
 use Rattle.sheet.specs.Causes.{Permitted, TooMany}
 use Rattle.sheet.specs.Decode.{noFlight, withMosaicHead, withMosaicStrip, withSortingHead, withBlock, withOrder, nextMosaic, nextSorting, nextFlight}
 use Rattle.sheet.specs.Decode.{nextSection, nextHead, nextMembers, nextReading, startReading}
 use Rattle.sheet.specs.Sound.{MosaicSound, SortingSound, FlightWithin, stripsInAll}
 use Rattle.sheet.specs.Stores.{zeros-at}
-use Rattle.sheet.specs.Passed.{Passed}
+use Rattle.sheet.specs.Passed.{Passed, within-by}
 use Rattle.sheet.specs.SectionLaws.{no-mosaic-sound, no-sorting-sound, no-flight-sound, mosaic-head-sound, mosaic-strip-sound, sorting-head-sound}
 use Rattle.sheet.specs.SectionLaws.{sorting-strip-sound, sorting-strip-more, block-sound, order-sound}
 use Rattle.sheet.specs.declared.Reading.{Reading}
@@ -64,11 +62,6 @@ below i j n = go (decLt i j)
     go (no h) = absurd (n (omega arith))
 
 module _ (s : List ℕ) (st : Reading) (len : ℕ) (k : Kept s st) (w : st .at + 3 + len ≤ length s) where
-  -- a field that passes its checks has the values of its tag's content, each within its range
-  pub within-by : {tag : ℕ} {values : List Value} → Passed s st tag len
-      → (Among len (lengthsDue tag (tableOf st)) → fieldValues s (st .at + 3) tag len (tableOf st) ≡ values) → InRange values
-  within-by p values-are = subst InRange (values-are (p .length-ok)) (p .range-ok)
-
   kept-mosaic-head : Passed s st mosaicHeadTag len → st .section ≡ noSection → Kept s (nextReading s st mosaicHeadTag len)
   unfolding nextReading nextSection nextHead nextMembers nextMosaic nextSorting nextFlight endsSection withMosaicHead
   kept-mosaic-head p e =

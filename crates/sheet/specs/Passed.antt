@@ -1,6 +1,6 @@
 -- A field that passes every row: what the rows' causes shut out, stated of the field.
 use Prim.Native.Nat.{ℕ, _+_}
-use mathlib.Core.Path.{_≡_, refl}
+use mathlib.Core.Path.{_≡_, refl, subst}
 use mathlib.Core.Bool.{Bool, true, false}
 use mathlib.Core.List.{List, _∷_}
 use Rattle.field.specs.Bytes.{numberAt}
@@ -66,6 +66,11 @@ passed-rows s st tag len p =
 
 pub passes : (s : List ℕ) (st : Reading) (tag len : ℕ) → fieldAt s (st .at) ≡ Whole tag len → fieldNumber s st tag len ≡ 0 → Passed s st tag len
 passes s st tag len e z = passed-rows s st tag len (answer-passes _ _ _ (field-answers s st tag len e) z)
+
+-- a field that passes its checks has the values of its tag's content, each within its range
+pub within-by : {s : List ℕ} {st : Reading} {tag len : ℕ} {values : List Value} → Passed s st tag len
+    → (Among len (lengthsDue tag (tableOf st)) → fieldValues s (st .at + 3) tag len (tableOf st) ≡ values) → InRange values
+within-by p values-are = subst InRange (values-are (p .length-ok)) (p .range-ok)
 
 -- the first value of a field, and the others
 pub first-within : (v : Value) (values : List Value) → InRange (v ∷ values) → Within v

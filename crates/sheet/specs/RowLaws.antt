@@ -2,14 +2,14 @@
 -- row whose cause lies there, with its place, and it is 0 exactly where no cause lies. The idea: one row after another, each judged where those before pass.
 use Prim.Native.Nat.{ℕ, zero, suc, _<_}
 use mathlib.Core.Path.{_≡_, refl, sym, ap, _∙_}
-use mathlib.Core.Bool.{Bool, true, false, _||_, true≢false}
+use mathlib.Core.Bool.{Bool, true, false, true≢false}
 use mathlib.Core.List.{List, [], _∷_, _++_}
 use native.Mathlib.Omega.{arith}
 use native.Mathlib.Decide.{decLt}
 use lib.Dec.{T, ltb, eqb, lit<}
 use borrow.Author.Tests.{eq-eqb}
-use Rattle.base.specs.Branch.{check}
-use Rattle.sheet.specs.Among.{isAmong, neither}
+use Rattle.base.specs.Branch.{check, neither}
+use Rattle.sheet.specs.Among.{isAmong}
 use Rattle.sheet.specs.Rows.{Row, row, rowAt, Fails, NoCause, firstFailure}
 
 -- what a check gives: the number where the cause lies, 0 where it does not

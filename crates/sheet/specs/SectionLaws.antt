@@ -65,7 +65,7 @@ module _ (s : List ℕ) (c base : ℕ) (times : List ℕ) where
       set-most (withStationTimes s c base k times) mostTime (base + k) (numberAt s (c + 2 * k) 2) (times-most all k (λ j l. h j (omega arith)))
       (h k (omega arith))
 
--- the values of a strip from station k on, of which there are n: the station times, and the bench time behind them
+-- of a strip whose values are within their ranges: each station time, and the bench time
 module _ (s : List ℕ) (c : ℕ) where
   strip-time : (n k : ℕ) → InRange (stripFrom s c k n) → (j : ℕ) → k ≤ j → j < k + n → numberAt s (c + 2 * j) 2 ≤ mostTime
   unfolding Within

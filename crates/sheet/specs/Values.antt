@@ -1,7 +1,7 @@
 -- 6, 15 and 16 are each given exactly where the first value that is not within its range is out of it in their way (`RefusedForValue`).
 -- The idea: each of the three numbers stands in one row alone, and where its cause lies, no row before it fails.
 use Prim.Native.Nat.{ℕ, _+_, _<_}
-use mathlib.Core.Path.{_≡_, refl, sym, ap, subst, _∙_}
+use mathlib.Core.Path.{_≡_, refl, sym, ap, subst}
 use mathlib.Core.Bool.{false}
 use mathlib.Core.List.{List}
 use native.Mathlib.Omega.{arith}

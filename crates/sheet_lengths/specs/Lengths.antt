@@ -1,7 +1,7 @@
 -- What the cases of `LengthDue` mean, and the laws by which those of `length_due` are the lengths of the field table (02, Req 05).
 -- The idea: for a tag that is known the table computes to the one length that its content has; a tag outside the table has no content.
 use Prim.Native.Nat.{ℕ, _+_, _*_, _≤_}
-use mathlib.Core.Path.{_≡_, refl}
+use mathlib.Core.Path.{_≡_, refl, sym}
 use mathlib.Core.Bool.{Bool, true, false, _||_}
 use mathlib.Core.List.{List, [], _∷_}
 use native.Mathlib.Omega.{arith}
@@ -12,7 +12,7 @@ use Rattle.sheet.specs.Among.{isAmong}
 use Rattle.sheet.specs.FieldTable.{mosaicHead, sortingHead, sortingStrip, flightHead, flightBlock, flightOrder}
 use Rattle.sheet.specs.FieldTable.{fieldTable, lengthOf, contentsOf, lengthsOf, lengthsDue}
 use Rattle.sheet.specs.Contents.{mosaic-head-content, mosaic-strip-content, no-strip-content, sorting-head-content, sorting-strip-content}
-use Rattle.sheet.specs.Contents.{flight-head-content, flight-block-content, flight-order-content, no-content, strip-length}
+use Rattle.sheet.specs.Contents.{flight-head-content, flight-block-content, flight-order-content, no-content, no-lengths, strip-length}
 use Rattle.sheet_lengths.specs.declared.LengthDue.{LengthDue}
 use Rattle.sheet_lengths.specs.declared.LengthDue.the-variants.{Bytes, None}
 
@@ -59,8 +59,8 @@ module _ (tag stations n : ℕ) where
 -- no length is due for a strip where the head cannot have so many stations, nor for a tag outside the table
 module _ (tag stations : ℕ) where
   none-given : (desks : ℕ) → contentsOf tag (fieldTable stations desks) ≡ [] → lengthsGiven None ≡ lengthsDue tag (fieldTable stations desks)
-  unfolding lengthsGiven lengthsDue lengthsOf
-  none-given desks e = rw e refl
+  unfolding lengthsGiven
+  none-given desks e = sym (no-lengths tag (fieldTable stations desks) e)
 
   pub other-count-case : tag ≡ mosaicStripTag → (1 ≤ stations → stations ≤ mostStations → ⊥) → GivesLength tag stations None
   other-count-case e other desks = none-given desks (rw e (no-strip-content stations desks other))

@@ -167,4 +167,4 @@ module _ (s : List ℕ) (c tag len stations desks : ℕ) (pre : RangePre c tag l
       go : Dec (tag ≡ flightHeadTag) → Dec (tag ≡ flightOrderTag) → 0 ≡ rangeNumber (fieldValues s c tag len (fieldTable stations desks))
       go (yes e) d = of-tag s c tag len stations desks 0 pre flightHeadTag [] e (flight-head-values s c len stations desks) empty-passes
       go (no n) (yes e) = of-tag s c tag len stations desks 0 pre flightOrderTag _ e (flight-order-values s c len stations desks) (order-passes _)
-      go (no n) (no m) = absurd (none-due len tag (fieldTable stations desks) (no-content stations desks tag h₁ h₂ h₃ h₄ n h₅ m) (pre .due))
+      go (no n) (no m) = absurd (none-due tag (fieldTable stations desks) (no-content stations desks tag h₁ h₂ h₃ h₄ n h₅ m) len (pre .due))

@@ -9,7 +9,7 @@ pub record StripPre (c stations : ℕ) : Type 0 where
   pub begins : c < 2 ^ 63
   pub few-stations : stations ≤ mostStations
 
--- of any field: its content begins there, and its length is one that is due
+-- of any field: its content begins as far from that end, and its length is one that is due
 pub record RangePre (c tag len stations desks : ℕ) : Type 0 where
   pub begins : c < 2 ^ 63
   pub due : Among len (lengthsDue tag (fieldTable stations desks))

@@ -105,7 +105,8 @@ fn flight_block_number(a: u64, l: u64, b: u64) -> u64
     time_number(1, b, MOST_TIME)
 }
 
-// The number that a field gives whose content begins at c and has a length that is due for its tag; 0 where every value is in its range.
+// The number that a field gives whose content begins at c and has a length that is due for its tag; 0 where every value is in its range. The length, which says
+// what content of the table the field has, is not looked at: each tag has one content.
 pub fn range_number(
     s: &[u8],
     c: usize,

@@ -22,8 +22,8 @@ use Rattle.sheet.specs.Checks.{permitted}
 use Rattle.sheet.specs.Decode.{nextReading, startReading}
 use Rattle.sheet.specs.Read.{fieldNumber, endNumber, placeOf, refused, accepted, atEnd, readSheet}
 use Rattle.sheet.specs.Decided.{permitted-true}
-use Rattle.sheet.specs.Passed.{Passed, passes, first-within}
-use Rattle.sheet.specs.Invariant.{Kept, below, within-by}
+use Rattle.sheet.specs.Passed.{Passed, passes, within-by, first-within}
+use Rattle.sheet.specs.Invariant.{Kept, below}
 use Rattle.sheet.specs.Progress.{Progress, progress-start, progress-end, progress-cut, progress-next, progress-refused, progress-less}
 use Rattle.sheet.specs.declared.Reading.{Reading}
 use Rattle.sheet.specs.declared.Sheet.{Sheet}
@@ -44,7 +44,7 @@ module _ (s : List ℕ) (st : Reading) (tag len : ℕ) (k : Kept s st) (w : st .
   unfolding sortingStrip valuesOf Within
   desk-fits e =
       let q : Passed s st sortingStripTag len = subst (λ x. Passed s st x len) e p in
-      let b = first-within _ _ (within-by s st len k w q (sorting-strip-values s (st .at + 3) len _ _)) .at-most in
+      let b = first-within _ _ (within-by q (sorting-strip-values s (st .at + 3) len _ _)) .at-most in
       let d = k .sorting .most-desks in
       omega arith
 
