@@ -11,6 +11,7 @@ import random
 
 import best
 import brute
+import lengths
 import longest
 import page
 import pages
@@ -104,7 +105,14 @@ def fixed():
     yield "fields with values out of range that are also cut, of a wrong length or not permitted", map(PlanCase, values.wrong_twice())
     yield "values out of range with too small a buffer or a wrong plan", out_of_range_and_more()
     yield "a field with a value out of range at every place", map(PlanCase, values.put_in())
-    yield "a field with a value out of range and another wrong field", map(PlanCase, values.two_wrong())
+    yield "a field with a value out of range and another wrong field", map(PlanCase, values.two_wrong(values.values_out))
+    yield "every field with every other length", all_calls(lengths.other_length())
+    yield "every field with another length stated", map(PlanCase, lengths.stated_only())
+    yield "strips of other station counts", map(PlanCase, lengths.strips_of_other_stations())
+    yield "every tag at every place", map(PlanCase, lengths.every_tag())
+    yield "a member too many or an improper order, of every length", map(PlanCase, lengths.one_too_many())
+    yield "heads of every length where none may stand", map(PlanCase, lengths.heads_behind())
+    yield "a field of a wrong length and another wrong field", map(PlanCase, values.two_wrong(lengths.one_short_or_long))
     yield "every length of the plan buffer", itertools.starmap(PlanCase, tiny.buffers())
     yield "every row of up to four plan fields", itertools.starmap(JudgeCase, tiny.plan_rows())
     yield "every change of one byte of a plan", (JudgeCase(tiny.SMALL, plan) for plan in tiny.changes(tiny.small_plan()))
@@ -224,12 +232,20 @@ def any_best_list(rng, count):
         yield PagesCase(sheet, rng.choice(best_plans), rng.choice(best_plans))
 
 
-def out_of_range(rng, count):
-    """Small and full sheets with values out of range, each with a plan that is allowed without these where the given order is possible."""
+def with_wrong_fields(rng, count, wrong):
+    """Small and full sheets with some fields made wrong, each with a plan that is allowed without that where the given order is possible."""
     for draw, part in ((sheets.small_sheet, 16), (sheets.full_sheet, 80)):
         for _ in range(share(count, part)):
             sheet = draw(rng)
-            yield from all_calls([(values.drawn(rng, sheet), plans.idle_plan(rng, reader.read(sheet)).bytes())])
+            yield from all_calls([(wrong(rng, sheet), plans.idle_plan(rng, reader.read(sheet)).bytes())])
+
+
+def out_of_range(rng, count):
+    return with_wrong_fields(rng, count, values.drawn)
+
+
+def of_other_lengths(rng, count):
+    return with_wrong_fields(rng, count, lengths.drawn)
 
 
 def free_flights(rng, count):
@@ -241,7 +257,8 @@ def ordered_flights(rng, count):
 
 
 DRAWN = {
-    "small sheets": small_sheets, "sheets with values out of range": out_of_range, "plans for small sheets": plans_for_small, "mosaics of 40 strips": mosaics,
+    "small sheets": small_sheets, "sheets with values out of range": out_of_range, "sheets with fields of other lengths": of_other_lengths,
+    "plans for small sheets": plans_for_small, "mosaics of 40 strips": mosaics,
     "sortings of 6 + 6 + 6 strips": sortings, "flights of 8 free blocks": free_flights, "flights of 32 blocks in order": ordered_flights,
     "large sheets": large_sheets, "full sheets": full_sheets, "small sortings with ties": tied_sortings, "full sortings with ties": full_tied_sortings,
     "sortings with ties beside other sections": tied_sheets, "plans with any of the best scanner lists": any_best_list,

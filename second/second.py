@@ -12,7 +12,7 @@ difference ends the run with status 1 and is printed with the seed and the case.
     brute.py       the same of small sections, by trying everything
     judge.py       the judge; page.py: the page
     tiny.py        every tiny sheet and plan of bounded kinds
-    values.py      values at the ends of their ranges and beyond them
+    values.py      values at the ends of their ranges and beyond them; lengths.py: fields of other lengths than those that are due
     longest.py     the longest sections, and their plans up to the ceiling
     sheets.py      sheets that are drawn; plans.py: plans with idle time, and with faults; pages.py: plans that are printed
     kinds.py       all cases

@@ -191,13 +191,18 @@ def wrong_otherwise(one):
         yield order(0b0011)
 
 
-def two_wrong():
-    """Two fields that are wrong, at least one of them by a value."""
+def two_wrong(wrong_of):
+    """Two wrong fields, at least one of them in one of the ways that `wrong_of` gives for it."""
     fields = fields_of(2, 2)
-    values, others = [OUT_OF_RANGE.get(one[0], []) for one in fields], [list(wrong_otherwise(one)) for one in fields]
+    ours, others = [list(wrong_of(one)) for one in fields], [list(wrong_otherwise(one)) for one in fields]
     for i, j in itertools.combinations(range(len(fields)), 2):
-        for first, second in itertools.chain(itertools.product(values[i], values[j] + others[j]), itertools.product(others[i], values[j])):
+        for first, second in itertools.chain(itertools.product(ours[i], ours[j] + others[j]), itertools.product(others[i], ours[j])):
             yield b"".join([*fields[:i], first, *fields[i + 1:j], second, *fields[j + 1:]])
+
+
+def values_out(one):
+    """This field of fields_of(2, 2) with a value out of its range."""
+    return OUT_OF_RANGE.get(one[0], [])
 
 
 def fields_in(data):

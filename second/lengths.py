@@ -1,0 +1,103 @@
+"""Sheets with fields of other lengths than those that are due. All but the drawn ones are the same for every seed.
+
+Each is a sound sheet in which a field has another length, cut from its content or with bytes behind it. The plan that comes with it is allowed for the sound
+sheet.
+
+Sheets that are planned, judged and printed:
+- every field of mosaics of one to four stations and of sortings of one to three desks with 0 to 16 bytes, with 256 bytes more than are due, and with as many
+  as the length due says with its two bytes exchanged; the bytes behind the content are 0, 1 or FF.
+
+Sheets that are planned:
+- every field with a length of 0 to 300 that is stated only, so that the next field is read from another place;
+- strips of one to four stations behind heads of one to four, in the place of each of three strips;
+- each of the 256 tags at every place of a sheet, with contents of every length that some field has, and of one more;
+- a 41st strip, a 7th of a desk, a 33rd block and an order that is not proper, with 0 to 12 bytes;
+- a head with 0 to 4 bytes behind a section without members, behind nine blocks without order, and behind an order;
+- a field that is a byte short or long and another wrong field, before or behind it: the other has any of the numbers 3 to 10.
+
+Drawn: a sheet with one or two fields of other lengths.
+"""
+import itertools
+import struct
+
+from reader import HEADS, field
+from sheets import block, flight, mosaic_head, order, sorting_head, strip
+from values import fields_in, fields_of, full_sections, read_and_planned, replaced
+
+DUE = (0, 1, 3, 4, 5, 6, 8, 10)
+
+
+def of_length(one, length, behind):
+    """The field with its content cut to this length, or with bytes of this value behind it."""
+    content = one[3:] + bytes([behind]) * length
+    return field(one[0], content[:length])
+
+
+def other_lengths(due):
+    """Lengths of every size that are not due."""
+    swapped = due % 256 * 256 + due // 256
+    return sorted({*range(17), due + 256, swapped} - {due})
+
+
+def one_short_or_long(one):
+    """The field without its last byte, if it has one, and with a byte more."""
+    if len(one) > 3:
+        yield of_length(one, len(one) - 4, 0)
+    yield of_length(one, len(one) - 2, 1)
+
+
+def every_field():
+    """The fields of a sheet and the index of each, of every number of stations and of desks."""
+    for stations, desks in ((1, 1), (2, 2), (3, 3), (4, 2)):
+        fields = fields_of(stations, desks)
+        yield from ((fields, at) for at in range(len(fields)))
+
+
+def other_length():
+    """A sheet and a plan."""
+    for fields, at in every_field():
+        _, plan = read_and_planned(fields)
+        for length, behind in itertools.product(other_lengths(len(fields[at]) - 3), (0x00, 0x01, 0xFF)):
+            yield replaced(fields, at, of_length(fields[at], length, behind)), plan
+
+
+def stated_only():
+    for fields, at in every_field():
+        for length in range(301):
+            yield replaced(fields, at, fields[at][:1] + struct.pack("<H", length) + fields[at][3:])
+
+
+def strips_of_other_stations():
+    for stations, other, at in itertools.product((1, 2, 3, 4), (1, 2, 3, 4), (0, 1, 2)):
+        strips = [strip([2] * stations + [1])] * 3
+        yield replaced([mosaic_head(stations, 1), *strips], at + 1, strip([2] * other + [1]))
+
+
+def every_tag():
+    fields = fields_of(2, 2)
+    for at, tag, length in itertools.product(range(len(fields) + 1), range(256), (*DUE, 11)):
+        yield b"".join([*fields[:at], field(tag, b"\x01" * length), *fields[at:]])
+
+
+def one_too_many():
+    """A member more than its section may have, and an order that is not proper."""
+    for fields, at in full_sections():
+        for length in range(13):
+            yield b"".join([*fields[:at], of_length(fields[at - 1], length, 1), *fields[at:]])
+    for length in range(13):
+        yield field(0x30) + block(1, 0, 1) + of_length(order(0b01), length, 0)
+
+
+def heads_behind():
+    """A head of some length behind what may not end there, or behind which no head may stand."""
+    for before in (mosaic_head(1, 0), sorting_head(1), field(0x30), flight([(1, 0, 1)] * 9), flight([(1, 0, 1)], 0b10)):
+        yield from (before + field(tag, b"\x01" * length) for tag, length in itertools.product(HEADS, range(5)))
+
+
+def drawn(rng, data):
+    """A sound sheet with one or two fields of other lengths."""
+    fields = fields_in(data)
+    for at in rng.sample(range(len(fields)), min(len(fields), rng.choice((1, 1, 2)))):
+        length = rng.choice(other_lengths(len(fields[at]) - 3))
+        fields[at] = of_length(fields[at], length, rng.randrange(256))
+    return b"".join(fields)
