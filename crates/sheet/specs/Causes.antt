@@ -102,9 +102,9 @@ pub record OrderNotProper (tag blocks order : ℕ) : Type 0 where
   pub improper : Proper blocks order → ⊥
 
 -- The rows that a field of a tag and a content length is checked for, in the order of the checks: "each field for 3, then 8 or 10 if its tag ends the
--- section before, then 4, 5, 6, 7, 9"; 15 and 16 "both in the place of 6". At most one of the causes of 5, 6, 15 and 16 lies in a
--- field (one whose length is wrong has no values), so the order of these four rows among themselves decides nothing. "Place is the offset of the tag of the
--- field named": the head of the section for 8 and 10, else the field.
+-- section before, then 4, 5, 6, 7, 9"; 15 and 16 "both in the place of 6". At most one of the causes of 5, 6, 15 and 16 lies in a field (one whose length is
+-- wrong has no values), so the order of these four rows among themselves decides nothing. "Place is the offset of the tag of the field named": the head of
+-- the section for 8 and 10, else the field.
 abbrev pub cutRow : List ℕ → Reading → Row
 cutRow s st = row fieldCut (st .at) (FieldCut s (st .at))
 

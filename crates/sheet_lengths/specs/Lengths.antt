@@ -1,11 +1,12 @@
 -- What the cases of `LengthDue` mean, and the laws by which those of `length_due` are the lengths of the field table (02, Req 05).
 -- The idea: for a tag that is known the table computes to the one length that its content has; a tag outside the table has no content.
 use Prim.Native.Nat.{ℕ, _+_, _*_, _≤_}
-use mathlib.Core.Path.{_≡_, refl, sym}
+use mathlib.Core.Path.{_≡_, refl, sym, _∙_}
 use mathlib.Core.Bool.{Bool, true, false, _||_}
 use mathlib.Core.List.{List, [], _∷_}
 use native.Mathlib.Omega.{arith}
 use lib.Dec.{eqb}
+use borrow.Author.Tests.{eqb-true, eqb-false, eq-eqb, ne-eqb}
 use Rattle.sheet.specs.Limits.{mostStations}
 use Rattle.sheet.specs.Tags.{mosaicHeadTag, mosaicStripTag, sortingHeadTag, sortingStripTag, flightHeadTag, flightBlockTag, flightOrderTag}
 use Rattle.sheet.specs.Among.{isAmong}
@@ -77,7 +78,14 @@ module _ (tag stations : ℕ) where
 pub ruleset cases =
     (mosaic-head-case, sorting-head-case, sorting-strip-case, flight-head-case, flight-block-case, flight-order-case, no-strip-case, other-tag-case)
 
--- a length is compared with the one that is due
+-- a length is compared with the one that is due, whichever of them stands first
+either-first : (a b : ℕ) → eqb a b ≡ eqb b a
+either-first a b = go (eqb b a) refl
+  where
+    go : (c : Bool) → eqb b a ≡ c → eqb a b ≡ c
+    go true e = eq-eqb a b (sym (eqb-true b a e))
+    go false e = ne-eqb a b (λ h. eqb-false b a e (sym h))
+
 module _ (due : LengthDue) (len : ℕ) where
   pub bytes-compared : (bytes : ℕ) → due ≡ Bytes bytes → eqb bytes len ≡ isAmong len (lengthsGiven due)
   unfolding lengthsGiven isAmong
@@ -87,6 +95,11 @@ module _ (due : LengthDue) (len : ℕ) where
       last true = refl
       last false = refl
 
+  pub length-compared : (bytes : ℕ) → due ≡ Bytes bytes → eqb len bytes ≡ isAmong len (lengthsGiven due)
+  length-compared bytes e = either-first len bytes ∙ bytes-compared bytes e
+
   pub none-compared : due ≡ None → false ≡ isAmong len (lengthsGiven due)
   unfolding lengthsGiven isAmong
   none-compared e = rw e
+
+pub ruleset compared = (bytes-compared, length-compared, none-compared)

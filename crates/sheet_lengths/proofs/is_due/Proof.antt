@@ -1,5 +1,5 @@
 -- `is_due` meets its contract: a length is among those that are due exactly where it is the one that is.
-use Rattle.sheet_lengths.specs.Lengths.{bytes-compared, none-compared}
+use Rattle.sheet_lengths.specs.Lengths.{compared}
 use borrow.Author.Needs.{needs}
 use Rattle.sheet_lengths.proofs.is_due.Statement.{statement}
 use Rattle.sheet_lengths.proofs.is_due.Tie as tie
@@ -11,10 +11,10 @@ enum-told : tie.Need-enum-told
 enum-told c = search needs
 
 returns : tie.Need-returns
-returns c = search bytes-compared
+returns c = search compared
 
 returns-2 : tie.Need-returns-2
-returns-2 c = search none-compared
+returns-2 c = search compared
 
 pub is-due-spec : {M : Type 1} → statement M
 is-due-spec = tie.close (tie.spec enum-known-due enum-told returns returns-2)
