@@ -1,9 +1,8 @@
 """Sheets with fields of other lengths than those that are due. All but the drawn ones are the same for every seed.
 
-Each is a sound sheet in which a field has another length, cut from its content or with bytes behind it. The plan that comes with it is allowed for the sound
-sheet.
+A field of another length has its content cut, or bytes behind it.
 
-Sheets that are planned, judged and printed:
+Sheets that are planned, judged and printed, with a plan that is allowed for the sheet without the change:
 - every field of mosaics of one to four stations and of sortings of one to three desks with 0 to 16 bytes, with 256 bytes more than are due, and with as many
   as the length due says with its two bytes exchanged; the bytes behind the content are 0, 1 or FF.
 
@@ -13,7 +12,7 @@ Sheets that are planned:
 - each of the 256 tags at every place of a sheet, with contents of every length that some field has, and of one more;
 - a 41st strip, a 7th of a desk, a 33rd block and an order that is not proper, with 0 to 12 bytes;
 - a head with 0 to 4 bytes behind a section without members, behind nine blocks without order, and behind an order;
-- a field that is a byte short or long and another wrong field, before or behind it: the other has any of the numbers 3 to 10.
+- a field that is a byte short or long and another wrong field, before or behind it: the other has any of the numbers 3 to 5 and 7 to 10.
 
 Drawn: a sheet with one or two fields of other lengths.
 """
@@ -34,9 +33,9 @@ def of_length(one, length, behind):
 
 
 def other_lengths(due):
-    """Lengths of every size that are not due."""
-    swapped = due % 256 * 256 + due // 256
-    return sorted({*range(17), due + 256, swapped} - {due})
+    """0 to 16, 256 more than is due, and the length due with its two bytes exchanged; never the length due itself."""
+    exchanged = due % 256 * 256 + due // 256
+    return sorted({*range(17), due + 256, exchanged} - {due})
 
 
 def one_short_or_long(one):
@@ -47,7 +46,7 @@ def one_short_or_long(one):
 
 
 def every_field():
-    """The fields of a sheet and the index of each, of every number of stations and of desks."""
+    """The fields of a sheet and the index of each. The sheets have every number of stations and every number of desks."""
     for stations, desks in ((1, 1), (2, 2), (3, 3), (4, 2)):
         fields = fields_of(stations, desks)
         yield from ((fields, at) for at in range(len(fields)))
@@ -62,6 +61,7 @@ def other_length():
 
 
 def stated_only():
+    """Fields that say another length and keep their bytes."""
     for fields, at in every_field():
         for length in range(301):
             yield replaced(fields, at, fields[at][:1] + struct.pack("<H", length) + fields[at][3:])
