@@ -13,7 +13,8 @@ use Rattle.field.specs.Bytes.{numberAt}
 use Rattle.sheet.specs.Limits.{mostStations, mostTime}
 use Rattle.sheet.specs.Tags.{mosaicHeadTag, mosaicStripTag, sortingHeadTag, sortingStripTag, flightHeadTag, flightBlockTag, flightOrderTag}
 use Rattle.sheet.specs.Among.{Among}
-use Rattle.sheet.specs.FieldTable.{Item, TableRow, tableRow, mosaicHead, mosaicStrip, sortingHead, sortingStrip, flightHead, flightBlock, flightOrder}
+use Rattle.sheet.specs.FieldTable.{Item, TableRow, tableRow, mosaicHead, mosaicStrip, sortingHead, sortingStrip, flightBlock, flightOrder}
+use Rattle.sheet.specs.FieldTable.{emptyFlightHead, turnFlightHead}
 use Rattle.sheet.specs.FieldTable.{isStationCount, stripRows, fieldTable, lengthOf, contentsOf, lengthsOf, lengthsDue, ofLength, Value, numbersAt, valuesOf}
 use Rattle.sheet.specs.FieldTable.{contentValues, fieldValues}
 use Rattle.sheet.specs.FieldTable.Range.{time, positiveTime}
@@ -81,9 +82,9 @@ module _ (stations desks : ℕ) where
   unfolding fieldTable contentsOf
   sorting-strip-content = past-strip sortingStripTag stations _ (λ e. omega arith)
 
-  pub flight-head-content : contentsOf flightHeadTag (fieldTable stations desks) ≡ flightHead ∷ []
+  pub flight-head-contents : contentsOf flightHeadTag (fieldTable stations desks) ≡ emptyFlightHead ∷ turnFlightHead ∷ []
   unfolding fieldTable contentsOf
-  flight-head-content = past-strip flightHeadTag stations _ (λ e. omega arith)
+  flight-head-contents = past-strip flightHeadTag stations _ (λ e. omega arith)
 
   pub flight-block-content : contentsOf flightBlockTag (fieldTable stations desks) ≡ flightBlock ∷ []
   unfolding fieldTable contentsOf
@@ -206,10 +207,18 @@ module _ (s : List ℕ) (c len stations desks : ℕ) where
       sole-values s c sortingStripTag len _ (sortingStrip desks) (sorting-strip-content stations desks) due
       ∙ ap (λ at. valuesOf (sortingStrip desks) (numberAt s c 1 ∷ numberAt s (c + 1) 2 ∷ numberAt s at 2 ∷ [])) (omega arith)
 
+  -- an empty head has no value, one with a turn has that
   pub flight-head-values : Among len (lengthsDue flightHeadTag (fieldTable stations desks))
-      → fieldValues s c flightHeadTag len (fieldTable stations desks) ≡ []
-  unfolding contentValues flightHead numbersAt valuesOf
-  flight-head-values due = sole-values s c flightHeadTag len _ flightHead (flight-head-content stations desks) due
+      → fieldValues s c flightHeadTag len (fieldTable stations desks) ≡ cond (eqb len 0) [] (valuesOf turnFlightHead (numberAt s c 2 ∷ []))
+  unfolding fieldValues lengthsDue lengthsOf lengthOf ofLength contentValues emptyFlightHead turnFlightHead numbersAt valuesOf Among
+  flight-head-values due = rw (flight-head-contents stations desks) (go (rw (flight-head-contents stations desks) at due))
+    where
+      go : Among len (0 ∷ 2 ∷ [])
+          → contentValues s c (cond (eqb len 0) [] (cond (eqb len 2) turnFlightHead []))
+          ≡ cond (eqb len 0) [] (valuesOf turnFlightHead (numberAt s c 2 ∷ []))
+      go (inl e) = rw e
+      go (inr (inl e)) = rw e
+      go (inr (inr a)) = absurd a
 
   pub flight-block-values : Among len (lengthsDue flightBlockTag (fieldTable stations desks))
       → fieldValues s c flightBlockTag len (fieldTable stations desks)

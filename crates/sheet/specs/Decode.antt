@@ -24,7 +24,7 @@ unfoldable pub noSorting : SortingSection
 noSorting = record { desks = 0; counts = zeros 3; scan = zeros 18; desk = zeros 18 }
 
 unfoldable pub noFlight : FlightSection
-noFlight = record { blocks = 0; first = zeros 32; delay = zeros 32; second = zeros 32; ordered = false; order = 0; place = 0 }
+noFlight = record { blocks = 0; turn = 0; first = zeros 32; delay = zeros 32; second = zeros 32; ordered = false; order = 0; place = 0 }
 
 -- a mosaic of a head alone, and with one strip more
 unfoldable pub withMosaicHead : List ℕ → ℕ → MosaicSection
@@ -61,11 +61,21 @@ withStripAt s c t d k =
 unfoldable pub withSortingStrip : List ℕ → ℕ → SortingSection → SortingSection
 withSortingStrip s c t = withStripAt s c t (numberAt s c 1 - 1) (stripsOfDesk (t .counts) (numberAt s c 1))
 
--- the flight with one block more, and with its order, whose field stands at an offset
+-- 02, Req 06: "The flight head may carry two bytes, the turn g ..; an empty head means 0."
+unfoldable pub turnOf : List ℕ → ℕ → ℕ → ℕ
+turnOf s c len = cond (eqb len 0) 0 (numberAt s c 2)
+
+-- a flight of a head alone, with one block more, and with its order. The head stands at an offset, and so does the order field: 11 is given at the order
+-- field or, where there is none, at the head.
+unfoldable pub withFlightHead : List ℕ → ℕ → ℕ → ℕ → FlightSection
+withFlightHead s c len at =
+    record { blocks = 0; turn = turnOf s c len; first = zeros 32; delay = zeros 32; second = zeros 32; ordered = false; order = 0; place = at }
+
 unfoldable pub withBlock : List ℕ → ℕ → FlightSection → FlightSection
 withBlock s c f =
     record {
       blocks = f .blocks + 1;
+      turn = f .turn;
       first = set (f .first) (f .blocks) (numberAt s c 2);
       delay = set (f .delay) (f .blocks) (numberAt s (c + 2) 2);
       second = set (f .second) (f .blocks) (numberAt s (c + 4) 2);
@@ -76,17 +86,21 @@ withBlock s c f =
 
 unfoldable pub withOrder : List ℕ → ℕ → ℕ → FlightSection → FlightSection
 withOrder s c at f =
-    record { blocks = f .blocks; first = f .first; delay = f .delay; second = f .second; ordered = true; order = numberAt s c 8; place = at }
+    record { blocks = f .blocks; turn = f .turn; first = f .first; delay = f .delay; second = f .second; ordered = true; order = numberAt s c 8; place = at }
 
--- each section after a field; a mosaic and a sorting begin anew with their head, and the head of a flight is empty
+-- each section after a field; it begins anew with its head
 unfoldable pub nextMosaic : List ℕ → ℕ → ℕ → MosaicSection → MosaicSection
 nextMosaic s c tag m = cond (eqb tag mosaicHeadTag) (withMosaicHead s c) (cond (eqb tag mosaicStripTag) (withMosaicStrip s c m) m)
 
 unfoldable pub nextSorting : List ℕ → ℕ → ℕ → SortingSection → SortingSection
 nextSorting s c tag t = cond (eqb tag sortingHeadTag) (withSortingHead s c) (cond (eqb tag sortingStripTag) (withSortingStrip s c t) t)
 
-unfoldable pub nextFlight : List ℕ → ℕ → ℕ → ℕ → FlightSection → FlightSection
-nextFlight s c tag at f = cond (eqb tag flightBlockTag) (withBlock s c f) (cond (eqb tag flightOrderTag) (withOrder s c at f) f)
+unfoldable pub nextFlight : List ℕ → ℕ → ℕ → ℕ → ℕ → FlightSection → FlightSection
+nextFlight s c tag len at f =
+    cond (eqb tag flightHeadTag) (withFlightHead s c len at)
+    (cond (eqb tag flightBlockTag) (withBlock s c f)
+    (cond (eqb tag flightOrderTag) (withOrder s c at f)
+    f))
 
 -- the section that a permitted tag leads to
 unfoldable pub nextSection : ℕ → ℕ → ℕ
@@ -115,7 +129,7 @@ nextReading s st tag len =
       members = nextMembers tag (st .members);
       mosaic = nextMosaic s (st .at + 3) tag (st .mosaic);
       sorting = nextSorting s (st .at + 3) tag (st .sorting);
-      flight = nextFlight s (st .at + 3) tag (st .at) (st .flight);
+      flight = nextFlight s (st .at + 3) tag len (st .at) (st .flight);
     }
 
 -- before the first field

@@ -7,7 +7,7 @@ use mathlib.Core.Bool.{Bool, cond, _&&_}
 use mathlib.Core.List.{List, [], _∷_, _++_}
 use lib.Dec.{eqb, leb}
 use Rattle.field.specs.Bytes.{numberAt}
-use Rattle.sheet.specs.Limits.{mostStations, mostDesks, mostTime}
+use Rattle.sheet.specs.Limits.{mostStations, mostDesks, mostTime, mostTurn}
 use Rattle.sheet.specs.Tags.{mosaicHeadTag, mosaicStripTag, sortingHeadTag, sortingStripTag, flightHeadTag, flightBlockTag, flightOrderTag}
 use Rattle.sheet.specs.declared.Reading.{Reading}
 
@@ -43,9 +43,12 @@ sortingHead = item 1 (count 1 mostDesks) ∷ []
 unfoldable pub sortingStrip : ℕ → List Item
 sortingStrip m = item 1 (count 1 m) ∷ item 2 (positiveTime mostTime) ∷ item 2 (positiveTime mostTime) ∷ []
 
--- "empty"
-unfoldable pub flightHead : List Item
-flightHead = []
+-- "empty"; 02, Req 06: "The flight head may carry two bytes, the turn g, 0 to 600 seconds"
+unfoldable pub emptyFlightHead : List Item
+emptyFlightHead = []
+
+unfoldable pub turnFlightHead : List Item
+turnFlightHead = item 2 (time mostTurn) ∷ []
 
 -- "first pass a, delay l, second pass b (2 bytes each; a and b 1 to 10,000, l 0 to 10,000)"
 unfoldable pub flightBlock : List Item
@@ -55,7 +58,7 @@ flightBlock = item 2 (positiveTime mostTime) ∷ item 2 (time mostTime) ∷ item
 unfoldable pub flightOrder : List Item
 flightOrder = item 8 noRange ∷ []
 
--- A row of the table: a tag and what its content is.
+-- A row of the table: a tag and what its content is. A tag that may have one of two contents has two rows.
 pub record TableRow : Type 0 where
   pub tag : ℕ
   pub content : List Item
@@ -77,7 +80,8 @@ fieldTable stations desks =
     ∷ (stripRows stations
     ++ (tableRow sortingHeadTag sortingHead
     ∷ tableRow sortingStripTag (sortingStrip desks)
-    ∷ tableRow flightHeadTag flightHead
+    ∷ tableRow flightHeadTag emptyFlightHead
+    ∷ tableRow flightHeadTag turnFlightHead
     ∷ tableRow flightBlockTag flightBlock
     ∷ tableRow flightOrderTag flightOrder
     ∷ []))

@@ -10,15 +10,15 @@ use Rattle.sheet.specs.Limits.{mostBlocks, mostStrips}
 use Rattle.sheet.specs.Tags.{mosaicHeadTag, mosaicStripTag, sortingHeadTag, sortingStripTag, flightHeadTag, flightBlockTag, flightOrderTag}
 use Rattle.sheet.specs.Sections.{noSection, inMosaic, inSorting, inFlight, afterOrder}
 use Rattle.sheet.specs.Checks.{endsSection}
-use Rattle.sheet.specs.Contents.{mosaic-head-values, mosaic-strip-values, sorting-head-values, sorting-strip-values, flight-block-values}
+use Rattle.sheet.specs.Contents.{mosaic-head-values, mosaic-strip-values, sorting-head-values, sorting-strip-values, flight-head-values, flight-block-values}
 use Rattle.sheet.specs.Causes.{Permitted, TooMany}
-use Rattle.sheet.specs.Decode.{noFlight, withMosaicHead, withMosaicStrip, withSortingHead, withBlock, withOrder, nextMosaic, nextSorting, nextFlight}
+use Rattle.sheet.specs.Decode.{noFlight, withMosaicHead, withMosaicStrip, withSortingHead, withFlightHead, withBlock, withOrder, nextMosaic, nextSorting, nextFlight}
 use Rattle.sheet.specs.Decode.{nextSection, nextHead, nextMembers, nextReading, startReading}
 use Rattle.sheet.specs.Sound.{MosaicSound, SortingSound, FlightWithin, stripsInAll}
 use Rattle.sheet.specs.Stores.{zeros-at}
 use Rattle.sheet.specs.Passed.{Passed, within-by}
 use Rattle.sheet.specs.SectionLaws.{no-mosaic-sound, no-sorting-sound, no-flight-sound, mosaic-head-sound, mosaic-strip-sound, sorting-head-sound}
-use Rattle.sheet.specs.SectionLaws.{sorting-strip-sound, sorting-strip-more, block-sound, order-sound}
+use Rattle.sheet.specs.SectionLaws.{sorting-strip-sound, sorting-strip-more, flight-head-sound, block-sound, order-sound}
 use Rattle.sheet.specs.declared.Reading.{Reading}
 
 pub record Kept (s : List ℕ) (st : Reading) : Type 0 where
@@ -143,22 +143,21 @@ module _ (s : List ℕ) (st : Reading) (len : ℕ) (k : Kept s st) (w : st .at +
         after-order = λ q. absurd (omega arith);
       }
 
-  kept-flight-head : st .section < inFlight → Kept s (nextReading s st flightHeadTag len)
-  unfolding nextReading nextSection nextHead nextMembers nextMosaic nextSorting nextFlight endsSection
-  kept-flight-head h =
-      let b = k .before-flight h in
+  kept-flight-head : Passed s st flightHeadTag len → st .section < inFlight → Kept s (nextReading s st flightHeadTag len)
+  unfolding nextReading nextSection nextHead nextMembers nextMosaic nextSorting nextFlight endsSection withFlightHead
+  kept-flight-head p h =
       record {
         within = w;
         few-members = omega arith;
         known = omega arith;
         mosaic = k .mosaic;
         sorting = k .sorting;
-        flight = k .flight;
+        flight = flight-head-sound s (st .at + 3) len (st .at) (within-by p (flight-head-values s (st .at + 3) len _ _));
         in-none = λ q. absurd (omega arith);
         in-mosaic = λ q. absurd (omega arith);
         in-sorting = λ q. absurd (omega arith);
         before-flight = λ q. absurd (omega arith);
-        in-flight = λ _. (sym (b .0), b .1);
+        in-flight = λ _. (refl, refl);
         after-order = λ q. absurd (omega arith);
       }
 
@@ -213,7 +212,7 @@ module _ (s : List ℕ) (st : Reading) (tag len : ℕ) (k : Kept s st) (w : st .
   kept-case (Permitted.mosaic-strip e h) = at-tag mosaicStripTag e (λ q. kept-mosaic-strip s st len k w q h)
   kept-case (Permitted.sorting-head e h) = at-tag sortingHeadTag e (λ q. kept-sorting-head s st len k w q h)
   kept-case (Permitted.sorting-strip e h) = at-tag sortingStripTag e (λ q. kept-sorting-strip s st len k w q h)
-  kept-case (Permitted.flight-head e h) = at-tag flightHeadTag e (λ q. kept-flight-head s st len k w h)
+  kept-case (Permitted.flight-head e h) = at-tag flightHeadTag e (λ q. kept-flight-head s st len k w q h)
   kept-case (Permitted.flight-block e h) = at-tag flightBlockTag e (λ q. kept-flight-block s st len k w q h)
   kept-case (Permitted.flight-order e h l) = at-tag flightOrderTag e (λ q. kept-flight-order s st len k w q h)
 

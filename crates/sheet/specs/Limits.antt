@@ -11,6 +11,10 @@ mostDesks = 3
 abbrev pub mostTime : ℕ
 mostTime = 60_000
 
+-- 02, Req 06: "the turn g, 0 to 600 seconds"
+abbrev pub mostTurn : ℕ
+mostTurn = 600
+
 abbrev pub mostStrips : ℕ
 mostStrips = 40
 

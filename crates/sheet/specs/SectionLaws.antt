@@ -1,22 +1,23 @@
 -- Each section stays sound as a field that passes its checks is added.
 use Prim.Native.Nat.{ℕ, zero, suc, _+_, _-_, _*_, _≤_, _<_}
 use mathlib.Core.Path.{_≡_, refl, sym, subst, _∙_}
-use mathlib.Core.Bool.{true, false}
+use mathlib.Core.Bool.{Bool, true, false, cond, true≢false}
 use mathlib.Core.List.{List, [], _∷_}
 use native.Mathlib.Decide.{ℕ-discrete}
 use native.Mathlib.Omega.{arith}
+use lib.Dec.{eqb}
 use lib.ListN.{length, getD, set, length-set}
 use Rattle.field.specs.Bytes.{numberAt}
 use Rattle.order.specs.Order.{Proper}
-use Rattle.sheet.specs.Limits.{mostStations, mostDesks, mostTime, mostStrips, mostStripsOfDesk, mostBlocks}
+use Rattle.sheet.specs.Limits.{mostStations, mostDesks, mostTime, mostTurn, mostStrips, mostStripsOfDesk, mostBlocks}
 use Rattle.sheet.specs.Sections.{stripsOfDesk}
-use Rattle.sheet.specs.FieldTable.{mosaicHead, mosaicStrip, sortingHead, sortingStrip, flightBlock, valuesOf, contentValues}
+use Rattle.sheet.specs.FieldTable.{mosaicHead, mosaicStrip, sortingHead, sortingStrip, turnFlightHead, flightBlock, valuesOf, contentValues}
 use Rattle.sheet.specs.FieldTable.{Between, Within, InRange}
 use Rattle.sheet.specs.FieldTable.Range.{time}
 use Rattle.sheet.specs.FieldTable.Value.{value}
 use Rattle.sheet.specs.Contents.{stripFrom, strip-from-start, strip-bench-left, strip-time-left}
 use Rattle.sheet.specs.Decode.{zeros, noMosaic, noSorting, noFlight, withMosaicHead, withStationTimes, withMosaicStrip, withSortingHead, withStripAt}
-use Rattle.sheet.specs.Decode.{withSortingStrip, withBlock, withOrder}
+use Rattle.sheet.specs.Decode.{withSortingStrip, turnOf, withFlightHead, withBlock, withOrder}
 use Rattle.sheet.specs.Sound.{MosaicSound, SortingSound, FlightWithin, stripsInAll}
 use Rattle.sheet.specs.Stores.{length-zeros, zeros-at, set-here, set-there, set-most, set-least}
 use Rattle.sheet.specs.Passed.{first-within, others-within}
@@ -209,11 +210,13 @@ sorting-strip-more s c t h r =
 
 -- the flight
 
-pub no-flight-sound : FlightWithin mostBlocks noFlight
-unfolding noFlight
-no-flight-sound =
+flight-begun : (turn place : ℕ) → turn ≤ mostTurn
+    → FlightWithin mostBlocks
+    (record { blocks = 0; turn = turn; first = zeros 32; delay = zeros 32; second = zeros 32; ordered = false; order = 0; place = place })
+flight-begun turn place h =
     record {
       most-blocks = omega arith;
+      most-turn = h;
       first-length = length-zeros 32;
       delay-length = length-zeros 32;
       second-length = length-zeros 32;
@@ -222,12 +225,27 @@ no-flight-sound =
       most-second = λ i. zero-most 32 i mostTime;
       least-first = λ i h. absurd (omega arith);
       least-second = λ i h. absurd (omega arith);
-      given = λ e. absurd (differ e);
+      given = λ e. absurd (true≢false (sym e));
       free = λ e. omega arith;
     }
+
+pub no-flight-sound : FlightWithin mostBlocks noFlight
+unfolding noFlight
+no-flight-sound = flight-begun 0 0 (omega arith)
+
+-- the turn of a head whose values are within their ranges
+turn-within : (s : List ℕ) (c len : ℕ) → InRange (cond (eqb len 0) [] (valuesOf turnFlightHead (numberAt s c 2 ∷ []))) → turnOf s c len ≤ mostTurn
+unfolding turnOf turnFlightHead valuesOf Within
+turn-within s c len r = go (eqb len 0) r
   where
-    differ : false ≡ true → ⊥
-    differ q = let z : _≡_ {A = ℕ} 0 1 = cc in omega arith
+    go : (b : Bool) → InRange (cond b [] (value (time mostTurn) (numberAt s c 2) ∷ [])) → cond b 0 (numberAt s c 2) ≤ mostTurn
+    go true q = omega arith
+    go false q = first-within _ _ q .at-most
+
+pub flight-head-sound : (s : List ℕ) (c len at : ℕ) → InRange (cond (eqb len 0) [] (valuesOf turnFlightHead (numberAt s c 2 ∷ [])))
+    → FlightWithin mostBlocks (withFlightHead s c len at)
+unfolding withFlightHead
+flight-head-sound s c len at r = flight-begun (turnOf s c len) at (turn-within s c len r)
 
 pub block-sound : (s : List ℕ) (c : ℕ) (f : FlightSection) → FlightWithin mostBlocks f → f .ordered ≡ false → f .blocks < mostBlocks
     → InRange (valuesOf flightBlock (numberAt s c 2 ∷ numberAt s (c + 2) 2 ∷ numberAt s (c + 4) 2 ∷ [])) → FlightWithin mostBlocks (withBlock s c f)
@@ -240,6 +258,7 @@ block-sound s c f h plain room r =
     let lb = h .second-length in
     record {
       most-blocks = omega arith;
+      most-turn = h .most-turn;
       first-length = simp length-set (h .first-length);
       delay-length = simp length-set (h .delay-length);
       second-length = simp length-set (h .second-length);
@@ -248,12 +267,9 @@ block-sound s c f h plain room r =
       most-second = set-most (f .second) mostTime (f .blocks) _ (h .most-second) (b .at-most);
       least-first = set-least (f .first) (f .blocks) _ (h .least-first) (a .at-least) (omega arith);
       least-second = set-least (f .second) (f .blocks) _ (h .least-second) (b .at-least) (omega arith);
-      given = λ e. absurd (differ (sym plain ∙ e));
+      given = λ e. absurd (true≢false (sym e ∙ plain));
       free = λ e. omega arith;
     }
-  where
-    differ : false ≡ true → ⊥
-    differ q = let z : _≡_ {A = ℕ} 0 1 = cc in omega arith
 
 pub order-sound : (s : List ℕ) (c at : ℕ) (f : FlightSection) → FlightWithin mostBlocks f → Proper (f .blocks) (numberAt s c 8)
     → FlightWithin mostBlocks (withOrder s c at f)
@@ -261,6 +277,7 @@ unfolding withOrder
 order-sound s c at f h e =
     record {
       most-blocks = h .most-blocks;
+      most-turn = h .most-turn;
       first-length = h .first-length;
       delay-length = h .delay-length;
       second-length = h .second-length;

@@ -3,7 +3,7 @@ use Prim.Native.Nat.{ℕ, _+_, _*_, _≤_, _<_}
 use mathlib.Core.Path.{_≡_}
 use mathlib.Core.Bool.{true, false}
 use lib.ListN.{length, getD}
-use Rattle.sheet.specs.Limits.{mostStations, mostDesks, mostTime, mostStrips, mostStripsOfDesk, mostBlocks, mostBlocksWithoutOrder}
+use Rattle.sheet.specs.Limits.{mostStations, mostDesks, mostTime, mostTurn, mostStrips, mostStripsOfDesk, mostBlocks, mostBlocksWithoutOrder}
 use Rattle.order.specs.Order.{Proper}
 use Rattle.sheet.specs.declared.MosaicSection.{MosaicSection}
 use Rattle.sheet.specs.declared.SortingSection.{SortingSection}
@@ -37,6 +37,7 @@ pub record SortingSound (s : SortingSection) : Type 0 where
 -- a flight section that has at most so many blocks where no order is given
 pub record FlightWithin (mostFree : ℕ) (f : FlightSection) : Type 0 where
   pub most-blocks : f .blocks ≤ mostBlocks
+  pub most-turn : f .turn ≤ mostTurn
   pub first-length : length (f .first) ≡ 32
   pub delay-length : length (f .delay) ≡ 32
   pub second-length : length (f .second) ≡ 32

@@ -181,6 +181,7 @@ complete-sound s st k c =
       flight =
           record {
             most-blocks = f .most-blocks;
+            most-turn = f .most-turn;
             first-length = f .first-length;
             delay-length = f .delay-length;
             second-length = f .second-length;

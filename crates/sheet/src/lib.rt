@@ -23,9 +23,11 @@ pub struct SortingSection {
     pub desk: [u64; 18],
 }
 
-// The flight section: first pass, delay and second pass of each block; the order number where one is given, and its field's place.
+// The flight section: the turn between passes; first pass, delay and second pass of each block; the order number where one is given; and the place that is
+// returned where no timetable is possible, that of the order field, or of the head where no order is given.
 pub struct FlightSection {
     pub blocks: usize,
+    pub turn: u64,
     pub first: [u64; 32],
     pub delay: [u64; 32],
     pub second: [u64; 32],

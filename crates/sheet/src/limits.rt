@@ -6,6 +6,9 @@ pub const MOST_DESKS: u64 = 3;
 // A time of any kind (02, Req 01); the least is 0 for a mount, a station and a delay, and 1 for the others.
 pub const MOST_TIME: u64 = 60_000;
 
+// The turn between passes, in seconds (02, Req 06); the least is 0.
+pub const MOST_TURN: u64 = 600;
+
 pub const MOST_STRIPS: usize = 40;
 
 pub const MOST_STRIPS_OF_DESK: usize = 6;
