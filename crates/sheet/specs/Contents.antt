@@ -7,7 +7,7 @@ use mathlib.Core.List.{List, [], _∷_, _++_}
 use mathlib.Core.Logic.{inl, inr}
 use native.Mathlib.Omega.{arith}
 use lib.Dec.{eqb}
-use borrow.Author.Tests.{eq-eqb, ne-eqb, le-leb, leb-true}
+use borrow.Author.Tests.{eq-eqb, ne-eqb, eqb-true, le-leb, leb-true}
 use Rattle.base.specs.Branch.{both}
 use Rattle.field.specs.Bytes.{numberAt}
 use Rattle.sheet.specs.Limits.{mostStations, mostTime}
@@ -109,7 +109,14 @@ module _ (stations desks : ℕ) where
         ne-eqb tag flightOrderTag h₇,
       )
 
--- the length of each row is due for its tag, and for a tag of no row none is
+-- a row of a tag whose content has a length
+pub record RowOfLength (tag len : ℕ) (table : List TableRow) : Type 0 where
+  pub row : TableRow
+  pub in-table : Among row table
+  pub of-tag : tag ≡ row .tag
+  pub of-length : len ≡ lengthOf (row .content)
+
+-- the length of each row is due for its tag, each length that is due is that of a row, and for a tag of no row none is
 module _ (tag : ℕ) where
   pub row-due : (table : List TableRow) (r : TableRow) → Among r table → tag ≡ r .tag → Among (lengthOf (r .content)) (lengthsDue tag table)
   unfolding Among lengthsDue contentsOf lengthsOf
@@ -121,6 +128,20 @@ module _ (tag : ℕ) where
           → Among (lengthOf (r .content)) (lengthsOf (cond b (q .content ∷ contentsOf tag table) (contentsOf tag table)))
       behind true a = inr a
       behind false a = a
+
+  pub due-row : (len : ℕ) (table : List TableRow) → Among len (lengthsDue tag table) → RowOfLength tag len table
+  unfolding Among lengthsDue contentsOf lengthsOf
+  due-row len [] a = absurd a
+  due-row len (q ∷ table) a = go (eqb tag (q .tag)) refl a (due-row len table)
+    where
+      behind : RowOfLength tag len table → RowOfLength tag len (q ∷ table)
+      behind r = record { row = r .row; in-table = inr (r .in-table); of-tag = r .of-tag; of-length = r .of-length }
+
+      go : (b : Bool) → eqb tag (q .tag) ≡ b → Among len (lengthsOf (cond b (q .content ∷ contentsOf tag table) (contentsOf tag table)))
+          → (Among len (lengthsOf (contentsOf tag table)) → RowOfLength tag len table) → RowOfLength tag len (q ∷ table)
+      go true e (inl h) later = record { row = q; in-table = inl refl; of-tag = eqb-true tag (q .tag) e; of-length = h }
+      go true e (inr a) later = behind (later a)
+      go false e a later = behind (later a)
 
   pub no-row-due : (table : List TableRow) → ((r : TableRow) → Among r table → tag ≡ r .tag → ⊥) → lengthsDue tag table ≡ []
   unfolding Among lengthsDue contentsOf lengthsOf

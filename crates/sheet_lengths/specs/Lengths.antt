@@ -1,5 +1,5 @@
 -- What the cases of `LengthDue` mean, and the laws by which those of `length_due` are the lengths of the field table (02, Req 05).
--- The idea: for a tag that is known the table computes to the one length that its content has; a tag outside the table has no content.
+-- The idea: for a tag that is known the table computes to the lengths that its contents have; a tag outside the table has no content.
 use Prim.Native.Nat.{ℕ, _+_, _*_, _≤_}
 use mathlib.Core.Path.{_≡_, refl, sym, _∙_}
 use mathlib.Core.Bool.{Bool, true, false, _||_}
@@ -10,23 +10,24 @@ use borrow.Author.Tests.{eqb-true, eqb-false, eq-eqb, ne-eqb}
 use Rattle.sheet.specs.Limits.{mostStations}
 use Rattle.sheet.specs.Tags.{mosaicHeadTag, mosaicStripTag, sortingHeadTag, sortingStripTag, flightHeadTag, flightBlockTag, flightOrderTag}
 use Rattle.sheet.specs.Among.{isAmong}
-use Rattle.sheet.specs.FieldTable.{mosaicHead, sortingHead, sortingStrip, flightHead, flightBlock, flightOrder}
+use Rattle.sheet.specs.FieldTable.{mosaicHead, sortingHead, sortingStrip, emptyFlightHead, turnFlightHead, flightBlock, flightOrder}
 use Rattle.sheet.specs.FieldTable.{fieldTable, lengthOf, contentsOf, lengthsOf, lengthsDue}
 use Rattle.sheet.specs.Contents.{mosaic-head-content, mosaic-strip-content, no-strip-content, sorting-head-content, sorting-strip-content}
-use Rattle.sheet.specs.Contents.{flight-head-content, flight-block-content, flight-order-content, no-content, no-lengths, strip-length}
+use Rattle.sheet.specs.Contents.{flight-head-contents, flight-block-content, flight-order-content, no-content, no-lengths, strip-length}
 use Rattle.sheet_lengths.specs.declared.LengthDue.{LengthDue}
-use Rattle.sheet_lengths.specs.declared.LengthDue.the-variants.{Bytes, None}
+use Rattle.sheet_lengths.specs.declared.LengthDue.the-variants.{Bytes, Either, None}
 
--- The lengths that an answer means. `Bytes n`: n alone is due. `None`: no length is due.
+-- The lengths that an answer means. `Bytes n`: n alone is due. `Either m n`: m and n are. `None`: no length is due.
 unfoldable pub lengthsGiven : LengthDue → List ℕ
 lengthsGiven (Bytes n) = n ∷ []
+lengthsGiven (Either m n) = m ∷ n ∷ []
 lengthsGiven None = []
 
 -- What `length_due` answers for a tag and a number of stations: the lengths of the tag's contents in the field table. No width depends on the number of desks.
 abbrev pub GivesLength : ℕ → ℕ → LengthDue → Type 0
 GivesLength tag stations due = (desks : ℕ) → lengthsGiven due ≡ lengthsDue tag (fieldTable stations desks)
 
--- the cases of the seven tags: each is the length of the content that the table has for the tag
+-- the cases of the seven tags: each is the length of the content that the table has for the tag, that of the flight head the lengths of its two
 module _ (tag stations n : ℕ) where
   pub mosaic-head-case : tag ≡ mosaicHeadTag → n ≡ 3 → GivesLength tag stations (Bytes n)
   unfolding lengthsGiven lengthsDue lengthsOf lengthOf mosaicHead
@@ -45,9 +46,9 @@ module _ (tag stations n : ℕ) where
   unfolding lengthsGiven lengthsDue lengthsOf lengthOf sortingStrip
   sorting-strip-case e h desks = rw (e, h, sorting-strip-content stations desks)
 
-  pub flight-head-case : tag ≡ flightHeadTag → n ≡ 0 → GivesLength tag stations (Bytes n)
-  unfolding lengthsGiven lengthsDue lengthsOf lengthOf flightHead
-  flight-head-case e h desks = rw (e, h, flight-head-content stations desks)
+  pub flight-head-case : (m : ℕ) → tag ≡ flightHeadTag → n ≡ 0 → m ≡ 2 → GivesLength tag stations (Either n m)
+  unfolding lengthsGiven lengthsDue lengthsOf lengthOf emptyFlightHead turnFlightHead
+  flight-head-case m e h k desks = rw (e, h, k, flight-head-contents stations desks)
 
   pub flight-block-case : tag ≡ flightBlockTag → n ≡ 6 → GivesLength tag stations (Bytes n)
   unfolding lengthsGiven lengthsDue lengthsOf lengthOf flightBlock
@@ -86,20 +87,29 @@ either-first a b = go (eqb b a) refl
     go true e = eq-eqb a b (sym (eqb-true b a e))
     go false e = ne-eqb a b (λ h. eqb-false b a e (sym h))
 
+last : (b : Bool) → b ≡ (b || false)
+last true = refl
+last false = refl
+
 module _ (due : LengthDue) (len : ℕ) where
   pub bytes-compared : (bytes : ℕ) → due ≡ Bytes bytes → eqb bytes len ≡ isAmong len (lengthsGiven due)
   unfolding lengthsGiven isAmong
   bytes-compared bytes e = rw e (last (eqb bytes len))
-    where
-      last : (b : Bool) → b ≡ (b || false)
-      last true = refl
-      last false = refl
 
   pub length-compared : (bytes : ℕ) → due ≡ Bytes bytes → eqb len bytes ≡ isAmong len (lengthsGiven due)
   length-compared bytes e = either-first len bytes ∙ bytes-compared bytes e
+
+  -- of two lengths that are due the first is compared first
+  pub either-first-due : (first second : ℕ) → due ≡ Either first second → first ≡ len → eqb first len ≡ isAmong len (lengthsGiven due)
+  unfolding lengthsGiven isAmong
+  either-first-due first second e h = rw (e, eq-eqb first len h)
+
+  pub either-compared : (first second : ℕ) → due ≡ Either first second → (first ≡ len → ⊥) → eqb second len ≡ isAmong len (lengthsGiven due)
+  unfolding lengthsGiven isAmong
+  either-compared first second e h = rw (e, ne-eqb first len h) (last (eqb second len))
 
   pub none-compared : due ≡ None → false ≡ isAmong len (lengthsGiven due)
   unfolding lengthsGiven isAmong
   none-compared e = rw e
 
-pub ruleset compared = (bytes-compared, length-compared, none-compared)
+pub ruleset compared = (bytes-compared, length-compared, either-first-due, either-compared, none-compared)

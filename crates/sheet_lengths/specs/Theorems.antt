@@ -1,38 +1,67 @@
--- What `length_due` answers by its contract (02, Req 05): for a tag of the field table the length of its content, for any other none.
--- The idea: the lengths that the answer means are those of the tag's rows, and an answer means one length at the most.
+-- What `length_due` answers by its contract (02, Req 05): for a tag of the field table the lengths of its contents, for any other none.
+-- The idea: the lengths that the answer means are those of the tag's rows, and they determine the answer.
 use Prim.Native.Nat.{ℕ, _+_, _*_, _≤_}
-use mathlib.Core.Path.{_≡_, refl, sym, ap, subst, _∙_}
-use mathlib.Core.List.{[]}
-use mathlib.Core.Logic.{inl, inr}
+use mathlib.Core.Path.{_≡_, refl, sym, ap, ap₂, subst, _∙_}
+use mathlib.Core.List.{List, [], _∷_}
 use native.Mathlib.Omega.{arith}
+use lib.ListN.{length, getD}
 use Rattle.sheet.specs.Limits.{mostStations}
 use Rattle.sheet.specs.Tags.{mosaicHeadTag, mosaicStripTag, sortingHeadTag, sortingStripTag, flightHeadTag, flightBlockTag, flightOrderTag}
 use Rattle.sheet.specs.Among.{Among}
-use Rattle.sheet.specs.FieldTable.{TableRow, fieldTable, lengthOf}
-use Rattle.sheet.specs.Contents.{row-due, no-row-due}
-use Rattle.sheet_lengths.specs.Lengths.{lengthsGiven, GivesLength, mosaic-strip-case, other-count-case, other-tag-case}
+use Rattle.sheet.specs.FieldTable.{Item, TableRow, fieldTable, lengthOf, contentsOf, lengthsOf, lengthsDue}
+use Rattle.sheet.specs.Contents.{RowOfLength, row-due, due-row, no-row-due}
+use Rattle.sheet_lengths.specs.Lengths.{lengthsGiven, GivesLength, mosaic-strip-case, flight-head-case, other-count-case, other-tag-case}
 use Rattle.sheet_lengths.specs.declared.LengthDue.{LengthDue}
-use Rattle.sheet_lengths.specs.declared.LengthDue.the-variants.{Bytes, None}
+use Rattle.sheet_lengths.specs.declared.LengthDue.the-variants.{Bytes, Either, None}
 
 -- an answer is known by the lengths that it means
-given-bytes : (due : LengthDue) (n : ℕ) → Among n (lengthsGiven due) → due ≡ Bytes n
-unfolding lengthsGiven Among
-given-bytes (Bytes m) n (inl e) = ap Bytes (sym e)
-given-bytes (Bytes m) n (inr a) = absurd a
-given-bytes None n a = absurd a
+first-of : {l m : List ℕ} → l ≡ m → getD l 0 0 ≡ getD m 0 0
+first-of e = ap (λ (x : List ℕ). getD x 0 0) e
+
+second-of : {l m : List ℕ} → l ≡ m → getD l 1 0 ≡ getD m 1 0
+second-of e = ap (λ (x : List ℕ). getD x 1 0) e
+
+as-many : {l m : List ℕ} → l ≡ m → length l ≡ length m
+as-many e = ap length e
+
+given-bytes : (due : LengthDue) (n : ℕ) → lengthsGiven due ≡ n ∷ [] → due ≡ Bytes n
+unfolding lengthsGiven
+given-bytes (Bytes m) n e = ap Bytes (first-of e)
+given-bytes (Either m k) n e = absurd (omega (arith, as-many e))
+given-bytes None n e = absurd (omega (arith, as-many e))
+
+given-either : (due : LengthDue) (m n : ℕ) → lengthsGiven due ≡ m ∷ n ∷ [] → due ≡ Either m n
+unfolding lengthsGiven
+given-either (Bytes k) m n e = absurd (omega (arith, as-many e))
+given-either (Either j k) m n e = ap₂ Either (first-of e) (second-of e)
+given-either None m n e = absurd (omega (arith, as-many e))
 
 given-none : (due : LengthDue) → lengthsGiven due ≡ [] → due ≡ None
 unfolding lengthsGiven
-given-none (Bytes n) e = let z : _≡_ {A = ℕ} 0 1 = cc in absurd (omega arith)
+given-none (Bytes n) e = absurd (omega (arith, as-many e))
+given-none (Either m n) e = absurd (omega (arith, as-many e))
 given-none None e = refl
 
 module _ (tag stations : ℕ) (due : LengthDue) (call : GivesLength tag stations due) where
-  pub row-length : (desks : ℕ) (r : TableRow) → Among r (fieldTable stations desks) → tag ≡ r .tag → due ≡ Bytes (lengthOf (r .content))
-  row-length desks r a e = given-bytes due _ (subst (Among _) (sym (call desks)) (row-due tag (fieldTable stations desks) r a e))
+  -- the lengths that the answer means are those of the tag's rows: each row's length is among them, and each of them is a row's
+  pub row-length : (desks : ℕ) (r : TableRow) → Among r (fieldTable stations desks) → tag ≡ r .tag → Among (lengthOf (r .content)) (lengthsGiven due)
+  row-length desks r a e = subst (Among _) (sym (call desks)) (row-due tag (fieldTable stations desks) r a e)
+
+  pub length-row : (desks n : ℕ) → Among n (lengthsGiven due) → RowOfLength tag n (fieldTable stations desks)
+  length-row desks n a = due-row tag n (fieldTable stations desks) (subst (Among n) (call desks) a)
+
+  -- a tag with one content has its length, and the flight head the two of its contents
+  pub sole-length-due : (desks : ℕ) (content : List Item) → contentsOf tag (fieldTable stations desks) ≡ content ∷ [] → due ≡ Bytes (lengthOf content)
+  unfolding lengthsDue lengthsOf
+  sole-length-due desks content one = given-bytes due _ (call desks ∙ ap lengthsOf one)
+
+  pub head-lengths-due : tag ≡ flightHeadTag → due ≡ Either 0 2
+  unfolding lengthsGiven
+  head-lengths-due e = given-either due 0 2 (call 0 ∙ sym (flight-head-case tag stations 0 2 e refl refl 0))
 
   pub strip-length-due : tag ≡ mosaicStripTag → 1 ≤ stations → stations ≤ mostStations → due ≡ Bytes (2 * stations + 2)
-  unfolding lengthsGiven Among
-  strip-length-due e lo hi = given-bytes due _ (subst (Among (2 * stations + 2)) (mosaic-strip-case tag stations _ e lo hi refl 0 ∙ sym (call 0)) (inl refl))
+  unfolding lengthsGiven
+  strip-length-due e lo hi = given-bytes due _ (call 0 ∙ sym (mosaic-strip-case tag stations _ e lo hi refl 0))
 
   pub no-length : (desks : ℕ) → ((r : TableRow) → Among r (fieldTable stations desks) → tag ≡ r .tag → ⊥) → due ≡ None
   no-length desks none = given-none due (call desks ∙ no-row-due tag (fieldTable stations desks) none)
