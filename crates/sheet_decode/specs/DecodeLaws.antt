@@ -1,14 +1,15 @@
 -- Laws of decoding: what the code builds from the values it read is what the definitions say.
 use Prim.Native.Nat.{ℕ, suc, _+_, _-_, _*_, _≤_, _<_}
 use mathlib.Core.Path.{_≡_, refl, sym, ap, _∙_}
-use mathlib.Core.Bool.{true}
+use mathlib.Core.Bool.{true, false}
 use mathlib.Core.List.{List}
 use native.Mathlib.Numerals.{add-one}
 use native.Mathlib.Omega.{arith}
 use lib.ListN.{length, set, length-set}
+use borrow.Author.Tests.{ne-eqb}
 use Rattle.field.specs.Bytes.{numberAt, NumberRead}
 use Rattle.sheet.specs.Decode.{zeros, noMosaic, noSorting, noFlight, startReading, withMosaicHead, withStationTimes, withMosaicStrip, withSortingHead}
-use Rattle.sheet.specs.Decode.{withStripAt, withSortingStrip, withBlock, withOrder, nextMosaic, nextSorting, nextFlight, nextSection, nextHead, nextMembers}
+use Rattle.sheet.specs.Decode.{withStripAt, withSortingStrip, turnOf, withFlightHead, withBlock, withOrder, nextMosaic, nextSorting, nextFlight, nextSection, nextHead, nextMembers}
 use Rattle.sheet.specs.Decode.{nextReading}
 use Rattle.sheet.specs.Sections.{stripsOfDesk}
 use Rattle.sheet.specs.Tags.{sortingStripTag}
@@ -83,15 +84,31 @@ pub strip-at-is : (s : List ℕ) (c : ℕ) (t : SortingSection) (d k scan desk :
 unfolding withStripAt
 strip-at-is s c t d k scan desk n₁ n₂ = rw (n₁ .is, n₂ .is)
 
+-- the turn of a flight head
+pub no-turn : (s : List ℕ) (c len : ℕ) → len ≡ 0 → 0 ≡ turnOf s c len
+unfolding turnOf
+no-turn s c len e = rw e
+
+pub turn-read : (s : List ℕ) (c len turn : ℕ) → (len ≡ 0 → ⊥) → NumberRead s c 2 turn → turn ≡ turnOf s c len
+unfolding turnOf
+turn-read s c len turn h n = rw (ne-eqb len 0 h) (n .is)
+
+pub flight-head-is : (s : List ℕ) (c len at turn : ℕ) → turn ≡ turnOf s c len
+    → _≡_ {A = FlightSection}
+    (record { blocks = 0; turn = turn; first = zeros 32; delay = zeros 32; second = zeros 32; ordered = false; order = 0; place = at })
+    (withFlightHead s c len at)
+unfolding withFlightHead
+flight-head-is s c len at turn e = rw e
+
 pub block-is : (s : List ℕ) (c : ℕ) (f : FlightSection) (a l b : ℕ) → NumberRead s c 2 a → NumberRead s (c + 2) 2 l → NumberRead s (c + 4) 2 b
     → _≡_ {A = FlightSection}
-    (record { blocks = f .blocks + 1; first = set (f .first) (f .blocks) a; delay = set (f .delay) (f .blocks) l; second = set (f .second) (f .blocks) b; ordered = f .ordered; order = f .order; place = f .place })
+    (record { blocks = f .blocks + 1; turn = f .turn; first = set (f .first) (f .blocks) a; delay = set (f .delay) (f .blocks) l; second = set (f .second) (f .blocks) b; ordered = f .ordered; order = f .order; place = f .place })
     (withBlock s c f)
 unfolding withBlock
 block-is s c f a l b n₁ n₂ n₃ = rw (n₁ .is, n₂ .is, n₃ .is)
 
 pub order-is : (s : List ℕ) (c at : ℕ) (f : FlightSection) (order : ℕ) → NumberRead s c 8 order
-    → _≡_ {A = FlightSection} (record { blocks = f .blocks; first = f .first; delay = f .delay; second = f .second; ordered = true; order = order; place = at })
+    → _≡_ {A = FlightSection} (record { blocks = f .blocks; turn = f .turn; first = f .first; delay = f .delay; second = f .second; ordered = true; order = order; place = at })
     (withOrder s c at f)
 unfolding withOrder
 order-is s c at f order n = rw (n .is)
@@ -104,7 +121,7 @@ sorting-strip-is s c tag t r desk d k e n ed ek h = rw (e, ← n .is, ← ed, �
 pub reading-is : (s : List ℕ) (st : Reading) (tag len section head members : ℕ) (m : MosaicSection) (t : SortingSection) (f : FlightSection)
     → section ≡ nextSection tag (st .section) → head ≡ nextHead tag (st .head) (st .at) → members ≡ nextMembers tag (st .members)
     → m ≡ nextMosaic s (st .at + 3) tag (st .mosaic) → t ≡ nextSorting s (st .at + 3) tag (st .sorting)
-    → f ≡ nextFlight s (st .at + 3) tag (st .at) (st .flight)
+    → f ≡ nextFlight s (st .at + 3) tag len (st .at) (st .flight)
     → _≡_ {A = Reading} (record { at = st .at + 3 + len; section = section; head = head; members = members; mosaic = m; sorting = t; flight = f })
     (nextReading s st tag len)
 unfolding nextReading

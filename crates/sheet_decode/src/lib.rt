@@ -25,7 +25,7 @@ ghost use mathlib.Core.Path.{_≡_};
 ghost use Prim.Native.Nat.{_+_, _*_, _<_, _^_};
 ghost use lib.ListN.{length};
 ghost use Rattle.sheet.specs.Decode.{noMosaic, noSorting, noFlight, withMosaicHead, withStationTimes, withMosaicStrip, withSortingHead, withStripAt, withBlock};
-ghost use Rattle.sheet.specs.Decode.{withOrder, nextMosaic, nextSorting, nextFlight, nextSection, nextMembers, nextHead, nextReading, startReading};
+ghost use Rattle.sheet.specs.Decode.{turnOf, withFlightHead, withOrder, nextMosaic, nextSorting, nextFlight, nextSection, nextMembers, nextHead, nextReading, startReading};
 ghost use Rattle.field.specs.Bytes.{numberAt};
 ghost use Rattle.sheet.specs.Sections.{stripsOfDesk};
 ghost use Rattle.sheet.specs.Read.{refused, accepted};
@@ -60,6 +60,7 @@ pub fn no_flight() -> FlightSection
 {
     FlightSection {
         blocks: 0,
+        turn: 0,
         first: [0; 32],
         delay: [0; 32],
         second: [0; 32],
@@ -195,6 +196,31 @@ fn with_strip_at(s: &[u8], c: usize, t: SortingSection, d: usize, k: usize) -> S
     }
 }
 
+// The turn that a flight head of a length has: 0 where it is empty.
+fn turn_of(s: &[u8], c: usize, length: usize) -> u64
+    ensures { λ r. ⌜ r ≡ turnOf (now (s .entry)) c length ⌝ }
+{
+    if length == 0 {
+        return 0;
+    }
+    number(s, c, 2)
+}
+
+fn with_flight_head(s: &[u8], c: usize, length: usize, at: usize) -> FlightSection
+    ensures { λ r. ⌜ r ≡ withFlightHead (now (s .entry)) c length at ⌝ }
+{
+    FlightSection {
+        blocks: 0,
+        turn: turn_of(s, c, length),
+        first: [0; 32],
+        delay: [0; 32],
+        second: [0; 32],
+        ordered: false,
+        order: 0,
+        place: at,
+    }
+}
+
 fn with_block(s: &[u8], c: usize, f: FlightSection) -> FlightSection
     requires { ⌜ BlockPre c (f .blocks) ⌝ }
     ensures { λ r. ⌜ r ≡ withBlock (now (s .entry)) c f ⌝ }
@@ -208,6 +234,7 @@ fn with_block(s: &[u8], c: usize, f: FlightSection) -> FlightSection
     second[i] = number(s, c + 4, 2);
     FlightSection {
         blocks: i + 1,
+        turn: f.turn,
         first,
         delay,
         second,
@@ -225,6 +252,7 @@ fn with_order(s: &[u8], c: usize, at: usize, f: FlightSection) -> FlightSection
     let second = f.second;
     FlightSection {
         blocks: f.blocks,
+        turn: f.turn,
         first,
         delay,
         second,
@@ -262,10 +290,13 @@ fn next_sorting(s: &[u8], c: usize, tag: u8, t: SortingSection) -> SortingSectio
     t
 }
 
-fn next_flight(s: &[u8], c: usize, tag: u8, at: usize, f: FlightSection) -> FlightSection
+fn next_flight(s: &[u8], c: usize, tag: u8, length: usize, at: usize, f: FlightSection) -> FlightSection
     requires { ⌜ NextFlightPre c tag (f .blocks) ⌝ }
-    ensures { λ r. ⌜ r ≡ nextFlight (now (s .entry)) c tag at f ⌝ }
+    ensures { λ r. ⌜ r ≡ nextFlight (now (s .entry)) c tag length at f ⌝ }
 {
+    if tag == FLIGHT_HEAD {
+        return with_flight_head(s, c, length, at);
+    }
     if tag == FLIGHT_BLOCK {
         return with_block(s, c, f);
     }
@@ -325,6 +356,6 @@ pub fn next_reading(s: &[u8], st: Reading, tag: u8, length: usize) -> Reading
         members: next_members(tag, st.members),
         mosaic: next_mosaic(s, at + 3, tag, mosaic),
         sorting: next_sorting(s, at + 3, tag, sorting),
-        flight: next_flight(s, at + 3, tag, at, flight),
+        flight: next_flight(s, at + 3, tag, length, at, flight),
     }
 }

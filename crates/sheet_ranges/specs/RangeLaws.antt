@@ -2,17 +2,19 @@
 -- that the field table names.
 use Prim.Native.Nat.{ℕ, suc, _+_, _-_, _*_, _≤_, _<_}
 use mathlib.Core.Path.{_≡_, refl, sym, ap, subst, _∙_}
+use mathlib.Core.Bool.{cond}
 use mathlib.Core.List.{List, [], _∷_}
 use native.Mathlib.Omega.{arith}
 use native.Mathlib.Decide.{ℕ-discrete}
-use borrow.Author.Tests.{le-leb, lt-leb}
+use lib.Dec.{eqb}
+use borrow.Author.Tests.{le-leb, lt-leb, eq-eqb, ne-eqb}
 use Rattle.base.specs.Branch.{check}
 use Rattle.field.specs.Bytes.{numberAt, NumberRead}
-use Rattle.sheet.specs.Limits.{mostTime}
+use Rattle.sheet.specs.Limits.{mostTime, mostTurn}
 use Rattle.sheet.specs.Refusals.{outOfRange, timeTooLarge, timeOfZero}
 use Rattle.sheet.specs.Tags.{mosaicHeadTag, mosaicStripTag, sortingHeadTag, sortingStripTag, flightHeadTag, flightBlockTag, flightOrderTag}
 use Rattle.sheet.specs.Among.{Among}
-use Rattle.sheet.specs.FieldTable.{mosaicHead, mosaicStrip, sortingHead, sortingStrip, flightBlock, flightOrder, fieldTable, lengthsDue}
+use Rattle.sheet.specs.FieldTable.{mosaicHead, mosaicStrip, sortingHead, sortingStrip, turnFlightHead, flightBlock, flightOrder, fieldTable, lengthsDue}
 use Rattle.sheet.specs.FieldTable.{Value, valuesOf, contentValues, fieldValues}
 use Rattle.sheet.specs.FieldTable.Range.{time}
 use Rattle.sheet.specs.FieldTable.Value.{value}
@@ -108,10 +110,18 @@ module _ (s : List ℕ) (c stations k : ℕ) (t : TimesPassed s c stations k) wh
       none-left : stations - k ≡ 0
       none-left = omega arith
 
--- a flight head has no value, and the pass order no range
+-- an empty flight head has no value, and the pass order no range
 empty-passes : 0 ≡ rangeNumber []
 unfolding rangeNumber valueNumbers firstFailure
 empty-passes = refl
+
+module _ (len turn : ℕ) where
+  pub empty-head : len ≡ 0 → 0 ≡ rangeNumber (cond (eqb len 0) [] (valuesOf turnFlightHead (turn ∷ [])))
+  empty-head e = rw (eq-eqb len 0 e) empty-passes
+
+  pub turn-head : (r : ℕ) → (len ≡ 0 → ⊥) → r ≡ timeNumber 0 turn mostTurn → r ≡ rangeNumber (cond (eqb len 0) [] (valuesOf turnFlightHead (turn ∷ [])))
+  unfolding turnFlightHead valuesOf valueNumber
+  turn-head r h e = rw (ne-eqb len 0 h) (value-last _ r e)
 
 order-passes : (n : ℕ) → 0 ≡ rangeNumber (valuesOf flightOrder (n ∷ []))
 unfolding flightOrder valuesOf rangeNumber valueNumbers valueNumber firstFailure
@@ -153,6 +163,10 @@ module _ (s : List ℕ) (c tag len stations desks r : ℕ) (pre : RangePre c tag
   sorting-strip-read e desk scan deskTime n₁ n₂ n₃ h =
       of-tag sortingStripTag _ e (sorting-strip-values s c len stations desks) (rw (← n₁ .is, ← n₂ .is, ← n₃ .is) h)
 
+  pub flight-head-read : tag ≡ flightHeadTag → (turn : ℕ) → NumberRead s c 2 turn
+      → r ≡ rangeNumber (cond (eqb len 0) [] (valuesOf turnFlightHead (turn ∷ []))) → r ≡ rangeNumber (fieldValues s c tag len (fieldTable stations desks))
+  flight-head-read e turn n h = of-tag flightHeadTag _ e (flight-head-values s c len stations desks) (rw (← n .is) h)
+
   pub flight-block-read : tag ≡ flightBlockTag → (a l b : ℕ) → NumberRead s c 2 a → NumberRead s (c + 2) 2 l → NumberRead s (c + 4) 2 b
       → r ≡ rangeNumber (valuesOf flightBlock (a ∷ l ∷ b ∷ [])) → r ≡ rangeNumber (fieldValues s c tag len (fieldTable stations desks))
   flight-block-read e a l b n₁ n₂ n₃ h =
@@ -161,10 +175,9 @@ module _ (s : List ℕ) (c tag len stations desks r : ℕ) (pre : RangePre c tag
 -- a field of any other tag has no value with a range
 module _ (s : List ℕ) (c tag len stations desks : ℕ) (pre : RangePre c tag len stations desks) where
   pub no-values-read : (tag ≡ mosaicHeadTag → ⊥) → (tag ≡ mosaicStripTag → ⊥) → (tag ≡ sortingHeadTag → ⊥) → (tag ≡ sortingStripTag → ⊥)
-      → (tag ≡ flightBlockTag → ⊥) → 0 ≡ rangeNumber (fieldValues s c tag len (fieldTable stations desks))
-  no-values-read h₁ h₂ h₃ h₄ h₅ = go (ℕ-discrete tag flightHeadTag) (ℕ-discrete tag flightOrderTag)
+      → (tag ≡ flightHeadTag → ⊥) → (tag ≡ flightBlockTag → ⊥) → 0 ≡ rangeNumber (fieldValues s c tag len (fieldTable stations desks))
+  no-values-read h₁ h₂ h₃ h₄ h₅ h₆ = go (ℕ-discrete tag flightOrderTag)
     where
-      go : Dec (tag ≡ flightHeadTag) → Dec (tag ≡ flightOrderTag) → 0 ≡ rangeNumber (fieldValues s c tag len (fieldTable stations desks))
-      go (yes e) d = of-tag s c tag len stations desks 0 pre flightHeadTag [] e (flight-head-values s c len stations desks) empty-passes
-      go (no n) (yes e) = of-tag s c tag len stations desks 0 pre flightOrderTag _ e (flight-order-values s c len stations desks) (order-passes _)
-      go (no n) (no m) = absurd (none-due tag (fieldTable stations desks) (no-content stations desks tag h₁ h₂ h₃ h₄ n h₅ m) len (pre .due))
+      go : Dec (tag ≡ flightOrderTag) → 0 ≡ rangeNumber (fieldValues s c tag len (fieldTable stations desks))
+      go (yes e) = of-tag s c tag len stations desks 0 pre flightOrderTag _ e (flight-order-values s c len stations desks) (order-passes _)
+      go (no n) = absurd (none-due tag (fieldTable stations desks) (no-content stations desks tag h₁ h₂ h₃ h₄ h₅ h₆ n) len (pre .due))

@@ -5,17 +5,22 @@ use field::number;
 use sheet::limits::MOST_DESKS;
 use sheet::limits::MOST_STATIONS;
 use sheet::limits::MOST_TIME;
+use sheet::limits::MOST_TURN;
 use sheet::numbers::OUT_OF_RANGE;
 use sheet::numbers::TIME_OF_ZERO;
 use sheet::numbers::TIME_TOO_LARGE;
 use sheet::tags::FLIGHT_BLOCK;
+use sheet::tags::FLIGHT_HEAD;
 use sheet::tags::MOSAIC_HEAD;
 use sheet::tags::MOSAIC_STRIP;
 use sheet::tags::SORTING_HEAD;
 use sheet::tags::SORTING_STRIP;
 ghost use mathlib.Core.Path.{_≡_};
+ghost use mathlib.Core.Bool.{cond};
 ghost use mathlib.Core.List.{[], _∷_};
-ghost use Rattle.sheet.specs.FieldTable.{mosaicHead, mosaicStrip, sortingHead, sortingStrip, flightBlock, fieldTable, valuesOf, contentValues, fieldValues};
+ghost use lib.Dec.{eqb};
+ghost use Rattle.sheet.specs.FieldTable.{mosaicHead, mosaicStrip, sortingHead, sortingStrip, turnFlightHead, flightBlock, fieldTable, valuesOf};
+ghost use Rattle.sheet.specs.FieldTable.{contentValues, fieldValues};
 ghost use Rattle.sheet.specs.Checks.{countNumber, timeNumber, rangeNumber};
 ghost use Rattle.sheet_ranges.specs.RangePre.{StripPre, RangePre};
 
@@ -91,6 +96,16 @@ fn sorting_strip_number(desks: u64, desk: u64, scan: u64, time: u64) -> u64
     time_number(1, time, MOST_TIME)
 }
 
+// A flight head: an empty one has no value, one with a turn has that.
+fn flight_head_number(length: usize, turn: u64) -> u64
+    ensures { λ r. ⌜ r ≡ rangeNumber (cond (eqb length 0) [] (valuesOf turnFlightHead (turn ∷ []))) ⌝ }
+{
+    if length == 0 {
+        return 0;
+    }
+    time_number(0, turn, MOST_TURN)
+}
+
 fn flight_block_number(a: u64, l: u64, b: u64) -> u64
     ensures { λ r. ⌜ r ≡ rangeNumber (valuesOf flightBlock (a ∷ l ∷ b ∷ [])) ⌝ }
 {
@@ -105,8 +120,8 @@ fn flight_block_number(a: u64, l: u64, b: u64) -> u64
     time_number(1, b, MOST_TIME)
 }
 
-// The number that a field gives whose content begins at c and has a length that is due for its tag; 0 where every value is in its range. The length, which says
-// what content of the table the field has, is not looked at: each tag has one content.
+// The number that a field gives whose content begins at c and has a length that is due for its tag; 0 where every value is in its range. The length says what
+// content of the table the field has where its tag has two, as the flight head's has.
 pub fn range_number(
     s: &[u8],
     c: usize,
@@ -128,6 +143,7 @@ pub fn range_number(
             number(s, c + 1, 2),
             number(s, c + 3, 2),
         ),
+        FLIGHT_HEAD => flight_head_number(length, number(s, c, 2)),
         FLIGHT_BLOCK => flight_block_number(
             number(s, c, 2),
             number(s, c + 2, 2),

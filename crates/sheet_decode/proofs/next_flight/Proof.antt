@@ -6,24 +6,39 @@ use borrow.Author.Needs.{needs}
 use Rattle.sheet_decode.proofs.next_flight.Statement.{statement}
 use Rattle.sheet_decode.proofs.next_flight.Tie as tie
 
-with-block-requires : tie.Need-with-block-requires
-with-block-requires c κs = search block-pre
+with-flight-head-requires : tie.Need-with-flight-head-requires
+with-flight-head-requires c κs = search needs
 
 returns : tie.Need-returns
 unfolding nextFlight
 returns c = search branches depth 14
 
-with-order-requires : tie.Need-with-order-requires
-with-order-requires c κs = search needs
+with-block-requires : tie.Need-with-block-requires
+with-block-requires c κs = search block-pre
 
 returns-2 : tie.Need-returns-2
 unfolding nextFlight
 returns-2 c = search branches depth 14
 
+with-order-requires : tie.Need-with-order-requires
+with-order-requires c κs = search needs
+
 returns-3 : tie.Need-returns-3
 unfolding nextFlight
 returns-3 c = search branches depth 14
 
+returns-4 : tie.Need-returns-4
+unfolding nextFlight
+returns-4 c = search branches depth 14
+
 pub next-flight-spec : {M : Type 1} → statement M
 next-flight-spec =
-    tie.close (tie.spec with-block-requires returns with-order-requires returns-2 returns-3)
+    tie.close
+    (tie.spec
+    with-flight-head-requires
+    returns
+    with-block-requires
+    returns-2
+    with-order-requires
+    returns-3
+    returns-4)

@@ -1,8 +1,17 @@
 -- `range_number` meets its contract: one case a tag: the values tested are those that stand in the content.
-use Rattle.sheet_ranges.specs.RangeLaws.{strip-pre, mosaic-head-read, mosaic-strip-read, sorting-head-read, sorting-strip-read, flight-block-read, no-values-read}
+use Rattle.sheet_ranges.specs.RangeLaws.{strip-pre, mosaic-head-read, mosaic-strip-read, sorting-head-read, sorting-strip-read, flight-head-read}
+use Rattle.sheet_ranges.specs.RangeLaws.{flight-block-read, no-values-read}
 use borrow.Author.Needs.{needs}
 use Rattle.sheet_ranges.proofs.range_number.Statement.{statement}
 use Rattle.sheet_ranges.proofs.range_number.Tie as tie
+use Rattle.field.proofs.byte.Reads as byte-reads
+use Rattle.field.proofs.number.Reads as number-reads
+use Rattle.sheet_ranges.proofs.flight_block_number.Reads as flight-block-number-reads
+use Rattle.sheet_ranges.proofs.flight_head_number.Reads as flight-head-number-reads
+use Rattle.sheet_ranges.proofs.mosaic_head_number.Reads as mosaic-head-number-reads
+use Rattle.sheet_ranges.proofs.mosaic_strip_number.Reads as mosaic-strip-number-reads
+use Rattle.sheet_ranges.proofs.sorting_head_number.Reads as sorting-head-number-reads
+use Rattle.sheet_ranges.proofs.sorting_strip_number.Reads as sorting-strip-number-reads
 
 byte-requires : tie.Need-byte-requires
 byte-requires c κs = search needs
@@ -46,17 +55,23 @@ sorting-strip-number-requires c κs = search needs
 number-requires-4 : tie.Need-number-requires-4
 number-requires-4 c κs = search needs
 
-add-number-4 : tie.Need-add-number-4
-add-number-4 c = search needs
+flight-head-number-requires : tie.Need-flight-head-number-requires
+flight-head-number-requires c κs = search needs
 
 number-requires-5 : tie.Need-number-requires-5
 number-requires-5 c κs = search needs
 
-add-number-5 : tie.Need-add-number-5
-add-number-5 c = search needs
+add-number-4 : tie.Need-add-number-4
+add-number-4 c = search needs
 
 number-requires-6 : tie.Need-number-requires-6
 number-requires-6 c κs = search needs
+
+add-number-5 : tie.Need-add-number-5
+add-number-5 c = search needs
+
+number-requires-7 : tie.Need-number-requires-7
+number-requires-7 c κs = search needs
 
 flight-block-number-requires : tie.Need-flight-block-number-requires
 flight-block-number-requires c κs = search needs
@@ -74,10 +89,13 @@ returns-4 : tie.Need-returns-4
 returns-4 c = search sorting-strip-read
 
 returns-5 : tie.Need-returns-5
-returns-5 c = search flight-block-read
+returns-5 c = search flight-head-read
 
 returns-6 : tie.Need-returns-6
-returns-6 c = search no-values-read
+returns-6 c = search flight-block-read
+
+returns-7 : tie.Need-returns-7
+returns-7 c = search no-values-read
 
 pub range-number-spec : {M : Type 1} → statement M
 range-number-spec =
@@ -97,14 +115,17 @@ range-number-spec =
     number-requires-3
     sorting-strip-number-requires
     number-requires-4
-    add-number-4
+    flight-head-number-requires
     number-requires-5
-    add-number-5
+    add-number-4
     number-requires-6
+    add-number-5
+    number-requires-7
     flight-block-number-requires
     returns
     returns-2
     returns-3
     returns-4
     returns-5
-    returns-6)
+    returns-6
+    returns-7)
