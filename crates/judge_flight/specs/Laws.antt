@@ -21,7 +21,7 @@ use Rattle.plan_read.specs.Laws.{member-at}
 use Rattle.running.specs.FunctionLaws.{TimeTold}
 use Rattle.rules.specs.declared.Passes.{Passes}
 use Rattle.judge_rules.specs.Follows.{passesInOrder, flightHead}
-use Rattle.judge_flight.specs.Starts.{startInPlan, endInPlan, PassStartPre, StartTold, FigureTold, FlightHeadPre, PassEndPre, PassesInOrderPre}
+use Rattle.judge_flight.specs.Starts.{startInPlan, endInPlan, clearInPlan, PassStartPre, StartTold, FigureTold, FlightHeadPre, PassEndPre, PassesInOrderPre}
 
 module _ (f : FlightSection) (plan : List ℕ) (at p : ℕ) (known : p < 2 * f .blocks) where
   start-case : Dec (p < f .blocks) → startInPlan plan at (f .blocks) p ≡ passStart f (blocksFrom plan at (f .blocks)) p
@@ -40,6 +40,10 @@ module _ (f : FlightSection) (plan : List ℕ) (at p : ℕ) (known : p < 2 * f .
   unfolding endInPlan passEnd
   end-is = ap (λ n. n + passTime f p) start-is
 
+  pub clear-is : clearInPlan f plan at p ≡ clearAt f (blocksFrom plan at (f .blocks)) p
+  unfolding clearInPlan clearAt
+  clear-is = ap (λ n. n + f .turn) end-is
+
 module _ (plan : List ℕ) (at n p : ℕ) (block : Passes) where
   pub first-start : p < n → PassesRead plan (at + sizeOf passesForm * p) block → StartTold (startInPlan plan at n p) (block .first)
   unfolding startInPlan
@@ -54,6 +58,13 @@ module _ (f : FlightSection) (plan : List ℕ) (at p : ℕ) where
       → FigureTold (endInPlan f plan at p) (start + time)
   unfolding endInPlan
   end-told start time t u = record { is = rw (t .is, u .is); fits = omega (arith, t .fits, u .fits) }
+
+  pub clear-told : (end : ℕ) → FigureTold (endInPlan f plan at p) end → end + f .turn ≡ clearInPlan f plan at p
+  unfolding clearInPlan
+  clear-told end t = rw (t .is)
+
+  pub turn-fits : PassEndPre f at p → (end : ℕ) → FigureTold (endInPlan f plan at p) end → end + f .turn < 2 ^ 64
+  turn-fits a end t = omega (arith, t .fits, a .sound .most-turn)
 
 -- the first k passes of the order come one after another
 pub record OrderedSoFar (f : FlightSection) (order : ℕ) (ps : List Passes) (k : ℕ) : Type 0 where
@@ -80,32 +91,31 @@ ordered-none f order ps = record { within = omega arith; so-far = refl }
 
 module _ (f : FlightSection) (order : ℕ) (plan : List ℕ) (at k : ℕ) (a : PassesInOrderPre f order at)
     (t : OrderedSoFar f order (blocksFrom plan at (f .blocks)) k)
-    (less : k + 1 < 2 * f .blocks) (p q start end : ℕ) (ep : p ≡ passAt (f .blocks) order k) (eq : q ≡ passAt (f .blocks) order (k + 1))
-    (ts : StartTold (startInPlan plan at (f .blocks) q) start) (te : FigureTold (endInPlan f plan at p) end) where
+    (less : k + 1 < 2 * f .blocks) (p q start clear : ℕ) (ep : p ≡ passAt (f .blocks) order k) (eq : q ≡ passAt (f .blocks) order (k + 1))
+    (ts : StartTold (startInPlan plan at (f .blocks) q) start) (te : clear ≡ clearInPlan f plan at p) where
   known-p : p < 2 * f .blocks
   known-p = rw ep (pass-known (a .proper) k (omega arith))
 
   known-q : q < 2 * f .blocks
   known-q = rw eq (pass-known (a .proper) (k + 1) less)
 
-  end-there : end ≡ clearAt f (blocksFrom plan at (f .blocks)) (passAt (f .blocks) order k)
-  unfolding clearAt
-  end-there = te .is ∙ end-is f plan at p known-p ∙ ap (passEnd f (blocksFrom plan at (f .blocks))) ep
+  clear-there : clear ≡ clearAt f (blocksFrom plan at (f .blocks)) (passAt (f .blocks) order k)
+  clear-there = te ∙ clear-is f plan at p known-p ∙ ap (clearAt f (blocksFrom plan at (f .blocks))) ep
 
   start-there : start ≡ passStart f (blocksFrom plan at (f .blocks)) (passAt (f .blocks) order (k + 1))
   start-there = ts .is ∙ start-is f plan at q known-q ∙ ap (passStart f (blocksFrom plan at (f .blocks))) eq
 
-  pub ordered-more : end ≤ start → OrderedSoFar f order (blocksFrom plan at (f .blocks)) (k + 1)
+  pub ordered-more : clear ≤ start → OrderedSoFar f order (blocksFrom plan at (f .blocks)) (k + 1)
   ordered-more h =
       record {
         within = omega arith;
         so-far =
             ap (passesInOrder f order (blocksFrom plan at (f .blocks))) (add-one k)
             ∙ order-suc f order (blocksFrom plan at (f .blocks)) k
-            ∙ rw (t .so-far, ← end-there, ← start-there, le-leb _ _ h);
+            ∙ rw (t .so-far, ← clear-there, ← start-there, le-leb _ _ h);
       }
 
-  pub ordered-wrong : start < end → false ≡ passesInOrder f order (blocksFrom plan at (f .blocks)) (2 * f .blocks - 1)
+  pub ordered-wrong : start < clear → false ≡ passesInOrder f order (blocksFrom plan at (f .blocks)) (2 * f .blocks - 1)
   ordered-wrong h =
       sym
       (ap (passesInOrder f order (blocksFrom plan at (f .blocks))) all ∙ order-stays f order (blocksFrom plan at (f .blocks)) (suc k) (2 * f .blocks - 1 - suc k) here)
@@ -114,7 +124,7 @@ module _ (f : FlightSection) (order : ℕ) (plan : List ℕ) (at k : ℕ) (a : P
       all = omega arith
 
       here : passesInOrder f order (blocksFrom plan at (f .blocks)) (suc k) ≡ false
-      here = order-suc f order (blocksFrom plan at (f .blocks)) k ∙ rw (t .so-far, ← end-there, ← start-there, lt-leb _ _ h)
+      here = order-suc f order (blocksFrom plan at (f .blocks)) k ∙ rw (t .so-far, ← clear-there, ← start-there, lt-leb _ _ h)
 
 pub ordered-all : (f : FlightSection) (order : ℕ) (ps : List Passes) (k : ℕ) → OrderedSoFar f order ps k → 2 * f .blocks ≤ k + 1
     → true ≡ passesInOrder f order ps (2 * f .blocks - 1)

@@ -1,4 +1,4 @@
--- The starts and ends of a flight's passes as the plan's bytes give them; the first member stands at an offset.
+-- The starts and ends of a flight's passes, and from when on another pass may start, as the plan's bytes give them; the first member stands at an offset.
 use Prim.Native.Nat.{ℕ, _+_, _-_, _*_, _^_, _≤_, _<_}
 use mathlib.Core.Path.{_≡_}
 use mathlib.Core.Bool.{cond}
@@ -17,6 +17,9 @@ startInPlan plan at n p = cond (ltb p n) (passesFrom plan (at + sizeOf passesFor
 
 unfoldable pub endInPlan : FlightSection → List ℕ → ℕ → ℕ → ℕ
 endInPlan f plan at p = startInPlan plan at (f .blocks) p + passTime f p
+
+unfoldable pub clearInPlan : FlightSection → List ℕ → ℕ → ℕ → ℕ
+clearInPlan f plan at p = endInPlan f plan at p + f .turn
 
 pub record PassStartPre (at n p : ℕ) : Type 0 where
   pub room : at + sizeOf passesForm * mostBlocks < 2 ^ 64

@@ -12,6 +12,7 @@ ghost use Rattle.rules.specs.Flight.{flightFigure};
 ghost use Rattle.plan_read.specs.PlanRead.{blocksFrom};
 ghost use Rattle.judge_rules.specs.Follows.{passesInOrder, flightHead};
 ghost use Rattle.judge_flight.specs.Starts.{PassStartPre, StartTold, PassEndPre, PassesInOrderPre, FigureTold, FlightHeadPre, startInPlan, endInPlan};
+ghost use Rattle.judge_flight.specs.Starts.{clearInPlan};
 
 // The start of pass p of n blocks.
 fn pass_start(plan: &[u8], at: usize, n: usize, p: usize) -> u64
@@ -34,7 +35,15 @@ fn pass_end(f: FlightSection, plan: &[u8], at: usize, p: usize) -> u64
     pass_start(plan, at, f.blocks, p) + pass_time(f, p)
 }
 
-// Whether each pass starts no earlier than the one before it in the order ends.
+// From when on another pass may start after pass p: the turn after its end.
+fn clear_at(f: FlightSection, plan: &[u8], at: usize, p: usize) -> u64
+    requires { ⌜ PassEndPre f at p ⌝ }
+    ensures { λ r. ⌜ r ≡ clearInPlan f (now (plan .entry)) at p ⌝ }
+{
+    pass_end(f, plan, at, p) + f.turn
+}
+
+// Whether each pass starts no earlier than the turn after the one before it in the order ends.
 pub fn passes_in_order(f: FlightSection, order: u64, plan: &[u8], at: usize) -> bool
     requires { ⌜ PassesInOrderPre f order at ⌝ }
     ensures { λ r. ⌜ r ≡ passesInOrder f order (blocksFrom (now (plan .entry)) at (f .blocks)) (2 * f .blocks - 1) ⌝ }
@@ -44,7 +53,7 @@ pub fn passes_in_order(f: FlightSection, order: u64, plan: &[u8], at: usize) -> 
     while k + 1 < 2 * n {
         let p = pass_at(f.blocks, order, k);
         let q = pass_at(f.blocks, order, k + 1);
-        if pass_start(plan, at, n, q) < pass_end(f, plan, at, p) {
+        if pass_start(plan, at, n, q) < clear_at(f, plan, at, p) {
             return false;
         }
         k += 1;

@@ -125,10 +125,11 @@ twoDesks scan desk scan₂ desk₂ = record {
 abbrev strip : ℕ → ℕ → ℕ → Job
 strip desk scan start = record { desk = desk; number = 1; scan = scan; start = start }
 
--- blocks: their first passes, delays and second passes
-abbrev blocksOf : Bool → ℕ → List ℕ → List ℕ → List ℕ → FlightSection
-blocksOf ordered order first delay second = record {
+-- blocks: the turn between passes, and their first passes, delays and second passes
+abbrev blocksOf : ℕ → Bool → ℕ → List ℕ → List ℕ → List ℕ → FlightSection
+blocksOf turn ordered order first delay second = record {
   blocks = length first;
+  turn = turn;
   first = first ++ replicate (32 - length first) 0;
   delay = delay ++ replicate (32 - length delay) 0;
   second = second ++ replicate (32 - length second) 0;
@@ -168,21 +169,30 @@ samples =
     ∷ row (ofSorting (twoDesks 2 5 1 1) (strip 1 0 2 ∷ strip 2 2 9_999_999 ∷ [])) (lawful 10_000_007)
     ∷ row (ofSorting (twoDesks 2 5 1 1) (strip 1 0 2 ∷ strip 2 2 10_000_000 ∷ [])) (passes 10_000_001)
     -- a second block that is flown later than it could be
-    ∷ row (ofFlight (blocksOf false 0 (1 ∷ 1 ∷ []) (2 ∷ 2 ∷ []) (1 ∷ 1 ∷ [])) 0xA (starts 0 3 ∷ starts 6 9 ∷ [])) (lawful 10)
+    ∷ row (ofFlight (blocksOf 0 false 0 (1 ∷ 1 ∷ []) (2 ∷ 2 ∷ []) (1 ∷ 1 ∷ [])) 0xA (starts 0 3 ∷ starts 6 9 ∷ [])) (lawful 10)
     -- a last pass that ends at the ceiling, and one past it
-    ∷ row (ofFlight (blocksOf false 0 (3 ∷ []) (4 ∷ []) (1 ∷ [])) 2 (starts 9_999_992 9_999_999 ∷ [])) (lawful 10_000_000)
-    ∷ row (ofFlight (blocksOf false 0 (3 ∷ []) (4 ∷ []) (1 ∷ [])) 2 (starts 9_999_993 10_000_000 ∷ [])) (passes 10_000_001)
+    ∷ row (ofFlight (blocksOf 0 false 0 (3 ∷ []) (4 ∷ []) (1 ∷ [])) 2 (starts 9_999_992 9_999_999 ∷ [])) (lawful 10_000_000)
+    ∷ row (ofFlight (blocksOf 0 false 0 (3 ∷ []) (4 ∷ []) (1 ∷ [])) 2 (starts 9_999_993 10_000_000 ∷ [])) (passes 10_000_001)
     -- less than the delay, and more
-    ∷ row (ofFlight (blocksOf false 0 (3 ∷ []) (4 ∷ []) (1 ∷ [])) 2 (starts 0 6 ∷ [])) refused
-    ∷ row (ofFlight (blocksOf false 0 (3 ∷ []) (4 ∷ []) (1 ∷ [])) 2 (starts 0 8 ∷ [])) refused
+    ∷ row (ofFlight (blocksOf 0 false 0 (3 ∷ []) (4 ∷ []) (1 ∷ [])) 2 (starts 0 6 ∷ [])) refused
+    ∷ row (ofFlight (blocksOf 0 false 0 (3 ∷ []) (4 ∷ []) (1 ∷ [])) 2 (starts 0 8 ∷ [])) refused
     -- starts that keep order C do not keep order A, whose first passes come as in C
-    ∷ row (ofFlight (blocksOf false 0 (1 ∷ 1 ∷ []) (2 ∷ 2 ∷ []) (1 ∷ 1 ∷ [])) 0xA (starts 0 3 ∷ starts 1 4 ∷ [])) refused
+    ∷ row (ofFlight (blocksOf 0 false 0 (1 ∷ 1 ∷ []) (2 ∷ 2 ∷ []) (1 ∷ 1 ∷ [])) 0xA (starts 0 3 ∷ starts 1 4 ∷ [])) refused
     -- nor may C be kept where A is given
-    ∷ row (ofFlight (blocksOf true 0xA (1 ∷ 1 ∷ []) (2 ∷ 2 ∷ []) (1 ∷ 1 ∷ [])) 0xC (starts 0 3 ∷ starts 1 4 ∷ [])) refused
+    ∷ row (ofFlight (blocksOf 0 true 0xA (1 ∷ 1 ∷ []) (2 ∷ 2 ∷ []) (1 ∷ 1 ∷ [])) 0xC (starts 0 3 ∷ starts 1 4 ∷ [])) refused
     -- two passes at once
-    ∷ row (ofFlight (blocksOf true 0xA (1 ∷ 1 ∷ []) (0 ∷ 5 ∷ []) (1 ∷ 1 ∷ [])) 0xA (starts 0 1 ∷ starts 1 7 ∷ [])) refused
+    ∷ row (ofFlight (blocksOf 0 true 0xA (1 ∷ 1 ∷ []) (0 ∷ 5 ∷ []) (1 ∷ 1 ∷ [])) 0xA (starts 0 1 ∷ starts 1 7 ∷ [])) refused
     -- a second pass that starts, in its order's turn, before the second pass before it has ended
-    ∷ row (ofFlight (blocksOf false 0 (1 ∷ 1 ∷ []) (5 ∷ 5 ∷ []) (3 ∷ 1 ∷ [])) 0xC (starts 0 6 ∷ starts 1 7 ∷ [])) refused
+    ∷ row (ofFlight (blocksOf 0 false 0 (1 ∷ 1 ∷ []) (5 ∷ 5 ∷ []) (3 ∷ 1 ∷ [])) 0xC (starts 0 6 ∷ starts 1 7 ∷ [])) refused
+    -- a block whose delay is the turn, flown from 0 on, and one whose delay is a second less
+    ∷ row (ofFlight (blocksOf 2 false 0 (1 ∷ []) (2 ∷ []) (1 ∷ [])) 2 (starts 0 3 ∷ [])) (lawful 4)
+    ∷ row (ofFlight (blocksOf 2 false 0 (1 ∷ []) (1 ∷ []) (1 ∷ [])) 2 (starts 0 2 ∷ [])) refused
+    -- a second block that begins the turn after the first one has ended, and one that begins a second too soon
+    ∷ row (ofFlight (blocksOf 2 false 0 (1 ∷ 1 ∷ []) (2 ∷ 2 ∷ []) (1 ∷ 1 ∷ [])) 0xA (starts 0 3 ∷ starts 6 9 ∷ [])) (lawful 10)
+    ∷ row (ofFlight (blocksOf 2 false 0 (1 ∷ 1 ∷ []) (2 ∷ 2 ∷ []) (1 ∷ 1 ∷ [])) 0xA (starts 0 3 ∷ starts 5 8 ∷ [])) refused
+    -- passes of two blocks between each other, the turn apart, and a second too close
+    ∷ row (ofFlight (blocksOf 1 false 0 (1 ∷ 1 ∷ []) (3 ∷ 3 ∷ []) (1 ∷ 1 ∷ [])) 0xC (starts 0 4 ∷ starts 2 6 ∷ [])) (lawful 7)
+    ∷ row (ofFlight (blocksOf 2 false 0 (1 ∷ 1 ∷ []) (3 ∷ 3 ∷ []) (1 ∷ 1 ∷ [])) 0xC (starts 0 4 ∷ starts 2 6 ∷ [])) refused
     ∷ []
 
 unfoldable pub allTested : List Sample → Bool

@@ -1,5 +1,5 @@
--- The rules of the flight (01, "The three sets of rules", and "The sheet" for the order number). In the literature: coupled tasks with exact delays on one
--- machine.
+-- The rules of the flight (01, "The three sets of rules", and "The sheet" for the order number; 02, Req 06, for the turn). In the literature: coupled tasks with
+-- exact delays on one machine; a turn is a minimum time lag between passes.
 use Prim.Native.Nat.{ℕ, _+_, _-_, _*_, _≤_, _<_}
 use mathlib.Core.Path.{_≡_}
 use mathlib.Core.Bool.{true, cond}
@@ -38,9 +38,10 @@ secondDue f i p = p .first + getD (f .first) i 0 + getD (f .delay) i 0
 pub record DelayKept (f : FlightSection) (i : ℕ) (p : Passes) : Type 0 where
   pub exact : p .second ≡ secondDue f i p
 
--- "No two passes overlap; one may start the second another ends": from when on another pass may start after pass p
+-- "No two passes overlap"; 02, Req 06: "Each pass starts at least g after the pass before it ends, whichever blocks they belong to": from when on another pass
+-- may start after pass p. With g of 0 "one may start the second another ends".
 unfoldable pub clearAt : FlightSection → List Passes → ℕ → ℕ
-clearAt f ps p = passEnd f ps p
+clearAt f ps p = passEnd f ps p + f .turn
 
 -- pass q comes after pass p, clear of it
 abbrev pub Clear : FlightSection → List Passes → ℕ → ℕ → Type 0
@@ -50,6 +51,7 @@ Clear f ps p q = clearAt f ps p ≤ passStart f ps q
 pub record FlightUnder (c : ℕ) (f : FlightSection) (ps : List Passes) : Type 0 where
   pub every-block : length ps ≡ f .blocks
   pub delay-kept : (i : ℕ) → i < f .blocks → DelayKept f i (passesAt ps i)
+  -- said of every pair of passes: one of the two comes after the other, clear of it
   pub apart : (p q : ℕ) → p < 2 * f .blocks → q < 2 * f .blocks → (p ≡ q → ⊥) → Clear f ps p q ⊎ Clear f ps q p
   -- "all starts and finishes are whole numbers from 0" to the ceiling
   pub within : (p : ℕ) → p < 2 * f .blocks → passEnd f ps p ≤ c

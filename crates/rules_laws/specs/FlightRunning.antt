@@ -1,5 +1,5 @@
 -- The rules of the flight, by pairs of passes and as they run over the blocks and over neighbours in the order, say the same.
--- Each pass ends before the next one in the order starts, so before every later one; and every pass stands somewhere in a proper order.
+-- Each pass ends, and the turn is over, before the next one in the order starts, so before every later one; and every pass stands somewhere in a proper order.
 use mathlib.Core.Path.{_≡_, refl, sym, ap, subst, _∙_}
 use mathlib.Core.List.{List}
 use mathlib.Core.Logic.{_⊎_, inl, inr, ⊎-elim}
@@ -67,10 +67,10 @@ module _ (f : FlightSection) (ps : List Passes) where
   unfolding passEnd
   end-is p = refl
 
-  -- another pass may start no sooner than a pass ends
-  pub clear-end : (p : ℕ) → passEnd f ps p ≤ clearAt f ps p
+  -- another pass may start no sooner than the turn after a pass ends
+  pub clear-end : (p : ℕ) → clearAt f ps p ≡ passEnd f ps p + f .turn
   unfolding clearAt
-  clear-end p = omega arith
+  clear-end p = refl
 
   -- From the rules to the run.
   pub next-apart : {c : ℕ} (w : ℕ) → FlightUnder c f ps → Keeps f w ps → Proper (f .blocks) w

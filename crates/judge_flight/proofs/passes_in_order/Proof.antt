@@ -1,4 +1,4 @@
--- `passes_in_order` meets its contract. Invariant: the passes at positions up to k come in the order's turn, none before the end of the one before.
+-- `passes_in_order` meets its contract. Invariant: the passes at positions up to k come one after another in the order, none before the turn after the one before is over.
 use Prim.Native.Nat.{_-_, _*_}
 use mathlib.Core.Path.{_≡_, refl}
 use borrow.Author.Needs.{needs}
@@ -35,8 +35,8 @@ pass-at-requires-2 c κs = (search needs, search next-position)
 pass-start-requires : tie.Need-pass-start-requires Inv-loop μ-loop
 pass-start-requires c κs = search next-start
 
-pass-end-requires : tie.Need-pass-end-requires Inv-loop μ-loop
-pass-end-requires c κs = search this-end
+clear-at-requires : tie.Need-clear-at-requires Inv-loop μ-loop
+clear-at-requires c κs = search this-end
 
 returns : tie.Need-returns Inv-loop μ-loop
 returns c = search ordered-wrong
@@ -66,7 +66,7 @@ passes-in-order-spec =
     add-pass-at
     pass-at-requires-2
     pass-start-requires
-    pass-end-requires
+    clear-at-requires
     returns
     add-k
     loop-less
