@@ -1,8 +1,9 @@
--- The least starts never reach the ceiling: the last pass ends no later than all passes and delays of all blocks take, one after the other.
+-- The least starts never reach the ceiling: the last pass ends no later than all passes and delays of all blocks take, one after the other, with a turn between
+-- any two passes.
 use mathlib.Core.Path.{_≡_}
 use mathlib.Core.Bool.{cond, true}
 use Prim.Native.Nat.{ℕ, zero, suc, _+_, _-_, _*_, _≤_, _<_}
-use native.Mathlib.Nat.{add-zero, add-suc}
+use native.Mathlib.Nat.{add-zero, add-suc, mul-suc, mul-le-mul}
 use native.Mathlib.Decide.{decLt}
 use native.Mathlib.Omega.{arith}
 use lib.Dec.{ltb}
@@ -14,7 +15,7 @@ use Rattle.order.specs.Passes.{passAt}
 use Rattle.difference.specs.System.{value}
 use Rattle.difference.specs.Least.{solvable-solves, least-below}
 use Rattle.difference.specs.Span.{span}
-use Rattle.sheet.specs.Limits.{mostTime, mostBlocks}
+use Rattle.sheet.specs.Limits.{mostTime, mostTurn, mostBlocks}
 use Rattle.sheet.specs.Sound.{FlightSound}
 use Rattle.sheet.specs.declared.FlightSection.{FlightSection}
 use Rattle.rules.specs.Flight.{passTime}
@@ -34,34 +35,34 @@ sound-good f w s some proper = record {
   second-long = omega (arith, s .most-blocks, s .second-length);
   least-long = omega (arith, s .most-blocks, s .delay-length);
   most-long = omega (arith, s .most-blocks, s .delay-length);
-  turn-low = omega arith;
+  turn-low = omega (arith, s .most-turn);
   first-low = λ i. omega (arith, s .most-first i);
   second-low = λ i. omega (arith, s .most-second i);
   least-low = λ i. omega (arith, s .most-delay i);
   most-low = λ i. omega (arith, s .most-delay i);
 }
 
--- No least pass ends later: both passes and the delay of every block.
+-- No least pass ends later: both passes and the delay of every block, and the turns between them.
 abbrev pub latestEnd : ℕ
-latestEnd = mostBlocks * (3 * mostTime)
+latestEnd = mostBlocks * (3 * mostTime) + (2 * mostBlocks - 1) * mostTurn
 
--- What a pass may hold up: a first pass its delay too.
+-- What a pass may hold up: a turn behind it, and a first pass its delay too.
 reach : FlightSection → ℕ → ℕ
-reach f p = cond (ltb p (f .blocks)) (getD (f .first) p 0 + getD (f .delay) p 0) (getD (f .second) (p - f .blocks) 0)
+reach f p = cond (ltb p (f .blocks)) (getD (f .first) p 0 + getD (f .delay) p 0) (getD (f .second) (p - f .blocks) 0) + f .turn
 
 module _ (f : FlightSection) where
-  reach-first : (p : ℕ) → p < f .blocks → reach f p ≡ getD (f .first) p 0 + getD (f .delay) p 0
+  reach-first : (p : ℕ) → p < f .blocks → reach f p ≡ getD (f .first) p 0 + getD (f .delay) p 0 + f .turn
   unfolding reach
   reach-first p l = rw (lt-ltb p (f .blocks) l)
 
-  reach-second : (p : ℕ) → f .blocks ≤ p → reach f p ≡ getD (f .second) (p - f .blocks) 0
+  reach-second : (p : ℕ) → f .blocks ≤ p → reach f p ≡ getD (f .second) (p - f .blocks) 0 + f .turn
   unfolding reach
   reach-second p l = rw (le-ltb p (f .blocks) l)
 
-  time-reach : (p : ℕ) → passTime f p ≤ reach f p
+  time-reach : (p : ℕ) → passTime f p + f .turn ≤ reach f p
   time-reach p = go (decLt p (f .blocks))
     where
-      go : Dec (p < f .blocks) → passTime f p ≤ reach f p
+      go : Dec (p < f .blocks) → passTime f p + f .turn ≤ reach f p
       go (yes l) = omega (arith, time-first f p l, reach-first p l)
       go (no l) = omega (arith, time-second f p (omega arith), reach-second p (omega arith))
 
@@ -77,19 +78,39 @@ module _ (f : FlightSection) where
           p = passAt (f .blocks) w (k - 2 * f .blocks)
 
   module _ (s : FlightSound f) where
-    firsts-sum : (m : ℕ) → m ≤ f .blocks → sumOver m (reach f) ≤ m * (2 * mostTime)
+    firsts-sum : (m : ℕ) → m ≤ f .blocks → sumOver m (reach f) ≤ m * (2 * mostTime) + f .turn * m
     unfolding sumOver
     firsts-sum zero l = omega arith
-    firsts-sum (suc m) l = omega (arith, firsts-sum m (omega arith), reach-first m l, s .most-first m, s .most-delay m)
+    firsts-sum (suc m) l =
+        omega (arith, firsts-sum m (omega arith), reach-first m l, s .most-first m, s .most-delay m, mul-suc (f .turn) m)
 
-    all-sum : (m : ℕ) → sumOver (f .blocks + m) (reach f) ≤ f .blocks * (2 * mostTime) + m * mostTime
+    all-sum : (m : ℕ) → sumOver (f .blocks + m) (reach f) ≤ f .blocks * (2 * mostTime) + m * mostTime + f .turn * (f .blocks + m)
     unfolding sumOver
     all-sum zero = rw (add-zero (f .blocks)) (omega (arith, firsts-sum (f .blocks) (omega arith)))
     all-sum (suc m) =
-        rw (add-suc (f .blocks) m) (omega (arith, all-sum m, reach-second (f .blocks + m) (omega arith), s .most-second (f .blocks + m - f .blocks)))
+        rw (add-suc (f .blocks) m)
+        (omega (
+          arith,
+          all-sum m,
+          reach-second (f .blocks + m) (omega arith),
+          s .most-second (f .blocks + m - f .blocks),
+          mul-suc (f .turn) (f .blocks + m),
+        ))
 
-    reach-sum : sumOver (2 * f .blocks) (reach f) ≤ latestEnd
-    reach-sum = rw e (omega (arith, all-sum (f .blocks), s .most-blocks))
+    -- all but one of the turns
+    turns-most : 0 < f .blocks → f .turn * (f .blocks + f .blocks) ≤ (2 * mostBlocks - 1) * mostTurn + f .turn
+    turns-most some =
+        rw one-more
+        (omega (arith, mul-suc (f .turn) (2 * f .blocks - 1), mul-le-mul (s .most-turn) few))
+      where
+        one-more : f .blocks + f .blocks ≡ suc (2 * f .blocks - 1)
+        one-more = omega arith
+
+        few : 2 * f .blocks - 1 ≤ 2 * mostBlocks - 1
+        few = omega (arith, s .most-blocks)
+
+    reach-sum : 0 < f .blocks → sumOver (2 * f .blocks) (reach f) ≤ latestEnd + f .turn
+    reach-sum some = rw e (omega (arith, all-sum (f .blocks), s .most-blocks, turns-most some))
       where
         e : 2 * f .blocks ≡ f .blocks + f .blocks
         e = omega arith
@@ -107,7 +128,7 @@ module _ (f : FlightSection) where
               p
               l,
           time-reach p,
-          reach-sum,
+          reach-sum some,
         )
       where
         good : Good (exactFlight f w)

@@ -1,7 +1,7 @@
 -- The constraints of a flight in one pass order. The passes are numbered (crate order, Passes): the first pass of block i is pass i, its second pass is
 -- pass n + i.
 -- A delay may be anything from `least` to `most`, and `turn` passes between the end of a pass and the start of the next. The rules of 01 have an exact delay,
--- least = most, and no turn. In the literature: coupled tasks on one machine, here with minimum and maximum time lags, in 01 with exact delays; a turn is a
+-- least = most; the turn is that of 02, Req 06. In the literature: coupled tasks on one machine, here with minimum and maximum time lags, in 01 with exact delays; a turn is a
 -- minimum time lag between passes.
 use mathlib.Core.Bool.{Bool, cond}
 use mathlib.Core.List.{List}
@@ -50,9 +50,9 @@ systemFor F = record {
   down = λ k. constraintOf F k .down;
 }
 
--- The flight of a sheet in an order: exact delays, no turn.
+-- The flight of a sheet in an order: exact delays.
 abbrev pub exactFlight : FlightSection → ℕ → OrderedFlight
-exactFlight f order = orderedFlight (f .blocks) order 0 (f .first) (f .second) (f .delay) (f .delay)
+exactFlight f order = orderedFlight (f .blocks) order (f .turn) (f .first) (f .second) (f .delay) (f .delay)
 
 -- The least start of each pass, by its number, and whether a timetable keeps the order at all.
 unfoldable pub leastStarts : FlightSection → ℕ → List ℕ

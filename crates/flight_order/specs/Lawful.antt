@@ -30,7 +30,7 @@ module _ (f : FlightSection) (w : ℕ) (proper : Proper (f .blocks) w) where
           second-start f ps i ∙ omega (arith, law .delay-kept i l .exact, start-first f ps i l)
 
       order : (j : ℕ) → j + 1 < 2 * f .blocks
-          → passStart f ps (passAt (f .blocks) w j) + (timeOf (f .blocks) (f .first) (f .second) (passAt (f .blocks) w j) + 0)
+          → passStart f ps (passAt (f .blocks) w j) + (timeOf (f .blocks) (f .first) (f .second) (passAt (f .blocks) w j) + f .turn)
           ≤ passStart f ps (passAt (f .blocks) w (j + 1))
       order j l =
           omega (
