@@ -9,6 +9,6 @@ use Rattle.flight_search.specs.Search.{Orders}
 unfoldable pub ordersOf : FlightSection → Orders
 ordersOf f = record { blocks = f .blocks; possible = possibleIn f; figure = orderFigure f }
 
--- The flight section of n blocks without an order.
-abbrev pub freeSection : ℕ → List ℕ → List ℕ → List ℕ → FlightSection
-freeSection n first second delay = record { blocks = n; first = first; delay = delay; second = second; ordered = false; order = 0; place = 0 }
+-- The flight section of n blocks, with a turn, without an order.
+abbrev pub freeSection : ℕ → ℕ → List ℕ → List ℕ → List ℕ → FlightSection
+freeSection n turn first second delay = record { blocks = n; turn = turn; first = first; delay = delay; second = second; ordered = false; order = 0; place = 0 }

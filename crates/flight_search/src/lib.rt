@@ -16,6 +16,7 @@ pub struct Incumbent {
 fn try_order<'a>(
     n: usize,
     order: u64,
+    turn: u64,
     first: &'a [u64],
     second: &'a [u64],
     delay: &'a [u64],
@@ -23,10 +24,10 @@ fn try_order<'a>(
     starts: &mut [u64],
     best: Incumbent,
 ) -> Incumbent
-    requires { ⌜ TryOrderPre n order (now first) (now second) (now delay) (now rows) (now starts) ⌝ }
-    ensures { λ r. ⌜ r ≡ tried (ordersOf (freeSection n (now (first .entry)) (now (second .entry)) (now (delay .entry)))) order best ⌝ }
+    requires { ⌜ TryOrderPre n order turn (now first) (now second) (now delay) (now rows) (now starts) ⌝ }
+    ensures { λ r. ⌜ r ≡ tried (ordersOf (freeSection n turn (now (first .entry)) (now (second .entry)) (now (delay .entry)))) order best ⌝ }
 {
-    if !flight_order::least_starts(n, order, 0, first, second, delay, delay, rows, starts) {
+    if !flight_order::least_starts(n, order, turn, first, second, delay, delay, rows, starts) {
         return best;
     }
     let last = 2 * n - 1;
@@ -48,6 +49,7 @@ fn search<'a>(
     n: usize,
     left: usize,
     x: u64,
+    turn: u64,
     first: &'a [u64],
     second: &'a [u64],
     delay: &'a [u64],
@@ -55,38 +57,39 @@ fn search<'a>(
     starts: &mut [u64],
     best: Incumbent,
 ) -> Incumbent
-    requires { ⌜ SearchPre n left x (now first) (now second) (now delay) (now rows) (now starts) ⌝ }
-    ensures { λ r. ⌜ r ≡ searched (ordersOf (freeSection n (now (first .entry)) (now (second .entry)) (now (delay .entry)))) left x best ⌝ }
+    requires { ⌜ SearchPre n left x turn (now first) (now second) (now delay) (now rows) (now starts) ⌝ }
+    ensures { λ r. ⌜ r ≡ searched (ordersOf (freeSection n turn (now (first .entry)) (now (second .entry)) (now (delay .entry)))) left x best ⌝ }
 {
     if left == 0 {
-        return try_order(n, x, first, second, delay, rows, starts, best);
+        return try_order(n, x, turn, first, second, delay, rows, starts, best);
     }
-    let at = (2 * n - left) as u64;
-    let firsts = order::firsts_before(x, at) as usize;
-    let seconds = order::seconds_before(x, at) as usize;
+    let at = 2 * n - left;
+    let firsts = order::firsts_before(x, at as u64) as usize;
+    let seconds = at - firsts;
     if n <= firsts {
-        let y = order::append_second(x, at);
-        return search(n, left - 1, y, first, second, delay, rows, starts, best);
+        let y = order::append_second(x, at as u64);
+        return search(n, left - 1, y, turn, first, second, delay, rows, starts, best);
     }
-    let after = search(n, left - 1, x, first, second, delay, rows, starts, best);
+    let after = search(n, left - 1, x, turn, first, second, delay, rows, starts, best);
     if firsts <= seconds {
         return after;
     }
-    let y = order::append_second(x, at);
-    search(n, left - 1, y, first, second, delay, rows, starts, after)
+    let y = order::append_second(x, at as u64);
+    search(n, left - 1, y, turn, first, second, delay, rows, starts, after)
 }
 
 // The search from the empty beginning, with room for the constraints and starts of 32 blocks.
 fn search_all<'a>(
     n: usize,
+    turn: u64,
     first: &'a [u64],
     second: &'a [u64],
     delay: &'a [u64],
     rows: &mut [u64],
     starts: &mut [u64],
 ) -> Incumbent
-    requires { ⌜ SearchAllPre n (now first) (now second) (now delay) (now rows) (now starts) ⌝ }
-    ensures { λ r. ⌜ r ≡ searched (ordersOf (freeSection n (now (first .entry)) (now (second .entry)) (now (delay .entry)))) (2 * n) 0 noIncumbent ⌝ }
+    requires { ⌜ SearchAllPre n turn (now first) (now second) (now delay) (now rows) (now starts) ⌝ }
+    ensures { λ r. ⌜ r ≡ searched (ordersOf (freeSection n turn (now (first .entry)) (now (second .entry)) (now (delay .entry)))) (2 * n) 0 noIncumbent ⌝ }
 {
     let count = difference::ROW * (4 * n - 1);
     let passes = 2 * n;
@@ -99,6 +102,7 @@ fn search_all<'a>(
         n,
         passes,
         0,
+        turn,
         first,
         second,
         delay,
@@ -109,11 +113,17 @@ fn search_all<'a>(
 }
 
 // The first of the best orders in the search's own order.
-pub fn best_order<'a>(n: usize, first: &'a [u64], second: &'a [u64], delay: &'a [u64]) -> Incumbent
-    requires { ⌜ BlockTimes n (now first) (now second) (now delay) ⌝ }
-    ensures { λ r. ⌜ r ≡ searched (ordersOf (freeSection n (now (first .entry)) (now (second .entry)) (now (delay .entry)))) (2 * n) 0 noIncumbent ⌝ }
+pub fn best_order<'a>(
+    n: usize,
+    turn: u64,
+    first: &'a [u64],
+    second: &'a [u64],
+    delay: &'a [u64],
+) -> Incumbent
+    requires { ⌜ BlockTimes n turn (now first) (now second) (now delay) ⌝ }
+    ensures { λ r. ⌜ r ≡ searched (ordersOf (freeSection n turn (now (first .entry)) (now (second .entry)) (now (delay .entry)))) (2 * n) 0 noIncumbent ⌝ }
 {
     let mut rows = [0; flight_order::MOST_NUMBERS];
     let mut starts = [0; flight_order::MOST_PASSES];
-    search_all(n, first, second, delay, &mut rows, &mut starts)
+    search_all(n, turn, first, second, delay, &mut rows, &mut starts)
 }

@@ -1,8 +1,8 @@
 -- `flight_search::search` meets its contract: the measure is the number of passes left, and each of the four ways is a step of the definition.
 use native.Mathlib.Omega.{arith}
 use borrow.Author.Needs.{needs}
-use Rattle.flight_search.proofs.Searching.{try-order-pre, append-within, append-short, first-search-pre, only-second-search-pre, second-search-pre}
-use Rattle.flight_search.proofs.Searching.{only-second, only-first, first-then-second, search-end}
+use Rattle.flight_search.proofs.Searching.{try-order-pre, firsts-few, append-within, append-short, first-search-pre, only-second-search-pre}
+use Rattle.flight_search.proofs.Searching.{second-search-pre, only-second, only-first, first-then-second, search-end}
 use Prim.Native.Nat.{ℕ, _<_}
 use borrow.Fn.Kinds.{In}
 use borrow.Fn.PlainCycle.{Measures, is, falls, and}
@@ -12,7 +12,6 @@ use Rattle.flight_search.proofs.+search.Lts-search as search-lts
 use Rattle.flight_search.proofs.try_order.Reads as try-order-reads
 use Rattle.order.proofs.append_second.Reads as append-second-reads
 use Rattle.order.proofs.firsts_before.Reads as firsts-before-reads
-use Rattle.order.proofs.seconds_before.Reads as seconds-before-reads
 use Rattle.flight_search.proofs.+search.{statement}
 use Rattle.flight_search.proofs.+search.Tie.{close}
 
@@ -30,8 +29,6 @@ search-try-order-requires : (t : ℕ) → search-lts.Need-try-order-requires (
   try-order-reads.Learnt,
   firsts-before-reads.Asked,
   firsts-before-reads.Learnt,
-  seconds-before-reads.Asked,
-  seconds-before-reads.Learnt,
   append-second-reads.Asked,
   append-second-reads.Learnt,
   search-below t,
@@ -44,8 +41,6 @@ search-same-length : (t : ℕ) → search-lts.Need-same-length (
   try-order-reads.Learnt,
   firsts-before-reads.Asked,
   firsts-before-reads.Learnt,
-  seconds-before-reads.Asked,
-  seconds-before-reads.Learnt,
   append-second-reads.Asked,
   append-second-reads.Learnt,
   search-below t,
@@ -58,8 +53,6 @@ search-same-length-2 : (t : ℕ) → search-lts.Need-same-length-2 (
   try-order-reads.Learnt,
   firsts-before-reads.Asked,
   firsts-before-reads.Learnt,
-  seconds-before-reads.Asked,
-  seconds-before-reads.Learnt,
   append-second-reads.Asked,
   append-second-reads.Learnt,
   search-below t,
@@ -72,8 +65,6 @@ search-returns : (t : ℕ) → search-lts.Need-returns (
   try-order-reads.Learnt,
   firsts-before-reads.Asked,
   firsts-before-reads.Learnt,
-  seconds-before-reads.Asked,
-  seconds-before-reads.Learnt,
   append-second-reads.Asked,
   append-second-reads.Learnt,
   search-below t,
@@ -86,8 +77,6 @@ search-mul-at : (t : ℕ) → search-lts.Need-mul-at (
   try-order-reads.Learnt,
   firsts-before-reads.Asked,
   firsts-before-reads.Learnt,
-  seconds-before-reads.Asked,
-  seconds-before-reads.Learnt,
   append-second-reads.Asked,
   append-second-reads.Learnt,
   search-below t,
@@ -100,8 +89,6 @@ search-sub-at : (t : ℕ) → search-lts.Need-sub-at (
   try-order-reads.Learnt,
   firsts-before-reads.Asked,
   firsts-before-reads.Learnt,
-  seconds-before-reads.Asked,
-  seconds-before-reads.Learnt,
   append-second-reads.Asked,
   append-second-reads.Learnt,
   search-below t,
@@ -114,8 +101,6 @@ search-firsts-before-requires : (t : ℕ) → search-lts.Need-firsts-before-requ
   try-order-reads.Learnt,
   firsts-before-reads.Asked,
   firsts-before-reads.Learnt,
-  seconds-before-reads.Asked,
-  seconds-before-reads.Learnt,
   append-second-reads.Asked,
   append-second-reads.Learnt,
   search-below t,
@@ -123,27 +108,23 @@ search-firsts-before-requires : (t : ℕ) → search-lts.Need-firsts-before-requ
 ) (search-at t) search′.Post
 search-firsts-before-requires t c κs = search needs
 
-search-seconds-before-requires : (t : ℕ) → search-lts.Need-seconds-before-requires (
+search-sub-seconds : (t : ℕ) → search-lts.Need-sub-seconds (
   try-order-reads.Asked,
   try-order-reads.Learnt,
   firsts-before-reads.Asked,
   firsts-before-reads.Learnt,
-  seconds-before-reads.Asked,
-  seconds-before-reads.Learnt,
   append-second-reads.Asked,
   append-second-reads.Learnt,
   search-below t,
   search′.Post,
 ) (search-at t) search′.Post
-search-seconds-before-requires t c κs = search needs
+search-sub-seconds t c = search firsts-few
 
 search-append-second-requires : (t : ℕ) → search-lts.Need-append-second-requires (
   try-order-reads.Asked,
   try-order-reads.Learnt,
   firsts-before-reads.Asked,
   firsts-before-reads.Learnt,
-  seconds-before-reads.Asked,
-  seconds-before-reads.Learnt,
   append-second-reads.Asked,
   append-second-reads.Learnt,
   search-below t,
@@ -156,8 +137,6 @@ search-sub-search : (t : ℕ) → search-lts.Need-sub-search (
   try-order-reads.Learnt,
   firsts-before-reads.Asked,
   firsts-before-reads.Learnt,
-  seconds-before-reads.Asked,
-  seconds-before-reads.Learnt,
   append-second-reads.Asked,
   append-second-reads.Learnt,
   search-below t,
@@ -170,8 +149,6 @@ search-search-requires : (t : ℕ) → search-lts.Need-search-requires (
   try-order-reads.Learnt,
   firsts-before-reads.Asked,
   firsts-before-reads.Learnt,
-  seconds-before-reads.Asked,
-  seconds-before-reads.Learnt,
   append-second-reads.Asked,
   append-second-reads.Learnt,
   search-below t,
@@ -184,8 +161,6 @@ search-same-length-3 : (t : ℕ) → search-lts.Need-same-length-3 (
   try-order-reads.Learnt,
   firsts-before-reads.Asked,
   firsts-before-reads.Learnt,
-  seconds-before-reads.Asked,
-  seconds-before-reads.Learnt,
   append-second-reads.Asked,
   append-second-reads.Learnt,
   search-below t,
@@ -198,8 +173,6 @@ search-same-length-4 : (t : ℕ) → search-lts.Need-same-length-4 (
   try-order-reads.Learnt,
   firsts-before-reads.Asked,
   firsts-before-reads.Learnt,
-  seconds-before-reads.Asked,
-  seconds-before-reads.Learnt,
   append-second-reads.Asked,
   append-second-reads.Learnt,
   search-below t,
@@ -212,8 +185,6 @@ search-returns-2 : (t : ℕ) → search-lts.Need-returns-2 (
   try-order-reads.Learnt,
   firsts-before-reads.Asked,
   firsts-before-reads.Learnt,
-  seconds-before-reads.Asked,
-  seconds-before-reads.Learnt,
   append-second-reads.Asked,
   append-second-reads.Learnt,
   search-below t,
@@ -226,8 +197,6 @@ search-sub-search-2 : (t : ℕ) → search-lts.Need-sub-search-2 (
   try-order-reads.Learnt,
   firsts-before-reads.Asked,
   firsts-before-reads.Learnt,
-  seconds-before-reads.Asked,
-  seconds-before-reads.Learnt,
   append-second-reads.Asked,
   append-second-reads.Learnt,
   search-below t,
@@ -240,8 +209,6 @@ search-search-requires-2 : (t : ℕ) → search-lts.Need-search-requires-2 (
   try-order-reads.Learnt,
   firsts-before-reads.Asked,
   firsts-before-reads.Learnt,
-  seconds-before-reads.Asked,
-  seconds-before-reads.Learnt,
   append-second-reads.Asked,
   append-second-reads.Learnt,
   search-below t,
@@ -254,8 +221,6 @@ search-same-length-5 : (t : ℕ) → search-lts.Need-same-length-5 (
   try-order-reads.Learnt,
   firsts-before-reads.Asked,
   firsts-before-reads.Learnt,
-  seconds-before-reads.Asked,
-  seconds-before-reads.Learnt,
   append-second-reads.Asked,
   append-second-reads.Learnt,
   search-below t,
@@ -268,8 +233,6 @@ search-same-length-6 : (t : ℕ) → search-lts.Need-same-length-6 (
   try-order-reads.Learnt,
   firsts-before-reads.Asked,
   firsts-before-reads.Learnt,
-  seconds-before-reads.Asked,
-  seconds-before-reads.Learnt,
   append-second-reads.Asked,
   append-second-reads.Learnt,
   search-below t,
@@ -282,8 +245,6 @@ search-returns-3 : (t : ℕ) → search-lts.Need-returns-3 (
   try-order-reads.Learnt,
   firsts-before-reads.Asked,
   firsts-before-reads.Learnt,
-  seconds-before-reads.Asked,
-  seconds-before-reads.Learnt,
   append-second-reads.Asked,
   append-second-reads.Learnt,
   search-below t,
@@ -296,8 +257,6 @@ search-append-second-requires-2 : (t : ℕ) → search-lts.Need-append-second-re
   try-order-reads.Learnt,
   firsts-before-reads.Asked,
   firsts-before-reads.Learnt,
-  seconds-before-reads.Asked,
-  seconds-before-reads.Learnt,
   append-second-reads.Asked,
   append-second-reads.Learnt,
   search-below t,
@@ -310,8 +269,6 @@ search-sub-search-3 : (t : ℕ) → search-lts.Need-sub-search-3 (
   try-order-reads.Learnt,
   firsts-before-reads.Asked,
   firsts-before-reads.Learnt,
-  seconds-before-reads.Asked,
-  seconds-before-reads.Learnt,
   append-second-reads.Asked,
   append-second-reads.Learnt,
   search-below t,
@@ -324,8 +281,6 @@ search-search-requires-3 : (t : ℕ) → search-lts.Need-search-requires-3 (
   try-order-reads.Learnt,
   firsts-before-reads.Asked,
   firsts-before-reads.Learnt,
-  seconds-before-reads.Asked,
-  seconds-before-reads.Learnt,
   append-second-reads.Asked,
   append-second-reads.Learnt,
   search-below t,
@@ -338,8 +293,6 @@ search-same-length-7 : (t : ℕ) → search-lts.Need-same-length-7 (
   try-order-reads.Learnt,
   firsts-before-reads.Asked,
   firsts-before-reads.Learnt,
-  seconds-before-reads.Asked,
-  seconds-before-reads.Learnt,
   append-second-reads.Asked,
   append-second-reads.Learnt,
   search-below t,
@@ -352,8 +305,6 @@ search-same-length-8 : (t : ℕ) → search-lts.Need-same-length-8 (
   try-order-reads.Learnt,
   firsts-before-reads.Asked,
   firsts-before-reads.Learnt,
-  seconds-before-reads.Asked,
-  seconds-before-reads.Learnt,
   append-second-reads.Asked,
   append-second-reads.Learnt,
   search-below t,
@@ -366,8 +317,6 @@ search-returns-4 : (t : ℕ) → search-lts.Need-returns-4 (
   try-order-reads.Learnt,
   firsts-before-reads.Asked,
   firsts-before-reads.Learnt,
-  seconds-before-reads.Asked,
-  seconds-before-reads.Learnt,
   append-second-reads.Asked,
   append-second-reads.Learnt,
   search-below t,
@@ -381,8 +330,6 @@ pub +search-spec : {M : Type 1} → statement M
   try-order-reads.Learnt,
   firsts-before-reads.Asked,
   firsts-before-reads.Learnt,
-  seconds-before-reads.Asked,
-  seconds-before-reads.Learnt,
   append-second-reads.Asked,
   append-second-reads.Learnt,
   search-below t,
@@ -397,7 +344,7 @@ pub +search-spec : {M : Type 1} → statement M
     (search-mul-at t)
     (search-sub-at t)
     (search-firsts-before-requires t)
-    (search-seconds-before-requires t)
+    (search-sub-seconds t)
     (search-append-second-requires t)
     (search-sub-search t)
     (search-search-requires t)
