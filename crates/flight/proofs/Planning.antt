@@ -1,13 +1,13 @@
 -- The plan put together: the least starts of the order, copied by block; and the order, given or searched for.
 use mathlib.Core.Path.{_≡_, refl, sym, ap, ap₂, subst, _∙_}
-use mathlib.Core.Bool.{Bool, true, false}
+use mathlib.Core.Bool.{Bool, true, false, not}
 use mathlib.Core.List.{List}
 use Prim.Native.Nat.{ℕ, _+_, _-_, _*_, _^_, _<_}
 use native.Mathlib.Nat.{zero-add}
 use native.Mathlib.Omega.{arith}
 use lib.ListN.{length, getD, take, replicate}
 use lib.Seq.{length-take-le}
-use borrow.Author.Tests.{ne-eqb}
+use borrow.Author.Tests.{ne-eqb, not-true, not-false}
 use Rattle.base.specs.Zeros.{zeros-at}
 use Rattle.base.specs.Listed.{listed-same}
 use Rattle.order.specs.Order.{Proper}
@@ -24,27 +24,27 @@ use Rattle.flight_order.specs.Contracts.{LeastStartsPre, Least}
 use Rattle.flight_search.specs.Search.{noIncumbent, searched}
 use Rattle.flight_search.specs.Orders.{ordersOf, freeSection}
 use Rattle.flight_search.specs.Contracts.{BlockTimes}
-use Rattle.flight.specs.Choice.{chosenOrder, isPossible, leastFigure, chosenPasses, passesOfPlan, PlannedIn, Planned}
-use Rattle.flight.specs.Chosen.{chosen-given, chosen-free, chosen-proper}
+use Rattle.flight.specs.Choice.{delaysFit, alternate, chosenOrder, isPossible, leastFigure, chosenPasses, passesOfPlan, PlannedIn, Planned}
+use Rattle.flight.specs.Chosen.{chosen-given, chosen-free, chosen-none, chosen-proper}
 use Rattle.flight.specs.Contracts.{SomeBlocks, PlanChosenPre, PlanInOrderPre, PlanBlocksPre, Copied}
 use Rattle.flight_search.specs.declared.Incumbent.{Incumbent}
 use Rattle.flight.specs.declared.FlightPlan.{FlightPlan}
 
 module _ (f : FlightSection) (w : ℕ) {rows₀ starts₀ : List ℕ} (pre : PlanInOrderPre f w rows₀ starts₀) where
-  pub least-starts-pre : LeastStartsPre (orderedFlight (f .blocks) w 0 (f .first) (f .second) (f .delay) (f .delay)) rows₀ starts₀
+  pub least-starts-pre : LeastStartsPre (orderedFlight (f .blocks) w (f .turn) (f .first) (f .second) (f .delay) (f .delay)) rows₀ starts₀
   least-starts-pre = record {
     room = record { good = sound-good f w (pre .plan .blocks .sound) (pre .plan .blocks .some) (pre .proper); rows-length = pre .plan .rows-length };
     starts-length = pre .plan .starts-length;
   }
 
   module _ {rows starts : List ℕ} {found : Bool}
-      (least : Least (orderedFlight (f .blocks) w 0 (f .first) (f .second) (f .delay) (f .delay)) rows starts found) where
+      (least : Least (orderedFlight (f .blocks) w (f .turn) (f .first) (f .second) (f .delay) (f .delay)) rows starts found) where
     pub plan-figure-fits : getD starts (2 * f .blocks - 1) 0 + getD (f .second) (f .blocks - 1) 0 < 2 ^ 64
     plan-figure-fits =
         rw (least .starts)
         (omega (
           arith,
-          least-low (orderedFlight (f .blocks) w 0 (f .first) (f .second) (f .delay) (f .delay)) (least-starts-pre .room .good) (2 * f .blocks - 1),
+          least-low (orderedFlight (f .blocks) w (f .turn) (f .first) (f .second) (f .delay) (f .delay)) (least-starts-pre .room .good) (2 * f .blocks - 1),
           pre .plan .blocks .sound .most-second (f .blocks - 1),
         ))
 
@@ -76,16 +76,21 @@ module _ (f : FlightSection) where
   pub given-order : f .ordered ≡ true → f .order ≡ chosenOrder f
   given-order e = sym (chosen-given f e)
 
-  pub searched-order : (best : Incumbent) → f .ordered ≡ false
-      → best ≡ searched (ordersOf (freeSection (f .blocks) (f .first) (f .second) (f .delay))) (2 * f .blocks) 0 noIncumbent
-      → best .order ≡ chosenOrder f
-  unfolding ordersOf possibleIn orderFigure leastStarts
-  searched-order best e q = ap (λ (b : Incumbent). b .order) q ∙ sym (chosen-free f e)
+  module _ (fits : Bool) (d : fits ≡ delaysFit f (f .blocks)) (e : f .ordered ≡ false) where
+    pub searched-order : (best : Incumbent) → not fits ≡ false
+        → best ≡ searched (ordersOf (freeSection (f .blocks) (f .turn) (f .first) (f .second) (f .delay))) (2 * f .blocks) 0 noIncumbent
+        → best .order ≡ chosenOrder f
+    unfolding ordersOf possibleIn orderFigure leastStarts
+    searched-order best h q = ap (λ (b : Incumbent). b .order) q ∙ sym (chosen-free f e (sym d ∙ not-false fits h))
 
-  pub block-times : SomeBlocks f → BlockTimes (f .blocks) (f .first) (f .second) (f .delay)
+    pub order-unsearched : (w : ℕ) → not fits ≡ true → w ≡ alternate (f .blocks) → w ≡ chosenOrder f
+    order-unsearched w h q = q ∙ sym (chosen-none f e (sym d ∙ not-true fits h))
+
+  pub block-times : SomeBlocks f → BlockTimes (f .blocks) (f .turn) (f .first) (f .second) (f .delay)
   block-times pre = record {
     some = pre .some;
     few = pre .sound .most-blocks;
+    turn-low = pre .sound .most-turn;
     first-long = omega (arith, pre .sound .first-length, pre .sound .most-blocks);
     second-long = omega (arith, pre .sound .second-length, pre .sound .most-blocks);
     delay-long = omega (arith, pre .sound .delay-length, pre .sound .most-blocks);

@@ -1,5 +1,5 @@
--- Some order is always possible: each block's two passes one after the other, 1010 .. 10. Its beginnings of 2 i passes are those of i blocks,
--- and block i starts when all blocks before it have taken their passes and delays.
+-- Where every delay is at least the turn, some order is possible: each block's two passes one after the other, 1010 .. 10. Its beginnings of 2 i passes are
+-- those of i blocks, and block i starts when all blocks before it have taken their passes and delays, and a turn is over behind each.
 use mathlib.Core.Path.{_≡_, sym, _∙_}
 use mathlib.Core.Bool.{true, cond}
 use Prim.Native.Nat.{ℕ, zero, suc, _+_, _-_, _*_, _/_, _%_, _^_, _≤_, _<_}
@@ -24,11 +24,7 @@ use Rattle.flight_order.specs.Schedule.{Schedule}
 use Rattle.flight_order.specs.Timetable.{time-is}
 use Rattle.rules_laws.specs.FlightRunning.{time-first, second-time}
 use Rattle.flight_order.specs.Planned.{schedule-possible, empty-possible}
-
--- The order of i blocks one after the other.
-unfoldable pub alternate : ℕ → ℕ
-alternate zero = 0
-alternate (suc i) = alternate i + 2 ^ (2 * i + 1)
+use Rattle.flight.specs.Choice.{alternate}
 
 -- A beginning of 2 i passes with i first and i second passes.
 record Half (n i : ℕ) : Type 0 where
@@ -73,7 +69,7 @@ module _ (n : ℕ) where
   low : (i : ℕ) → i ≤ n → alternate i < 2 ^ (2 * i)
   low i l = half n i l .begun .no-higher
 
-  low-more : (i : ℕ) → i < n → alternate i < 2 ^ (2 * i + 1)
+  pub low-more : (i : ℕ) → i < n → alternate i < 2 ^ (2 * i + 1)
   low-more i l = first-child (half n i (omega arith) .begun) (omega (arith, half n i (omega arith) .first-count)) .no-higher
 
   extends : (d i : ℕ) → i + d ≡ n → Extends (alternate n) (2 * i) (alternate i)
@@ -128,9 +124,9 @@ module _ (n : ℕ) where
         )
 
 module _ (f : FlightSection) where
-  -- The time from block i's first start to its second end, and the start of pass p.
+  -- The time from block i's first start to the first start of the next block, and the start of pass p.
   whole : ℕ → ℕ
-  whole i = getD (f .first) i 0 + getD (f .delay) i 0 + getD (f .second) i 0
+  whole i = getD (f .first) i 0 + getD (f .delay) i 0 + getD (f .second) i 0 + f .turn
 
   starts : ℕ → ℕ
   starts p =
@@ -148,7 +144,7 @@ module _ (f : FlightSection) where
       back : f .blocks + i - f .blocks ≡ i
       back = omega arith
 
-  sum-more : (i : ℕ) → sumOver (i + 1) whole ≡ sumOver i whole + (getD (f .first) i 0 + getD (f .delay) i 0 + getD (f .second) i 0)
+  sum-more : (i : ℕ) → sumOver (i + 1) whole ≡ sumOver i whole + (getD (f .first) i 0 + getD (f .delay) i 0 + getD (f .second) i 0 + f .turn)
   unfolding sumOver whole
   sum-more i = rw (add-one i)
 
@@ -158,11 +154,11 @@ module _ (f : FlightSection) where
   time-after : (i : ℕ) → timeOf (f .blocks) (f .first) (f .second) (f .blocks + i) ≡ getD (f .second) i 0
   time-after i = sym (time-is f (f .blocks + i)) ∙ second-time f i
 
-  order-step : (j : ℕ) → j + 1 < 2 * f .blocks
+  order-step : ((i : ℕ) → i < f .blocks → f .turn ≤ getD (f .delay) i 0) → (j : ℕ) → j + 1 < 2 * f .blocks
       → starts (passAt (f .blocks) (alternate (f .blocks)) j)
-      + (timeOf (f .blocks) (f .first) (f .second) (passAt (f .blocks) (alternate (f .blocks)) j) + 0)
+      + (timeOf (f .blocks) (f .first) (f .second) (passAt (f .blocks) (alternate (f .blocks)) j) + f .turn)
       ≤ starts (passAt (f .blocks) (alternate (f .blocks)) (j + 1))
-  order-step j l = go (ℕ-discrete (j % 2) 0)
+  order-step long j l = go (ℕ-discrete (j % 2) 0)
     where
       i : ℕ
       i = j / 2
@@ -170,13 +166,13 @@ module _ (f : FlightSection) where
       goal : ℕ → Type 0
       goal j =
           starts (passAt (f .blocks) (alternate (f .blocks)) j)
-          + (timeOf (f .blocks) (f .first) (f .second) (passAt (f .blocks) (alternate (f .blocks)) j) + 0)
+          + (timeOf (f .blocks) (f .first) (f .second) (passAt (f .blocks) (alternate (f .blocks)) j) + f .turn)
           ≤ starts (passAt (f .blocks) (alternate (f .blocks)) (j + 1))
 
       even : (i : ℕ) → i < f .blocks → goal (2 * i)
       even i q =
           rw (even-pass (f .blocks) i q, odd-pass (f .blocks) i q, starts-first i q, starts-second i, first-time i q)
-          (omega arith)
+          (omega (arith, long i q))
 
       odd : (i : ℕ) → i + 1 < f .blocks → goal (2 * i + 1)
       odd i q =
@@ -204,16 +200,16 @@ module _ (f : FlightSection) where
           back : j ≡ 2 * (j / 2) + 1
           back = omega arith
 
-  alternate-schedule : Schedule (exactFlight f (alternate (f .blocks))) starts
-  alternate-schedule = record {
+  alternate-schedule : ((i : ℕ) → i < f .blocks → f .turn ≤ getD (f .delay) i 0) → Schedule (exactFlight f (alternate (f .blocks))) starts
+  alternate-schedule long = record {
     at-least = λ i l. omega (arith, starts-first i l, starts-second i);
     at-most = λ i l. omega (arith, starts-first i l, starts-second i);
-    in-order = order-step;
+    in-order = order-step long;
   }
 
-  pub alternate-possible : FlightSound f → possibleIn f (alternate (f .blocks)) ≡ true
-  alternate-possible sound = go (decLt 0 (f .blocks))
+  pub alternate-possible : FlightSound f → ((i : ℕ) → i < f .blocks → f .turn ≤ getD (f .delay) i 0) → possibleIn f (alternate (f .blocks)) ≡ true
+  alternate-possible sound long = go (decLt 0 (f .blocks))
     where
       go : Dec (0 < f .blocks) → possibleIn f (alternate (f .blocks)) ≡ true
-      go (yes some) = schedule-possible f (alternate (f .blocks)) sound (alternate-proper (f .blocks)) some starts alternate-schedule
+      go (yes some) = schedule-possible f (alternate (f .blocks)) sound (alternate-proper (f .blocks)) some starts (alternate-schedule long)
       go (no none) = empty-possible f (alternate (f .blocks)) sound (alternate-proper (f .blocks)) none

@@ -1,8 +1,10 @@
--- The plan: its order, which is the given one or the one that the search takes, and the least starts in that order.
+-- The plan: its order, which is the given one or the one that the search takes, and the least starts in that order. Where no order is given and none is
+-- possible, which the delays tell, there is no search.
 use mathlib.Core.Path.{_≡_}
-use mathlib.Core.Bool.{Bool, true, false}
+use mathlib.Core.Bool.{Bool, true, false, _&&_}
 use mathlib.Core.List.{List}
-use Prim.Native.Nat.{ℕ, _*_, _≤_}
+use Prim.Native.Nat.{ℕ, zero, suc, _+_, _*_, _^_, _≤_}
+use lib.Dec.{leb}
 use lib.ListN.{getD}
 use Rattle.base.specs.Listed.{listed}
 use Rattle.sheet.specs.declared.FlightSection.{FlightSection}
@@ -13,9 +15,25 @@ use Rattle.flight_search.specs.Search.{noIncumbent, searched}
 use Rattle.flight_search.specs.Orders.{ordersOf}
 use Rattle.flight.specs.declared.FlightPlan.{FlightPlan}
 
+-- the delays of the first k blocks are no shorter than the turn
+unfoldable pub delaysFit : FlightSection → ℕ → Bool
+delaysFit f zero = true
+delaysFit f (suc k) = delaysFit f k && leb (f .turn) (getD (f .delay) k 0)
+
+-- the order of i blocks one after the other
+unfoldable pub alternate : ℕ → ℕ
+alternate zero = 0
+alternate (suc i) = alternate i + 2 ^ (2 * i + 1)
+
+-- The order of a flight without a given one. Where a delay is shorter than the turn no order is possible (`flight-free` of Theorems.antt): then none is searched
+-- for, and that of the blocks one after the other stands for all.
+unfoldable pub freeOrder : FlightSection → ℕ
+freeOrder f =
+    elim (delaysFit f (f .blocks)) [ true ↦ searched (ordersOf f) (2 * f .blocks) 0 noIncumbent .order | false ↦ alternate (f .blocks) ]
+
 -- 01: "A given order must be kept; otherwise any proper order may be chosen."
 unfoldable pub chosenOrder : FlightSection → ℕ
-chosenOrder f = elim (f .ordered) [ true ↦ f .order | false ↦ searched (ordersOf f) (2 * f .blocks) 0 noIncumbent .order ]
+chosenOrder f = elim (f .ordered) [ true ↦ f .order | false ↦ freeOrder f ]
 
 unfoldable pub isPossible : FlightSection → Bool
 isPossible f = possibleIn f (chosenOrder f)

@@ -16,7 +16,7 @@ use Rattle.flight_order.specs.Ceiling.{latestEnd}
 use Rattle.flight_order.specs.Timetable.{leastPasses}
 use Rattle.flight_order.specs.Planned.{possible-lawful, possible-keeps, kept-possible, least-earliest, least-figure, figure-below, least-ends}
 use Rattle.flight.specs.Choice.{chosenOrder, isPossible, leastFigure, chosenPasses}
-use Rattle.flight.specs.Chosen.{chosen-proper, chosen-allowed, chosen-least, allowed-possible, free-possible}
+use Rattle.flight.specs.Chosen.{ShortDelay, chosen-proper, chosen-allowed, chosen-least, allowed-possible, impossible-short, short-impossible}
 
 module _ (f : FlightSection) (sound : FlightSound f) where
   -- A plan that is possible is a timetable, keeps its order, and the order is the given one or, where none is given, a proper one.
@@ -77,11 +77,15 @@ module _ (f : FlightSection) (sound : FlightSound f) where
       go none true e = let h = flight-lawful e in absurd (none (chosenOrder f) (chosenPasses f) (h .0) (h .1) (h .2))
       go none false e = refl
 
-  -- Where no order is given, the plan is always possible.
-  pub flight-free : f .ordered ≡ false → isPossible f ≡ true
-  flight-free = free-possible f sound
+  -- 02, Req 06. Where no order is given, the plan is not possible exactly where some block's delay is shorter than the turn; where one is given, it is not
+  -- possible there either.
+  pub flight-free : f .ordered ≡ false → (isPossible f ≡ false → ShortDelay f) × (ShortDelay f → isPossible f ≡ false)
+  flight-free e = (impossible-short f sound e, short-impossible f sound)
 
-  -- The ceiling is never met: every pass of the plan ends by `latestEnd`, 32 times both passes and the delay of a block.
+  pub flight-short : ShortDelay f → isPossible f ≡ false
+  flight-short = short-impossible f sound
+
+  -- The ceiling is never met: every pass of the plan ends by `latestEnd`, 32 times both passes and the delay of a block, and 63 turns.
   pub flight-ends : isPossible f ≡ true → (p : ℕ) → p < 2 * f .blocks → passEnd f (chosenPasses f) p ≤ latestEnd
   unfolding isPossible chosenPasses
   flight-ends e p l = least-ends f (chosenOrder f) sound (chosen-proper f sound) e p l

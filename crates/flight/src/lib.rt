@@ -1,8 +1,10 @@
 // The flight planner: the given order or the best of all proper orders, and the least start of every pass in it. In the literature: coupled tasks with exact
 // delays on one machine, for the least makespan.
 ghost use mathlib.Core.Path.{_≡_};
+ghost use Prim.Native.Nat.{_≤_};
+ghost use Rattle.sheet.specs.Limits.{mostBlocks};
 ghost use Rattle.sheet.specs.Sound.{FlightSound};
-ghost use Rattle.flight.specs.Choice.{chosenOrder, Planned, PlannedIn};
+ghost use Rattle.flight.specs.Choice.{delaysFit, alternate, chosenOrder, Planned, PlannedIn};
 ghost use Rattle.flight.specs.Contracts.{SomeBlocks, PlanChosenPre, PlanInOrderPre, PlanBlocksPre, CopyStartsPre, Copied};
 use sheet::FlightSection;
 
@@ -41,7 +43,7 @@ fn plan_in_order(f: FlightSection, order: u64, rows: &mut [u64], starts: &mut [u
     let possible = flight_order::least_starts(
         n,
         order,
-        0,
+        f.turn,
         &first,
         &second,
         &delay,
@@ -63,7 +65,38 @@ fn plan_in_order(f: FlightSection, order: u64, rows: &mut [u64], starts: &mut [u
     }
 }
 
-// The given order, or the one that the search takes.
+// Whether every delay is at least the turn.
+fn delays_fit(f: FlightSection) -> bool
+    requires { ⌜ FlightSound f ⌝ }
+    ensures { λ r. ⌜ r ≡ delaysFit f (f .blocks) ⌝ }
+{
+    let n = f.blocks;
+    let delay = f.delay;
+    let mut i: usize = 0;
+    while i < n {
+        if delay[i] < f.turn {
+            return false;
+        }
+        i += 1;
+    }
+    true
+}
+
+// The order of n blocks one after the other.
+fn one_by_one(n: usize) -> u64
+    requires { ⌜ n ≤ mostBlocks ⌝ }
+    ensures { λ r. ⌜ r ≡ alternate n ⌝ }
+{
+    let mut order: u64 = 0;
+    let mut i: usize = 0;
+    while i < n {
+        order = order::append_second(order, (2 * i + 1) as u64);
+        i += 1;
+    }
+    order
+}
+
+// The given order, or the one that the search takes. Where a delay is shorter than the turn no order is possible, and none is searched for.
 fn choose_order(f: FlightSection) -> u64
     requires { ⌜ SomeBlocks f ⌝ }
     ensures { λ r. ⌜ r ≡ chosenOrder f ⌝ }
@@ -72,10 +105,13 @@ fn choose_order(f: FlightSection) -> u64
         return f.order;
     }
     let n = f.blocks;
+    if !delays_fit(f) {
+        return one_by_one(n);
+    }
     let first = f.first;
     let second = f.second;
     let delay = f.delay;
-    let best = flight_search::best_order(n, &first, &second, &delay);
+    let best = flight_search::best_order(n, f.turn, &first, &second, &delay);
     best.order
 }
 
