@@ -14,20 +14,22 @@ pub struct FlightAnswer {
 #[no_mangle]
 pub extern "C" fn flight_best(
     blocks: usize,
+    turn: u64,
     first: &[u64; 32],
     delay: &[u64; 32],
     second: &[u64; 32],
     ordered: bool,
     order: u64,
 ) -> FlightAnswer
-    requires { ⌜ FlightSound (sectionOf blocks (now first) (now delay) (now second) ordered order) ⌝ }
-    ensures { λ r. ⌜ Answered (sectionOf blocks (now (first .entry)) (now (delay .entry)) (now (second .entry)) ordered order) r ⌝ }
+    requires { ⌜ FlightSound (sectionOf blocks turn (now first) (now delay) (now second) ordered order) ⌝ }
+    ensures { λ r. ⌜ Answered (sectionOf blocks turn (now (first .entry)) (now (delay .entry)) (now (second .entry)) ordered order) r ⌝ }
 {
     let a = *first;
     let l = *delay;
     let b = *second;
     let f = FlightSection {
         blocks: blocks,
+        turn: turn,
         first: a,
         delay: l,
         second: b,

@@ -31,7 +31,7 @@ chosenPlan s =
     }
 
 -- "An accepted call has number 0 and place 0, and the planner's also the plan's length; a refused one has length .. 0." "11 comes last", its place is the order
--- field.
+-- field's or, without an order, the flight head's (02, Req 06): one that the reading fixes.
 unfoldable pub sheetAnswer : Sheet → Answer
 sheetAnswer s =
     cond (eqb (s .number) 0)

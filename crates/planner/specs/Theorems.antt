@@ -1,6 +1,6 @@
 -- What holds of the plan that the program takes for a sheet, for every row of bytes as a sheet: it is lawful, no plan that obeys the rules under any ceiling
 -- has a smaller figure, its sorting is the one that Req 03 takes, it starts as early as any, and the flight is called impossible exactly where no timetable
--- keeps the given order. `readSheet` is what reading gives (crate sheet), `PlanUnder`, `PlanLawful`, `AllowedFor` and `SortingTaken` are of crate rules,
+-- keeps the given order or, where none is given, a proper one. `readSheet` is what reading gives (crate sheet), `PlanUnder`, `PlanLawful`, `AllowedFor` and `SortingTaken` are of crate rules,
 -- `chosenPlan` is Call.antt's. What that means for a call is said in crate demands.
 use Prim.Native.Nat.{ℕ, _≤_, _<_}
 use mathlib.Core.Path.{_≡_, refl, sym, subst, _∙_}
@@ -12,7 +12,9 @@ use Rattle.sheet.specs.Limits.{ceiling}
 use Rattle.sheet.specs.Read.{readSheet}
 use Rattle.sheet.specs.Sound.{SheetSound}
 use Rattle.sheet.specs.Theorems.{read-sound}
+use Rattle.sheet.specs.declared.FlightSection.{FlightSection}
 use Rattle.sheet.specs.declared.Sheet.{Sheet}
+use Rattle.order.specs.Order.{Proper}
 use Rattle.rules.specs.Mosaic.{batchAt, mosaicFigure}
 use Rattle.rules.specs.Sorting.{jobAt, sortingFigure}
 use Rattle.rules.specs.ScannerList.{scannerList, SortingTaken}
@@ -24,7 +26,7 @@ use Rattle.mosaic.specs.Plan.{lasts}
 use Rattle.mosaic.specs.Theorems.{mosaic-lawful, mosaic-figure, mosaic-least, mosaic-earliest}
 use Rattle.sorting.specs.Theorems.{sorting-lawful, sorting-figure, sorting-least, sorting-earliest, sorting-taken, sorting-taken-once}
 use Rattle.flight.specs.Choice.{isPossible, chosenOrder}
-use Rattle.flight.specs.Chosen.{chosen-given}
+use Rattle.flight.specs.Chosen.{ShortDelay, chosen-given}
 use Rattle.flight.specs.Theorems.{flight-lawful, flight-figure, flight-least, flight-earliest, flight-impossible, flight-free}
 use Rattle.planner.specs.Call.{chosenPlan}
 
@@ -42,33 +44,48 @@ figureOfFlight s p = flightFigure (s .flight) (p .passes)
 unfoldable pub Least : (Sheet → Plan → ℕ) → Sheet → Plan → Type 0
 Least figure s q = (c : ℕ) (other : Plan) → PlanUnder c s other → figure s q ≤ figure s other
 
--- "no timetable keeps the given order": an order is given, and no passes are a timetable that keeps it.
-pub record Impossible (s : Sheet) : Type 0 where
-  pub given : s .flight .ordered ≡ true
-  pub none : (ps : List Passes) → FlightLawful (s .flight) ps → Keeps (s .flight) (s .flight .order) ps → ⊥
+-- 11: "no timetable keeps the given order". 02, Req 06: "A flight without an order can now be impossible as well: .. no proper order has a timetable."
+pub data Impossible (s : Sheet) : Type 0 where
+  order-given :
+      s .flight .ordered ≡ true → ((ps : List Passes) → FlightLawful (s .flight) ps → Keeps (s .flight) (s .flight .order) ps → ⊥) → Impossible s
+  no-order-given :
+      s .flight .ordered ≡ false
+      → ((w : ℕ) (ps : List Passes) → Proper (s .flight .blocks) w → FlightLawful (s .flight) ps → Keeps (s .flight) w ps → ⊥) → Impossible s
 
 module _ (sheet : List ℕ) (sound : readSheet sheet .number ≡ 0) where
   whole : SheetSound (readSheet sheet)
   whole = read-sound sheet sound
 
-  -- The flight is called impossible exactly where an order is given and no timetable keeps it ..
+  -- The flight is called impossible exactly where it is ..
   pub impossible-exactly : (isPossible (readSheet sheet .flight) ≡ false → Impossible (readSheet sheet))
       × (Impossible (readSheet sheet) → isPossible (readSheet sheet .flight) ≡ false)
-  impossible-exactly = (
-    λ e. record {
-      given = given e _ refl;
-      none = λ ps law keeps.
-          flight-impossible (readSheet sheet .flight) (whole .flight) .0 e ceiling (readSheet sheet .flight .order) ps law keeps (as-given (given e _ refl));
-    },
-    λ none. flight-impossible (readSheet sheet .flight) (whole .flight) .1 (λ w ps law keeps allowed. none .none ps law (subst (λ (v : ℕ). Keeps (readSheet sheet .flight) v ps) (allowed .as-given (none .given)) keeps)),
-  )
+  impossible-exactly = (λ e. is-impossible e (readSheet sheet .flight .ordered) refl, called-impossible)
     where
-      given : isPossible (readSheet sheet .flight) ≡ false → (b : Bool) → readSheet sheet .flight .ordered ≡ b → readSheet sheet .flight .ordered ≡ true
-      given e true o = o
-      given e false o = absurd (true≢false (sym (flight-free (readSheet sheet .flight) (whole .flight) o) ∙ e))
+      f : FlightSection
+      f = readSheet sheet .flight
 
-      as-given : readSheet sheet .flight .ordered ≡ true → OrderAllowed (readSheet sheet .flight) (readSheet sheet .flight .order)
-      as-given o = record { proper = whole .flight .given o; as-given = λ _. refl }
+      is-impossible : isPossible f ≡ false → (o : Bool) → f .ordered ≡ o → Impossible (readSheet sheet)
+      is-impossible e true o =
+          Impossible.order-given o
+          (λ ps law keeps. flight-impossible f (whole .flight) .0 e ceiling (f .order) ps law keeps (record { proper = whole .flight .given o; as-given = λ _. refl }))
+      is-impossible e false o =
+          Impossible.no-order-given o
+          (λ w ps proper law keeps.
+          flight-impossible f (whole .flight) .0 e ceiling w ps law keeps (record { proper = proper; as-given = λ g. absurd (true≢false (sym g ∙ o)) }))
+
+      called-impossible : Impossible (readSheet sheet) → isPossible f ≡ false
+      called-impossible (Impossible.order-given o none) =
+          flight-impossible f (whole .flight) .1 (λ w ps law keeps allowed. none ps law (subst (λ (v : ℕ). Keeps f v ps) (allowed .as-given o) keeps))
+      called-impossible (Impossible.no-order-given o none) =
+          flight-impossible f (whole .flight) .1 (λ w ps law keeps allowed. none w ps (allowed .proper) law keeps)
+
+  -- .. and where no order is given, exactly where some block's delay is shorter than the turn (02, Req 06) ..
+  pub free-impossible-exactly : readSheet sheet .flight .ordered ≡ false
+      → (Impossible (readSheet sheet) → ShortDelay (readSheet sheet .flight)) × (ShortDelay (readSheet sheet .flight) → Impossible (readSheet sheet))
+  free-impossible-exactly free = (
+    λ none. flight-free (readSheet sheet .flight) (whole .flight) free .0 (impossible-exactly .1 none),
+    λ short. impossible-exactly .0 (flight-free (readSheet sheet .flight) (whole .flight) free .1 short),
+  )
 
   -- .. and so a sheet for which some plan obeys the rules under any ceiling is possible.
   pub lawful-possible : {c : ℕ} (q : Plan) → PlanUnder c (readSheet sheet) q → isPossible (readSheet sheet .flight) ≡ true
