@@ -26,3 +26,4 @@ pub mod DeskLaws
 pub mod Invariant
 pub mod Progress
 pub mod Computes
+pub mod FlightPlaces

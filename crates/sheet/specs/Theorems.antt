@@ -56,7 +56,7 @@ pub data Outcome (s : List ℕ) (r : Sheet) : Type 0 where
   is-refused : (st : Reading) (number place : ℕ) → Reached s st → Cause s st number place → r ≡ refused number place → Outcome s r
 
 -- every reached reading is on the way of the reader
-reached-progress : (s : List ℕ) (st : Reading) → Reached s st → Progress s st
+pub reached-progress : (s : List ℕ) (st : Reading) → Reached s st → Progress s st
 reached-progress s st at-start = progress-start s startReading refl
 reached-progress s st (past-field {st = st₀} tag len r e p) =
     progress-next s st₀ (reached-progress s st₀ r) (Whole tag len) (sym e) tag len refl 0 (nextReading s st₀ tag len)

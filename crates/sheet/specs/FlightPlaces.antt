@@ -1,0 +1,140 @@
+-- Where the flight's head and its order field stand in a sheet (02, Req 06: 11 is given at one or the other), and what turn the head gives.
+-- The idea: the place that the reading keeps is that of the field which it has just passed, and the fields between change neither it nor the turn.
+use Prim.Native.Nat.{ℕ, _+_, _≤_, _<_}
+use mathlib.Core.Path.{_≡_, refl, sym, ap, subst, _∙_}
+use mathlib.Core.Bool.{true, false, true≢false}
+use mathlib.Core.List.{List}
+use native.Mathlib.Decide.{ℕ-discrete, decLt}
+use native.Mathlib.Omega.{arith}
+use Rattle.field.specs.Field.{fieldAt}
+use Rattle.field.specs.declared.Field.the-variants.{Whole}
+use Rattle.sheet.specs.Tags.{mosaicHeadTag, mosaicStripTag, sortingHeadTag, sortingStripTag, flightHeadTag, flightBlockTag, flightOrderTag}
+use Rattle.sheet.specs.Sections.{noSection, inMosaic, inSorting, inFlight, afterOrder}
+use Rattle.sheet.specs.Causes.{Permitted, fieldRows}
+use Rattle.sheet.specs.Checks.{endsSection}
+use Rattle.sheet.specs.Rows.{NoCause}
+use Rattle.sheet.specs.Table.{Reached, Complete}
+use Rattle.sheet.specs.Table.Reached.{at-start, past-field}
+use Rattle.sheet.specs.Decode.{turnOf, withFlightHead, withBlock, withOrder, nextFlight, nextSection, nextReading, startReading}
+use Rattle.sheet.specs.Read.{readSheet, accepted, refused}
+use Rattle.sheet.specs.Passed.{passed-rows}
+use Rattle.sheet.specs.Invariant.{Kept}
+use Rattle.sheet.specs.Theorems.{Outcome, is-accepted, is-refused, read-outcome, refused-some, reached-progress}
+use Rattle.sheet.specs.declared.FlightSection.{FlightSection}
+use Rattle.sheet.specs.declared.Reading.{Reading}
+use Rattle.sheet.specs.declared.Sheet.{Sheet}
+
+-- a field of a tag and a content length stands at an offset of the sheet: the reading comes to it, every field before it passes, and it passes too
+pub record FieldRead (s : List ℕ) (tag len at : ℕ) : Type 0 where
+  pub reading : Reading
+  pub reached : Reached s reading
+  pub place-is : at ≡ reading .at
+  pub whole : fieldAt s (reading .at) ≡ Whole tag len
+  pub passes : NoCause (fieldRows s reading tag len)
+
+-- the head of a flight section: where it stands, that the turn is the one that it gives, and that without an order the place of 11 is its place
+pub record HeadRead (s : List ℕ) (f : FlightSection) : Type 0 where
+  pub at : ℕ
+  pub len : ℕ
+  pub head : FieldRead s flightHeadTag len at
+  pub turn-is : f .turn ≡ turnOf s (at + 3) len
+  pub place-is : f .ordered ≡ false → f .place ≡ at
+
+-- its order field, whose place is that of 11
+pub record OrderRead (s : List ℕ) (f : FlightSection) : Type 0 where
+  pub len : ℕ
+  pub order : FieldRead s flightOrderTag len (f .place)
+
+record Placed (s : List ℕ) (st : Reading) : Type 0 where
+  head : inFlight ≤ st .section → HeadRead s (st .flight)
+  order : st .section ≡ afterOrder → OrderRead s (st .flight)
+
+module _ (s : List ℕ) (st : Reading) (len : ℕ) (r : Reached s st) (p : Placed s st) where
+  -- a field of a section before the flight
+  early : (tag : ℕ) → nextSection tag (st .section) < inFlight → Placed s (nextReading s st tag len)
+  unfolding nextReading
+  early tag l = record { head = λ h. absurd (omega arith); order = λ e. absurd (omega arith) }
+
+  at-head : fieldAt s (st .at) ≡ Whole flightHeadTag len → NoCause (fieldRows s st flightHeadTag len) → Placed s (nextReading s st flightHeadTag len)
+  unfolding nextReading nextSection nextFlight withFlightHead
+  at-head e c = record {
+    head =
+        λ h. record {
+          at = st .at;
+          len = len;
+          head = record { reading = st; reached = r; place-is = refl; whole = e; passes = c };
+          turn-is = refl;
+          place-is = λ _. refl;
+        };
+    order = λ d. absurd (omega arith);
+  }
+
+  at-block : st .section ≡ inFlight → Placed s (nextReading s st flightBlockTag len)
+  unfolding nextReading nextSection nextFlight withBlock
+  at-block e =
+      let h = p .head (omega arith) in
+      record {
+        head = λ _. record { at = h .at; len = h .len; head = h .head; turn-is = h .turn-is; place-is = h .place-is };
+        order = λ d. absurd (omega arith);
+      }
+
+  at-order : st .section ≡ inFlight → fieldAt s (st .at) ≡ Whole flightOrderTag len → NoCause (fieldRows s st flightOrderTag len)
+      → Placed s (nextReading s st flightOrderTag len)
+  unfolding nextReading nextSection nextFlight withOrder
+  at-order e w c =
+      let h = p .head (omega arith) in
+      record {
+        head = λ _. record { at = h .at; len = h .len; head = h .head; turn-is = h .turn-is; place-is = λ d. absurd (true≢false d) };
+        order = λ _. record { len = len; order = record { reading = st; reached = r; place-is = refl; whole = w; passes = c } };
+      }
+
+module _ (s : List ℕ) (st : Reading) (tag len : ℕ) (r : Reached s st) (e : fieldAt s (st .at) ≡ Whole tag len) (c : NoCause (fieldRows s st tag len))
+    (p : Placed s st) where
+  at-tag : (t : ℕ) → tag ≡ t → (fieldAt s (st .at) ≡ Whole t len → NoCause (fieldRows s st t len) → Placed s (nextReading s st t len))
+      → Placed s (nextReading s st tag len)
+  at-tag t q f = subst (λ x. fieldAt s (st .at) ≡ Whole x len → NoCause (fieldRows s st x len) → Placed s (nextReading s st x len)) (sym q) f e c
+
+  placed-case : Permitted tag (st .section) (st .members) → Placed s (nextReading s st tag len)
+  unfolding nextSection
+  placed-case (Permitted.mosaic-head q h) = at-tag mosaicHeadTag q (λ _ _. early s st len r p mosaicHeadTag (omega arith))
+  placed-case (Permitted.mosaic-strip q h) = at-tag mosaicStripTag q (λ _ _. early s st len r p mosaicStripTag (omega arith))
+  placed-case (Permitted.sorting-head q h) = at-tag sortingHeadTag q (λ _ _. early s st len r p sortingHeadTag (omega arith))
+  placed-case (Permitted.sorting-strip q h) = at-tag sortingStripTag q (λ _ _. early s st len r p sortingStripTag (omega arith))
+  placed-case (Permitted.flight-head q h) = at-tag flightHeadTag q (at-head s st len r p)
+  placed-case (Permitted.flight-block q h) = at-tag flightBlockTag q (λ _ _. at-block s st len r p h)
+  placed-case (Permitted.flight-order q h l) = at-tag flightOrderTag q (at-order s st len r p h)
+
+placed : (s : List ℕ) (st : Reading) → Reached s st → Placed s st
+unfolding startReading
+placed s st at-start = record { head = λ h. absurd (omega arith); order = λ e. absurd (omega arith) }
+placed s st (past-field {st = st₀} tag len r e c) = placed-case s st₀ tag len r e c (placed s st₀ r) (passed-rows s st₀ tag len c .tag-ok)
+
+-- Of a sheet that is read with number 0: the head of its flight, if it has one, and its order field, if an order is given.
+module _ (s : List ℕ) where
+  kept-at : (st : Reading) → Reached s st → Kept s st
+  kept-at st r = reached-progress s st r .kept
+
+  pub head-read : readSheet s .number ≡ 0 → 1 ≤ readSheet s .flight .blocks → HeadRead s (readSheet s .flight)
+  unfolding refused accepted
+  head-read z = go (readSheet s) (read-outcome s) z
+    where
+      go : (x : Sheet) → Outcome s x → x .number ≡ 0 → 1 ≤ x .flight .blocks → HeadRead s (x .flight)
+      go x (is-accepted st r c e) z = rw e (λ some. in-flight some (decLt (st .section) inFlight))
+        where
+          in-flight : 1 ≤ st .flight .blocks → Dec (st .section < inFlight) → HeadRead s (st .flight)
+          in-flight some (yes l) = absurd (omega (arith, kept-at st r .before-flight l .0))
+          in-flight some (no l) = placed s st r .head (omega arith)
+      go x (is-refused st number place r c e) z = absurd (refused-some s st _ number place c (sym (ap (λ y. y .number) e) ∙ z))
+
+  pub order-read : readSheet s .number ≡ 0 → readSheet s .flight .ordered ≡ true → OrderRead s (readSheet s .flight)
+  unfolding refused accepted
+  order-read z = go (readSheet s) (read-outcome s) z
+    where
+      go : (x : Sheet) → Outcome s x → x .number ≡ 0 → x .flight .ordered ≡ true → OrderRead s (x .flight)
+      go x (is-accepted st r c e) z = rw e (λ given. after given (decLt (st .section) inFlight) (ℕ-discrete (st .section) inFlight))
+        where
+          after : st .flight .ordered ≡ true → Dec (st .section < inFlight) → Dec (st .section ≡ inFlight) → OrderRead s (st .flight)
+          after given (yes l) d = absurd (true≢false (sym given ∙ kept-at st r .before-flight l .1))
+          after given (no l) (yes d) = absurd (true≢false (sym given ∙ kept-at st r .in-flight d .1))
+          after given (no l) (no d) = placed s st r .order (omega (arith, kept-at st r .known))
+      go x (is-refused st number place r c e) z = absurd (refused-some s st _ number place c (sym (ap (λ y. y .number) e) ∙ z))
