@@ -149,9 +149,9 @@ module _ (tag : ℕ) where
   no-row-due (q ∷ table) none = rw (ne-eqb tag (q .tag) (none q (inl refl))) (no-row-due table (λ r a. none r (inr a)))
 
 -- where a tag has one content, a field of a length that is due has the values of that content
-module _ (s : List ℕ) (c tag len : ℕ) (table : List TableRow) (content : List Item) (one : contentsOf tag table ≡ content ∷ [])
+module _ (tag len : ℕ) (table : List TableRow) (content : List Item) (one : contentsOf tag table ≡ content ∷ [])
     (due : Among len (lengthsDue tag table)) where
-  sole-length : len ≡ lengthOf content
+  pub sole-length : len ≡ lengthOf content
   unfolding lengthsDue lengthsOf Among
   sole-length = only (subst (λ contents. Among len (lengthsOf contents)) one due)
     where
@@ -159,9 +159,9 @@ module _ (s : List ℕ) (c tag len : ℕ) (table : List TableRow) (content : Lis
       only (inl e) = e
       only (inr a) = absurd a
 
-  sole-values : fieldValues s c tag len table ≡ contentValues s c content
+  sole-values : (s : List ℕ) (c : ℕ) → fieldValues s c tag len table ≡ contentValues s c content
   unfolding fieldValues ofLength
-  sole-values = ap (contentValues s c) (ap (ofLength len) one ∙ found)
+  sole-values s c = ap (contentValues s c) (ap (ofLength len) one ∙ found)
     where
       found : cond (eqb len (lengthOf content)) content [] ≡ content
       found = rw (eq-eqb len (lengthOf content) sole-length)
@@ -207,25 +207,25 @@ module _ (s : List ℕ) (c len stations desks : ℕ) where
   pub mosaic-head-values : Among len (lengthsDue mosaicHeadTag (fieldTable stations desks))
       → fieldValues s c mosaicHeadTag len (fieldTable stations desks) ≡ valuesOf mosaicHead (numberAt s c 1 ∷ numberAt s (c + 1) 2 ∷ [])
   unfolding contentValues mosaicHead numbersAt
-  mosaic-head-values due = sole-values s c mosaicHeadTag len _ mosaicHead (mosaic-head-content stations desks) due
+  mosaic-head-values due = sole-values mosaicHeadTag len _ mosaicHead (mosaic-head-content stations desks) due s c
 
   pub mosaic-strip-values : Among len (lengthsDue mosaicStripTag (fieldTable stations desks))
       → fieldValues s c mosaicStripTag len (fieldTable stations desks) ≡ contentValues s c (mosaicStrip stations)
   mosaic-strip-values due =
       let h = strip-stations len stations desks due in
-      sole-values s c mosaicStripTag len _ (mosaicStrip stations) (mosaic-strip-content stations desks (h .0) (h .1)) due
+      sole-values mosaicStripTag len _ (mosaicStrip stations) (mosaic-strip-content stations desks (h .0) (h .1)) due s c
 
   pub sorting-head-values : Among len (lengthsDue sortingHeadTag (fieldTable stations desks))
       → fieldValues s c sortingHeadTag len (fieldTable stations desks) ≡ valuesOf sortingHead (numberAt s c 1 ∷ [])
   unfolding contentValues sortingHead numbersAt
-  sorting-head-values due = sole-values s c sortingHeadTag len _ sortingHead (sorting-head-content stations desks) due
+  sorting-head-values due = sole-values sortingHeadTag len _ sortingHead (sorting-head-content stations desks) due s c
 
   pub sorting-strip-values : Among len (lengthsDue sortingStripTag (fieldTable stations desks))
       → fieldValues s c sortingStripTag len (fieldTable stations desks)
       ≡ valuesOf (sortingStrip desks) (numberAt s c 1 ∷ numberAt s (c + 1) 2 ∷ numberAt s (c + 3) 2 ∷ [])
   unfolding contentValues sortingStrip numbersAt
   sorting-strip-values due =
-      sole-values s c sortingStripTag len _ (sortingStrip desks) (sorting-strip-content stations desks) due
+      sole-values sortingStripTag len _ (sortingStrip desks) (sorting-strip-content stations desks) due s c
       ∙ ap (λ at. valuesOf (sortingStrip desks) (numberAt s c 1 ∷ numberAt s (c + 1) 2 ∷ numberAt s at 2 ∷ [])) (omega arith)
 
   -- an empty head has no value, one with a turn has that
@@ -246,10 +246,10 @@ module _ (s : List ℕ) (c len stations desks : ℕ) where
       ≡ valuesOf flightBlock (numberAt s c 2 ∷ numberAt s (c + 2) 2 ∷ numberAt s (c + 4) 2 ∷ [])
   unfolding contentValues flightBlock numbersAt
   flight-block-values due =
-      sole-values s c flightBlockTag len _ flightBlock (flight-block-content stations desks) due
+      sole-values flightBlockTag len _ flightBlock (flight-block-content stations desks) due s c
       ∙ ap (λ at. valuesOf flightBlock (numberAt s c 2 ∷ numberAt s (c + 2) 2 ∷ numberAt s at 2 ∷ [])) (omega arith)
 
   pub flight-order-values : Among len (lengthsDue flightOrderTag (fieldTable stations desks))
       → fieldValues s c flightOrderTag len (fieldTable stations desks) ≡ valuesOf flightOrder (numberAt s c 8 ∷ [])
   unfolding contentValues flightOrder numbersAt
-  flight-order-values due = sole-values s c flightOrderTag len _ flightOrder (flight-order-content stations desks) due
+  flight-order-values due = sole-values flightOrderTag len _ flightOrder (flight-order-content stations desks) due s c

@@ -27,3 +27,5 @@ pub mod Invariant
 pub mod Progress
 pub mod Computes
 pub mod FlightPlaces
+pub mod SameContent
+pub mod WrittenZero

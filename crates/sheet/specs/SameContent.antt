@@ -1,0 +1,318 @@
+-- Two fields of the same tag and the same content, in two sheets or at two offsets, are checked and decoded alike: no check and no value looks beyond the content.
+-- The idea: a field whose length is due has its values within it; one whose length is not due is refused for that before they are looked at.
+use Prim.Native.Nat.{ℕ, zero, suc, _+_, _-_, _*_, _≤_, _<_}
+use mathlib.Core.Path.{_≡_, refl, sym, ap, ap₂, subst, _∙_}
+use mathlib.Core.Bool.{Bool, true, false, cond}
+use mathlib.Core.List.{List, [], _∷_}
+use mathlib.Core.Logic.{inl, inr}
+use native.Mathlib.Decide.{ℕ-discrete}
+use native.Mathlib.Omega.{arith}
+use lib.Dec.{eqb}
+use lib.ListN.{getD, set}
+use borrow.Author.Tests.{ne-eqb, eqb-true}
+use Rattle.base.specs.Branch.{check}
+use Rattle.field.specs.Bytes.{numberAt}
+use Rattle.sheet.specs.Tags.{mosaicHeadTag, mosaicStripTag, sortingHeadTag, sortingStripTag, flightHeadTag, flightBlockTag, flightOrderTag}
+use Rattle.sheet.specs.Refusals.{tagNotPermitted, lengthWrong, tooMany, noMembers, orderNotProper, orderMissing}
+use Rattle.sheet.specs.Sections.{stripsOfDesk}
+use Rattle.sheet.specs.Among.{Among, isAmong, true-among}
+use Rattle.sheet.specs.FieldTable.{Item, TableRow, mosaicHead, mosaicStrip, sortingHead, sortingStrip, emptyFlightHead, turnFlightHead}
+use Rattle.sheet.specs.FieldTable.{flightBlock, flightOrder, fieldTable, tableOf, lengthsOf}
+use Rattle.sheet.specs.FieldTable.{lengthOf, contentsOf, lengthsDue, ofLength, Value, numbersAt, valuesOf, contentValues, fieldValues}
+use Rattle.sheet.specs.Contents.{mosaic-head-content, mosaic-strip-content, sorting-head-content, sorting-strip-content, flight-block-content}
+use Rattle.sheet.specs.Contents.{flight-order-content, flight-head-contents, sole-length, strip-length, strip-stations}
+use Rattle.sheet.specs.Rows.{firstFailure}
+use Rattle.sheet.specs.Checks.{sectionFilled, orderGiven, permitted, rangeNumber, hasRoom, orderProper}
+use Rattle.sheet.specs.Decode.{withMosaicHead, withStationTimes, withMosaicStrip, withSortingHead, withStripAt, withSortingStrip, turnOf, withFlightHead}
+use Rattle.sheet.specs.Decode.{withBlock, withOrder, nextMosaic, nextSorting, nextFlight, nextSection, nextMembers, nextReading}
+use Rattle.sheet.specs.Read.{contentChecks, fieldChecks, fieldNumber}
+use Rattle.sheet.specs.declared.MosaicSection.{MosaicSection}
+use Rattle.sheet.specs.declared.SortingSection.{SortingSection}
+use Rattle.sheet.specs.declared.FlightSection.{FlightSection}
+use Rattle.sheet.specs.declared.Reading.{Reading}
+
+-- a flight section with another place for 11, and that place after a field: a head and an order field set it
+abbrev pub placedAt : ℕ → FlightSection → FlightSection
+placedAt place f =
+    record { blocks = f .blocks; turn = f .turn; first = f .first; delay = f .delay; second = f .second; ordered = f .ordered; order = f .order; place = place }
+
+unfoldable pub placeAfter : ℕ → ℕ → ℕ → ℕ
+placeAfter tag at place = cond (eqb tag flightHeadTag) at (cond (eqb tag flightOrderTag) at place)
+
+-- the bytes of s from c on and those of t from d on are the same, so many of them
+pub record SameBytes (s : List ℕ) (c : ℕ) (t : List ℕ) (d len : ℕ) : Type 0 where
+  pub same : (j : ℕ) → j < len → getD s (c + j) 0 ≡ getD t (d + j) 0
+
+module _ {s : List ℕ} {c : ℕ} {t : List ℕ} {d len : ℕ} (b : SameBytes s c t d len) where
+  -- then so are the numbers in them ..
+  number-from : (width j : ℕ) → j + width ≤ len → numberAt s (c + j) width ≡ numberAt t (d + j) width
+  unfolding numberAt
+  number-from zero j l = refl
+  number-from (suc width) j l =
+      ap₂ (λ (x y : ℕ). x + 256 * y) (b .same j (omega arith)) (ap (λ at. numberAt s at width) here ∙ number-from width (j + 1) (omega arith) ∙ ap (λ at. numberAt t at width) there)
+    where
+      here : c + j + 1 ≡ c + (j + 1)
+      here = omega arith
+
+      there : d + (j + 1) ≡ d + j + 1
+      there = omega arith
+
+  pub same-number : (width j : ℕ) → j + width ≤ len → numberAt s (c + j) width ≡ numberAt t (d + j) width
+  same-number = number-from
+
+  pub first-number : (width : ℕ) → width ≤ len → numberAt s c width ≡ numberAt t d width
+  first-number width l =
+      ap (λ at. numberAt s at width) here ∙ number-from width 0 (omega arith) ∙ ap (λ at. numberAt t at width) there
+    where
+      here : c ≡ c + 0
+      here = omega arith
+
+      there : d + 0 ≡ d
+      there = omega arith
+
+  -- .. and the values of a content that lies in them.
+  same-numbers : (content : List Item) (j : ℕ) → j + lengthOf content ≤ len → numbersAt s (c + j) content ≡ numbersAt t (d + j) content
+  unfolding numbersAt lengthOf
+  same-numbers [] j l = refl
+  same-numbers (i ∷ content) j l =
+      ap₂ (λ (x : ℕ) (xs : List ℕ). x ∷ xs) (number-from (i .width) j (omega arith))
+      (ap (λ at. numbersAt s at content) here ∙ same-numbers content (j + i .width) (omega arith) ∙ ap (λ at. numbersAt t at content) there)
+    where
+      here : c + j + i .width ≡ c + (j + i .width)
+      here = omega arith
+
+      there : d + (j + i .width) ≡ d + j + i .width
+      there = omega arith
+
+  content-same : (content : List Item) → lengthOf content ≤ len → contentValues s c content ≡ contentValues t d content
+  unfolding contentValues
+  content-same content l =
+      ap (valuesOf content)
+      (ap (λ at. numbersAt s at content) here ∙ same-numbers content 0 (omega arith) ∙ ap (λ at. numbersAt t at content) there)
+    where
+      here : c ≡ c + 0
+      here = omega arith
+
+      there : d + 0 ≡ d
+      there = omega arith
+
+  -- A content of the field's length is no longer than the field.
+  of-length-most : (contents : List (List Item)) → lengthOf (ofLength len contents) ≤ len
+  unfolding ofLength lengthOf
+  of-length-most [] = omega arith
+  of-length-most (content ∷ contents) = go (eqb len (lengthOf content)) refl (of-length-most contents)
+    where
+      go : (q : Bool) → eqb len (lengthOf content) ≡ q → lengthOf (ofLength len contents) ≤ len
+          → lengthOf (cond q content (ofLength len contents)) ≤ len
+      go true e l = omega (arith, eqb-true len (lengthOf content) e)
+      go false e l = l
+
+  pub same-values : (tag : ℕ) (table : List TableRow) → fieldValues s c tag len table ≡ fieldValues t d tag len table
+  unfolding fieldValues
+  same-values tag table = content-same (ofLength len (contentsOf tag table)) (of-length-most (contentsOf tag table))
+
+  -- The numbers that a field is checked for beside its values: the desk of a desk's strip and the order.
+  module _ (tag stations desks : ℕ) (due : Among len (lengthsDue tag (fieldTable stations desks))) where
+    due-at : (x : ℕ) → tag ≡ x → Among len (lengthsDue x (fieldTable stations desks))
+    due-at x e = subst (λ y. Among len (lengthsDue y (fieldTable stations desks))) e due
+
+    strip-of-desk : tag ≡ sortingStripTag → len ≡ 5
+    unfolding sortingStrip lengthOf
+    strip-of-desk e = sole-length sortingStripTag len _ (sortingStrip desks) (sorting-strip-content stations desks) (due-at sortingStripTag e)
+
+    order-field : tag ≡ flightOrderTag → len ≡ 8
+    unfolding flightOrder lengthOf
+    order-field e = sole-length flightOrderTag len _ flightOrder (flight-order-content stations desks) (due-at flightOrderTag e)
+
+    same-room : (members : ℕ) (counts : List ℕ)
+        → hasRoom tag members (stripsOfDesk counts (numberAt s c 1)) ≡ hasRoom tag members (stripsOfDesk counts (numberAt t d 1))
+    unfolding hasRoom
+    same-room members counts = go (ℕ-discrete tag sortingStripTag)
+      where
+        go : Dec (tag ≡ sortingStripTag)
+            → hasRoom tag members (stripsOfDesk counts (numberAt s c 1)) ≡ hasRoom tag members (stripsOfDesk counts (numberAt t d 1))
+        go (yes e) = ap (λ n. hasRoom tag members (stripsOfDesk counts n)) (first-number 1 (omega (arith, strip-of-desk e)))
+        go (no e) = rw (ne-eqb tag sortingStripTag e)
+
+    same-proper : (members : ℕ) → orderProper tag members (numberAt s c 8) ≡ orderProper tag members (numberAt t d 8)
+    unfolding orderProper
+    same-proper members = go (ℕ-discrete tag flightOrderTag)
+      where
+        go : Dec (tag ≡ flightOrderTag) → orderProper tag members (numberAt s c 8) ≡ orderProper tag members (numberAt t d 8)
+        go (yes e) = ap (orderProper tag members) (first-number 8 (omega (arith, order-field e)))
+        go (no e) = rw (ne-eqb tag flightOrderTag e)
+
+    -- What the field adds to each section.
+    same-times : (base k : ℕ) (times : List ℕ) → 2 * k ≤ len → withStationTimes s c base k times ≡ withStationTimes t d base k times
+    unfolding withStationTimes
+    same-times base zero times l = refl
+    same-times base (suc k) times l =
+        ap₂ (λ (xs : List ℕ) (x : ℕ). set xs (base + k) x) (same-times base k times (omega arith)) (same-number 2 (2 * k) (omega arith))
+
+    same-mosaic-head : tag ≡ mosaicHeadTag → withMosaicHead s c ≡ withMosaicHead t d
+    unfolding mosaicHead lengthOf withMosaicHead
+    same-mosaic-head e =
+        let l : len ≡ 3 = sole-length mosaicHeadTag len _ mosaicHead (mosaic-head-content stations desks) (due-at mosaicHeadTag e) in
+        rw (first-number 1 (omega arith), same-number 2 1 (omega arith))
+
+    same-mosaic-strip : (m : MosaicSection) → m .stations ≡ stations → tag ≡ mosaicStripTag → withMosaicStrip s c m ≡ withMosaicStrip t d m
+    unfolding withMosaicStrip
+    same-mosaic-strip m st e =
+        let h = strip-stations len stations desks (due-at mosaicStripTag e) in
+        let l : len ≡ lengthOf (mosaicStrip stations) =
+            sole-length mosaicStripTag len _ (mosaicStrip stations) (mosaic-strip-content stations desks (h .0) (h .1)) (due-at mosaicStripTag e) in
+        let k : len ≡ 2 * stations + 2 = l ∙ strip-length stations in
+        rw (same-times (4 * m .strips) (m .stations) (m .station) (omega arith), same-number 2 (2 * m .stations) (omega arith))
+
+    pub same-mosaic : (m : MosaicSection) → m .stations ≡ stations → nextMosaic s c tag m ≡ nextMosaic t d tag m
+    unfolding nextMosaic
+    same-mosaic m st = go (ℕ-discrete tag mosaicHeadTag) (ℕ-discrete tag mosaicStripTag)
+      where
+        go : Dec (tag ≡ mosaicHeadTag) → Dec (tag ≡ mosaicStripTag) → nextMosaic s c tag m ≡ nextMosaic t d tag m
+        go (yes e) q = rw e (same-mosaic-head e)
+        go (no e) (yes q) = rw q (same-mosaic-strip m st q)
+        go (no e) (no q) = rw (ne-eqb tag mosaicHeadTag e, ne-eqb tag mosaicStripTag q)
+
+    same-sorting-head : tag ≡ sortingHeadTag → withSortingHead s c ≡ withSortingHead t d
+    unfolding sortingHead lengthOf withSortingHead
+    same-sorting-head e =
+        let l : len ≡ 1 = sole-length sortingHeadTag len _ sortingHead (sorting-head-content stations desks) (due-at sortingHeadTag e) in
+        rw (first-number 1 (omega arith))
+
+    same-sorting-strip : (u : SortingSection) → tag ≡ sortingStripTag → withSortingStrip s c u ≡ withSortingStrip t d u
+    unfolding withSortingStrip withStripAt
+    same-sorting-strip u e =
+        let l : len ≡ 5 = strip-of-desk e in
+        rw (first-number 1 (omega arith), same-number 2 1 (omega arith), same-number 2 3 (omega arith))
+
+    pub same-sorting : (u : SortingSection) → nextSorting s c tag u ≡ nextSorting t d tag u
+    unfolding nextSorting
+    same-sorting u = go (ℕ-discrete tag sortingHeadTag) (ℕ-discrete tag sortingStripTag)
+      where
+        go : Dec (tag ≡ sortingHeadTag) → Dec (tag ≡ sortingStripTag) → nextSorting s c tag u ≡ nextSorting t d tag u
+        go (yes e) q = rw e (same-sorting-head e)
+        go (no e) (yes q) = rw q (same-sorting-strip u q)
+        go (no e) (no q) = rw (ne-eqb tag sortingHeadTag e, ne-eqb tag sortingStripTag q)
+
+    -- a flight head is empty or has two bytes
+    same-turn : tag ≡ flightHeadTag → turnOf s c len ≡ turnOf t d len
+    unfolding turnOf lengthsDue lengthsOf lengthOf emptyFlightHead turnFlightHead Among
+    same-turn e = go (rw (flight-head-contents stations desks) at (due-at flightHeadTag e))
+      where
+        go : Among len (0 ∷ 2 ∷ []) → turnOf s c len ≡ turnOf t d len
+        go (inl q) = rw q
+        go (inr (inl q)) = ap (cond (eqb len 0) 0) (first-number 2 (omega arith))
+        go (inr (inr a)) = absurd a
+
+    block-length : tag ≡ flightBlockTag → len ≡ 6
+    unfolding flightBlock lengthOf
+    block-length e = sole-length flightBlockTag len _ flightBlock (flight-block-content stations desks) (due-at flightBlockTag e)
+
+    same-block : (f : FlightSection) (place : ℕ) → tag ≡ flightBlockTag → withBlock t d (placedAt place f) ≡ placedAt place (withBlock s c f)
+    unfolding withBlock
+    same-block f place e =
+        let l : len ≡ 6 = block-length e in
+        rw (first-number 2 (omega arith), same-number 2 2 (omega arith), same-number 2 4 (omega arith))
+
+    same-order : (f : FlightSection) (place at there : ℕ) → tag ≡ flightOrderTag
+        → withOrder t d there (placedAt place f) ≡ placedAt there (withOrder s c at f)
+    unfolding withOrder
+    same-order f place at there e =
+        let l : len ≡ 8 = order-field e in
+        rw (first-number 8 (omega arith))
+
+    same-head : (at there : ℕ) → tag ≡ flightHeadTag → withFlightHead t d len there ≡ placedAt there (withFlightHead s c len at)
+    unfolding withFlightHead
+    same-head at there e = rw (same-turn e)
+
+    pub same-flight : (f : FlightSection) (place at there : ℕ)
+        → nextFlight t d tag len there (placedAt place f) ≡ placedAt (placeAfter tag there place) (nextFlight s c tag len at f)
+    unfolding nextFlight placeAfter
+    same-flight f place at there = go (ℕ-discrete tag flightHeadTag) (ℕ-discrete tag flightBlockTag) (ℕ-discrete tag flightOrderTag)
+      where
+        go : Dec (tag ≡ flightHeadTag) → Dec (tag ≡ flightBlockTag) → Dec (tag ≡ flightOrderTag)
+            → nextFlight t d tag len there (placedAt place f) ≡ placedAt (placeAfter tag there place) (nextFlight s c tag len at f)
+        go (yes e) q o = rw e (same-head at there e)
+        go (no e) (yes q) o = rw q (same-block f place q)
+        go (no e) (no q) (yes o) = rw o (same-order f place at there o)
+        go (no e) (no q) (no o) = rw (ne-eqb tag flightHeadTag e, ne-eqb tag flightBlockTag q, ne-eqb tag flightOrderTag o)
+
+-- the place of 11 after a field
+pub place-after : (s : List ℕ) (c tag len at : ℕ) (f : FlightSection) → nextFlight s c tag len at f .place ≡ placeAfter tag at (f .place)
+unfolding nextFlight placeAfter withFlightHead withBlock withOrder
+place-after s c tag len at f = go (ℕ-discrete tag flightHeadTag) (ℕ-discrete tag flightBlockTag) (ℕ-discrete tag flightOrderTag)
+  where
+    go : Dec (tag ≡ flightHeadTag) → Dec (tag ≡ flightBlockTag) → Dec (tag ≡ flightOrderTag)
+        → nextFlight s c tag len at f .place ≡ placeAfter tag at (f .place)
+    go (yes e) q o = rw e
+    go (no e) (yes q) o = rw q
+    go (no e) (no q) (yes o) = rw o
+    go (no e) (no q) (no o) = rw (ne-eqb tag flightHeadTag e, ne-eqb tag flightBlockTag q, ne-eqb tag flightOrderTag o)
+
+-- Two readings that are alike but for places: what they have read is the same.
+pub record Alike (st other : Reading) : Type 0 where
+  pub section : other .section ≡ st .section
+  pub members : other .members ≡ st .members
+  pub mosaic : other .mosaic ≡ st .mosaic
+  pub sorting : other .sorting ≡ st .sorting
+  pub flight : other .flight ≡ placedAt (other .flight .place) (st .flight)
+
+-- a wrong length decides, whatever is checked behind it
+length-decides : (x y z : ℕ) (a b : List ℕ) → firstFailure (x ∷ y ∷ z ∷ lengthWrong ∷ a) ≡ firstFailure (x ∷ y ∷ z ∷ lengthWrong ∷ b)
+unfolding firstFailure
+length-decides (suc x) y z a b = refl
+length-decides zero (suc y) z a b = refl
+length-decides zero zero (suc z) a b = refl
+length-decides zero zero zero a b = refl
+
+module _ {s : List ℕ} {st : Reading} {t : List ℕ} {other : Reading} {len : ℕ} (alike : Alike st other)
+    (b : SameBytes s (st .at + 3) t (other .at + 3) len) (tag : ℕ) where
+  -- They refuse a field of the same content with the same number ..
+  pub same-field : fieldNumber s st tag len ≡ fieldNumber t other tag len
+  unfolding fieldNumber fieldChecks contentChecks check
+  same-field = rw (alike .section, alike .members, alike .mosaic, alike .sorting) (go (isAmong len (lengthsDue tag (tableOf st))) refl)
+    where
+      go : (q : Bool) → isAmong len (lengthsDue tag (tableOf st)) ≡ q
+          → firstFailure
+          (check (sectionFilled tag (st .section) (st .members)) noMembers 0
+          ∷ check (orderGiven tag (st .section) (st .members)) orderMissing 0
+          ∷ check (permitted tag (st .section) (st .members)) tagNotPermitted 0
+          ∷ check q lengthWrong 0
+          ∷ rangeNumber (fieldValues s (st .at + 3) tag len (tableOf st))
+          ∷ check (hasRoom tag (st .members) (stripsOfDesk (st .sorting .counts) (numberAt s (st .at + 3) 1))) tooMany 0
+          ∷ check (orderProper tag (st .members) (numberAt s (st .at + 3) 8)) orderNotProper 0
+          ∷ [])
+          ≡ firstFailure
+          (check (sectionFilled tag (st .section) (st .members)) noMembers 0
+          ∷ check (orderGiven tag (st .section) (st .members)) orderMissing 0
+          ∷ check (permitted tag (st .section) (st .members)) tagNotPermitted 0
+          ∷ check q lengthWrong 0
+          ∷ rangeNumber (fieldValues t (other .at + 3) tag len (tableOf st))
+          ∷ check (hasRoom tag (st .members) (stripsOfDesk (st .sorting .counts) (numberAt t (other .at + 3) 1))) tooMany 0
+          ∷ check (orderProper tag (st .members) (numberAt t (other .at + 3) 8)) orderNotProper 0
+          ∷ [])
+      go true e =
+          let due = true-among len _ e in
+          rw (
+            same-values b tag (tableOf st),
+            same-room b tag (st .mosaic .stations) (st .sorting .desks) due (st .members) (st .sorting .counts),
+            same-proper b tag (st .mosaic .stations) (st .sorting .desks) due (st .members),
+          )
+      go false e = length-decides _ _ _ _ _
+
+  -- .. and are alike behind it where it passes.
+  pub alike-behind : Among len (lengthsDue tag (tableOf st)) → Alike (nextReading s st tag len) (nextReading t other tag len)
+  unfolding nextReading
+  alike-behind due = record {
+    section = ap (nextSection tag) (alike .section);
+    members = ap (nextMembers tag) (alike .members);
+    mosaic = ap (nextMosaic t (other .at + 3) tag) (alike .mosaic) ∙ sym (same-mosaic b tag _ _ due (st .mosaic) refl);
+    sorting = ap (nextSorting t (other .at + 3) tag) (alike .sorting) ∙ sym (same-sorting b tag _ _ due (st .sorting));
+    flight = flight ∙ ap (λ x. placedAt x (nextFlight s (st .at + 3) tag len (st .at) (st .flight))) (sym (place-after t _ tag len _ (other .flight)));
+  }
+    where
+      flight : nextFlight t (other .at + 3) tag len (other .at) (other .flight)
+          ≡ placedAt (placeAfter tag (other .at) (other .flight .place)) (nextFlight s (st .at + 3) tag len (st .at) (st .flight))
+      flight =
+          ap (nextFlight t (other .at + 3) tag len (other .at)) (alike .flight)
+          ∙ same-flight b tag _ _ due (st .flight) (other .flight .place) (st .at) (other .at)
