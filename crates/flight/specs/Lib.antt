@@ -5,3 +5,4 @@ pub mod Contracts
 pub mod Chosen
 pub mod Theorems
 pub mod Determined
+pub mod Placed

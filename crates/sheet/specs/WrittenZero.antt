@@ -61,11 +61,11 @@ pub record SameButPlaces (n : ℕ) (x y : Sheet) : Type 0 where
   pub flight : y .flight ≡ placedAt (movedPlace n (x .flight .place)) (x .flight)
 
 module _ (n place : ℕ) where
-  stays : place ≤ n → movedPlace n place ≡ place
+  pub stays : place ≤ n → movedPlace n place ≡ place
   unfolding movedPlace
   stays l = rw (le-leb place n l)
 
-  moves : n < place → movedPlace n place ≡ place + 2
+  pub moves : n < place → movedPlace n place ≡ place + 2
   unfolding movedPlace
   moves l = rw (lt-leb place n l)
 
