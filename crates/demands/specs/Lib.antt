@@ -6,30 +6,38 @@
 -- lent slice are, it says so (`AreBytes`).
 use Prim.Native.Nat.{ℕ, _+_, _*_, _≤_, _<_}
 use mathlib.Core.Path.{_≡_, refl, sym, ap, ap₂, subst, _∙_}
-use mathlib.Core.Bool.{true}
-use mathlib.Core.List.{List, _++_}
+use mathlib.Core.Bool.{true, false, true≢false}
+use mathlib.Core.List.{List, [], _∷_, _++_}
+use mathlib.Core.Logic.{inl, inr}
 use lib.ListN.{length, drop}
 use native.Mathlib.Omega.{arith}
-use Rattle.sheet.specs.Limits.{ceiling, mostStations, tableLength, planLength, pageLength}
+use Rattle.field.specs.Bytes.{numberAt}
+use Rattle.field.specs.Field.{fieldAt}
+use Rattle.field.specs.declared.Field.the-variants.{Whole}
+use Rattle.sheet.specs.Limits.{ceiling, mostStations, mostTurn, tableLength, planLength, pageLength}
 use Rattle.sheet.specs.Tags.{mosaicHeadTag, mosaicStripTag, sortingHeadTag, sortingStripTag, flightHeadTag, flightBlockTag, flightOrderTag}
-use Rattle.sheet.specs.Refusals.{outOfRange, orderImpossible, bufferTooSmall, layoutWrong, figureUntrue, timeTooLarge, timeOfZero}
+use Rattle.sheet.specs.Refusals.{outOfRange, orderImpossible, bufferTooSmall, layoutWrong, ruleBroken, figureUntrue, timeTooLarge, timeOfZero}
 use Rattle.sheet.specs.Read.{readSheet}
 use Rattle.sheet.specs.Theorems.{read-sound}
 use Rattle.sheet.specs.Among.{Among}
-use Rattle.sheet.specs.FieldTable.{TableRow, fieldTable, lengthOf, Value}
-use Rattle.sheet.specs.Causes.{CountOutOfRange, TimeTooLarge, TimeOfZero}
-use Rattle.sheet.specs.Table.{RefusedFor, RefusedForValue}
+use Rattle.sheet.specs.FieldTable.{Item, TableRow, fieldTable, tableOf, lengthOf, contentsOf, lengthsDue, turnFlightHead, Value, valuesOf}
+use Rattle.sheet.specs.Contents.{RowOfLength, two-bytes-due, flight-head-values}
+use Rattle.sheet.specs.Causes.{NoMembers, OrderMissing, Permitted, FirstOut, CountOutOfRange, TimeTooLarge, TimeOfZero}
+use Rattle.sheet.specs.Table.{Reached, RefusedFor, RefusedForValue}
 use Rattle.sheet.specs.Refused.{sound-exactly}
 use Rattle.sheet.specs.Values.{count-exactly, too-large-exactly, zero-exactly}
 use Rattle.sheet.specs.Decode.{zeros}
 use Rattle.sheet.specs.Stores.{length-zeros}
 use Rattle.sheet.specs.Sound.{SheetSound}
+use Rattle.sheet.specs.FlightPlaces.{FieldRead, HeadRead, OrderRead, head-read, order-read}
+use Rattle.sheet.specs.WrittenZero.{emptyTurn, writtenZero, movedPlace, written-zero}
+use Rattle.sheet.specs.declared.Reading.{Reading}
 use Rattle.sheet.specs.declared.FlightSection.{FlightSection}
 use Rattle.sheet.specs.declared.Sheet.{Sheet}
-use Rattle.sheet_lengths.specs.Lengths.{GivesLength}
-use Rattle.sheet_lengths.specs.Theorems.{row-length, strip-length-due, no-length, other-tag-none, other-count-none}
+use Rattle.sheet_lengths.specs.Lengths.{lengthsGiven, GivesLength}
+use Rattle.sheet_lengths.specs.Theorems.{row-length, length-row, sole-length-due, head-lengths-due, strip-length-due, no-length, other-tag-none, other-count-none}
 use Rattle.sheet_lengths.specs.declared.LengthDue.{LengthDue}
-use Rattle.sheet_lengths.specs.declared.LengthDue.the-variants.{Bytes, None}
+use Rattle.sheet_lengths.specs.declared.LengthDue.the-variants.{Bytes, Either, None}
 use Rattle.order.specs.Order.{Proper}
 use Rattle.base.specs.Answer.{answer, written}
 use Rattle.base.specs.declared.Answer.{Answer}
@@ -37,27 +45,37 @@ use Rattle.base.specs.LeastFigure.{NoLarger, LeastFigure, same-least}
 use Rattle.rules.specs.Mosaic.{batchAt, MosaicUnder, MosaicLawful, mosaicFigure}
 use Rattle.rules.specs.Sorting.{jobAt, SortingUnder, SortingLawful, sortingFigure}
 use Rattle.rules.specs.ScannerList.{scannerList, SameOrAfter, SortingTaken}
-use Rattle.rules.specs.Flight.{passesAt, FlightUnder, FlightLawful, Keeps, OrderAllowed, flightFigure}
+use Rattle.rules.specs.Flight.{passesAt, clearAt, FlightUnder, FlightLawful, Keeps, OrderAllowed, flightFigure}
 use Rattle.rules.specs.declared.Batch.{Batch}
 use Rattle.rules.specs.declared.Job.{Job}
 use Rattle.rules.specs.declared.Passes.{Passes}
 use Rattle.rules.specs.Plan.{Plan, mosaicFields, sortingFields, flightFields, planBytes, PlanUnder, AllowedFor}
+use Rattle.plan_format.specs.Format.{sizeOf, flightHeadForm}
 use Rattle.plan_format.specs.ByteLaws.{AreBytes}
+use Rattle.plan_read.specs.PlanRead.{orderFrom, blocksFrom}
+use Rattle.rules_laws.specs.Turns.{AllApart, NextApart, neighbours-apart, neighbours-enough}
 use Rattle.rules_laws.specs.Determined.{plan-most, plan-determined}
-use Rattle.judge.specs.Judged.{turnedBack, found, judged}
+use Rattle.judge.specs.Judged.{partAt, turnedBack, found, judged}
+use Rattle.judge_members.specs.Members.{present}
+use Rattle.judge_members.specs.declared.Progress.{Progress}
+use Rattle.judge_laws.specs.Due.{LaidOut}
 use Rattle.judge.specs.declared.Judged.{Judged}
-use Rattle.judge_laws.specs.Fault.{Fault}
+use Rattle.judge_laws.specs.Fault.{HeadFollows, SectionFault, Fault}
+use Rattle.judge_laws.specs.Fault.{Reached as Judging}
+use Rattle.judge_laws.specs.Placed.{same-judged, same-refused}
 use Rattle.judge_laws.specs.Theorems.{FiguresTrue, FiguresGiven, judge-allows, allowed-judged, allowed-found, allowed-stated, judged-figures, figures-given}
 use Rattle.judge_laws.specs.Theorems.{fault-judged, judged-fault, judged-sheet-only}
 use Rattle.mosaic.specs.Plan.{lasts}
 use Rattle.mosaic.specs.Theorems.{mosaic-ceiling}
 use Rattle.sorting.specs.Theorems.{sorting-ceiling}
+use Rattle.flight.specs.Chosen.{ShortDelay}
 use Rattle.flight.specs.Theorems.{flight-ceiling}
 use Rattle.planner.specs.Call.{chosenPlan, clearedTo, tableAfter, Called}
 use Rattle.planner.specs.Outcomes.{Large, Accepted, call-accepted, call-refused, call-small, call-cleared, ourBytes}
 use Rattle.planner.specs.TurnedBack.{TurnedBack, turned-back, turned-back-only, eleven-only, sheet-only, else-accepted}
 use Rattle.planner.specs.Theorems.{figureOfMosaic, figureOfSorting, figureOfFlight, Least, Impossible, plan-lawful, plan-least-mosaic, plan-least-sorting}
-use Rattle.planner.specs.Theorems.{plan-least-flight, plan-early-mosaic, plan-early-sorting, plan-early-flight, plan-earliest, plan-taken, taken-determined}
+use Rattle.planner.specs.Placed.{movedAnswer, same-answer, same-buffer, same-table}
+use Rattle.planner.specs.Theorems.{free-impossible-exactly, plan-least-flight, plan-early-mosaic, plan-early-sorting, plan-early-flight, plan-earliest, plan-taken, taken-determined}
 use Rattle.viewer.specs.Viewed.{Viewed}
 use Rattle.page.specs.Page.{pageLines, pageBytes}
 use Rattle.page.specs.Call.{pageOf, Paged}
@@ -266,11 +284,11 @@ module _ (sheet plan table planAfter tableEnd : List ℕ) (r : Answer) (call : C
 
 -- "and 11 is given exactly when the sheet is otherwise sound and no timetable keeps the order."
 module _ (sheet plan table planAfter tableEnd : List ℕ) (r : Answer) (call : Called sheet plan table planAfter tableEnd r) where
-  -- Only where an order is given, and no passes are a timetable that keeps that order (`Impossible`) ..
+  -- Only where an order is given and no passes are a timetable that keeps it or, since Req 06, none is given and none keep a proper one (`Impossible`) ..
   pub eleven-only-then : r .number ≡ orderImpossible → Large plan table × (readSheet sheet .number ≡ 0) × Impossible (readSheet sheet)
   eleven-only-then = eleven-only sheet plan table planAfter tableEnd r call
 
-  -- .. and then always, at the order field, with buffers large enough.
+  -- .. and then always, with buffers large enough, at the one place that the reading fixes: the order field's or, without one, the flight head's (Req 06).
   pub eleven-always-then : Large plan table → readSheet sheet .number ≡ 0 → Impossible (readSheet sheet)
       → r ≡ answer orderImpossible (readSheet sheet .flight .place) 0
   eleven-always-then large sound none =
@@ -353,11 +371,16 @@ module _ (sheet : List ℕ) (sound : readSheet sheet .number ≡ 0) where
           }
 
   -- .. and an order that no timetable keeps within the ceiling is kept by none without it: 11 is never given because of the ceiling.
-  pub impossible-at-all : Impossible (readSheet sheet) → (c : ℕ) (ps : List Passes) → FlightUnder c (readSheet sheet .flight) ps
-      → Keeps (readSheet sheet .flight) (readSheet sheet .flight .order) ps → ⊥
-  impossible-at-all none c ps law kept =
-      let w = ceiling-enough-flight c (readSheet sheet .flight .order) ps law kept (whole .flight .given (none .given)) in
-      none .none (w .timetable) (w .obeys .0) (w .obeys .1)
+  pub impossible-at-all : Impossible (readSheet sheet) → (c w : ℕ) (ps : List Passes) → OrderAllowed (readSheet sheet .flight) w
+      → FlightUnder c (readSheet sheet .flight) ps → Keeps (readSheet sheet .flight) w ps → ⊥
+  impossible-at-all none c w ps allowed law kept =
+      let q = ceiling-enough-flight c w ps law kept (allowed .proper) in
+      possible none (q .timetable) (q .obeys .0) (q .obeys .1)
+    where
+      possible : Impossible (readSheet sheet) → (qs : List Passes) → FlightLawful (readSheet sheet .flight) qs → Keeps (readSheet sheet .flight) w qs → ⊥
+      possible (Impossible.order-given o none-keeps) qs lawful keeps =
+          none-keeps qs lawful (subst (λ (v : ℕ). Keeps (readSheet sheet .flight) v qs) (allowed .as-given o) keeps)
+      possible (Impossible.no-order-given o none-keeps) qs lawful keeps = none-keeps w qs (allowed .proper) lawful keeps
 
 -- REQ 02. A page call: the sheet, the plan and the page buffer at entry, the page buffer at exit, and the answer. Page.antt of crate page says what the page of a
 -- timetable is, line by line, and Line.antt of crate page_lines what a line is, column by column. `written r pageAfter` is what the call has written: the first
@@ -572,9 +595,19 @@ module _ (sheet plan page pageAfter : List ℕ) (r : Answer) (call : Paged sheet
 -- `sheet_lengths::length_due`. The field table is `fieldTable` (sheet, FieldTable.antt), a list of rows; `lengthOf` a row's content is the sum of its widths.
 -- A call of `length_due`: a tag, the number of stations in the head of the mosaic, and the answer; `GivesLength` is its contract (sheet_lengths, Lengths.antt).
 module _ (tag stations : ℕ) (due : LengthDue) (call : GivesLength tag stations due) where
-  -- "Show that the cases give the field table's length for each tag in it"
-  pub length-by-list : (desks : ℕ) (r : TableRow) → Among r (fieldTable stations desks) → tag ≡ r .tag → due ≡ Bytes (lengthOf (r .content))
+  -- "Show that the cases give the field table's length for each tag in it": the length of each row of the tag is among those that the answer means (`lengthsGiven`),
+  -- and each of those is a row's. A tag of one row has its length; that of the flight head has two rows since Req 06.
+  pub length-by-list : (desks : ℕ) (r : TableRow) → Among r (fieldTable stations desks) → tag ≡ r .tag → Among (lengthOf (r .content)) (lengthsGiven due)
   length-by-list desks r a e = row-length tag stations due call desks r a (omega arith)
+
+  pub no-other-length : (desks n : ℕ) → Among n (lengthsGiven due) → RowOfLength tag n (fieldTable stations desks)
+  no-other-length desks n a = length-row tag stations due call desks n a
+
+  pub length-of-one-row : (desks : ℕ) (content : List Item) → contentsOf tag (fieldTable stations desks) ≡ content ∷ [] → due ≡ Bytes (lengthOf content)
+  length-of-one-row desks content one = sole-length-due tag stations due call desks content one
+
+  pub lengths-of-a-flight-head : tag ≡ flightHeadTag → due ≡ Either 0 2
+  lengths-of-a-flight-head e = head-lengths-due tag stations due call e
 
   -- for 11 this is, with 1 to 4 stations, two bytes for each of them and two for the bench; with any other number there is none
   pub length-of-a-strip : tag ≡ mosaicStripTag → 1 ≤ stations → stations ≤ mostStations → due ≡ Bytes (2 * stations + 2)
@@ -590,3 +623,177 @@ module _ (tag stations : ℕ) (due : LengthDue) (call : GivesLength tag stations
   pub no-length-of-another-tag : (tag ≡ mosaicHeadTag → ⊥) → (tag ≡ mosaicStripTag → ⊥) → (tag ≡ sortingHeadTag → ⊥) → (tag ≡ sortingStripTag → ⊥)
       → (tag ≡ flightHeadTag → ⊥) → (tag ≡ flightBlockTag → ⊥) → (tag ≡ flightOrderTag → ⊥) → due ≡ None
   no-length-of-another-tag = other-tag-none tag stations due call
+
+-- REQ 06. "The flight head may carry two bytes, the turn g, 0 to 600 seconds; an empty head means 0." The rows of the field table (sheet, FieldTable.antt) have
+-- both heads, and `turnOf` (sheet, Decode.antt) the turn of each. What the turn asks is said in Flight.antt of crate rules (`clearAt`, `apart`); all that is said
+-- above of allowed plans, of least figures and of starts is said of these rules: "The leastness of figure and starts is read with g in the rules."
+module _ (sheet : List ℕ) (sound : readSheet sheet .number ≡ 0) where
+  -- The turn of a sound sheet with a flight is the one that its flight head gives.
+  pub turn-of-the-head : 1 ≤ readSheet sheet .flight .blocks → HeadRead sheet (readSheet sheet .flight)
+  turn-of-the-head = head-read sheet sound
+
+  -- "Each pass starts at least g after the pass before it ends, whichever blocks they belong to": so it is in every timetable, for the passes in the order kept ..
+  pub turn-before-each-pass : (w : ℕ) (ps : List Passes) → Proper (readSheet sheet .flight .blocks) w → FlightLawful (readSheet sheet .flight) ps
+      → Keeps (readSheet sheet .flight) w ps → NextApart (readSheet sheet .flight) w ps
+  turn-before-each-pass w ps proper law keeps = neighbours-apart (readSheet sheet .flight) w ps proper law keeps
+
+  -- .. and where it is so, any two passes are apart as the rules ask, and the order is kept.
+  pub turns-are-enough : (w : ℕ) (ps : List Passes) → Proper (readSheet sheet .flight .blocks) w → NextApart (readSheet sheet .flight) w ps
+      → AllApart (readSheet sheet .flight) ps × Keeps (readSheet sheet .flight) w ps
+  turns-are-enough w ps proper next = neighbours-enough (readSheet sheet .flight) w ps proper next (read-sound sheet sound .flight)
+
+-- "A g over 600 counts as a time too large": 15, at the flight head when it is read, before anything that its section lacks. A flight head of two bytes that the
+-- reading comes to, the section before it well ended and the head permitted there:
+pub record TurnTooLarge (sheet : List ℕ) (place : ℕ) : Type 0 where
+  pub reading : Reading
+  pub reached : Reached sheet reading
+  pub head : fieldAt sheet (reading .at) ≡ Whole flightHeadTag 2
+  pub some-members : NoMembers flightHeadTag (reading .section) (reading .members) → ⊥
+  pub order-given : OrderMissing flightHeadTag (reading .section) (reading .members) → ⊥
+  pub tag-permitted : Permitted flightHeadTag (reading .section) (reading .members)
+  pub too-large : mostTurn < numberAt sheet (reading .at + 3) 2
+  pub place-is : place ≡ reading .at
+
+turn-refused : (sheet : List ℕ) (place : ℕ) → TurnTooLarge sheet place → RefusedForValue sheet TimeTooLarge place
+unfolding FirstOut TimeTooLarge turnFlightHead valuesOf
+turn-refused sheet place f =
+    record {
+      reading = f .reading;
+      reached = f .reached;
+      tag = flightHeadTag;
+      len = 2;
+      whole = f .head;
+      some-members = f .some-members;
+      order-given = f .order-given;
+      tag-permitted = f .tag-permitted;
+      length-due = due;
+      first-out = subst (FirstOut TimeTooLarge) (sym (flight-head-values sheet (f .reading .at + 3) 2 _ _ due)) (inl (f .too-large));
+      place-is = f .place-is;
+    }
+  where
+    due : Among 2 (lengthsDue flightHeadTag (tableOf (f .reading)))
+    due = two-bytes-due (f .reading .mosaic .stations) (f .reading .sorting .desks)
+
+module _ (sheet plan table planAfter tableEnd : List ℕ) (r : Answer) (call : Called sheet plan table planAfter tableEnd r) where
+  pub fifteen-for-a-turn-too-large : Large plan table → (place : ℕ) → TurnTooLarge sheet place → r ≡ answer timeTooLarge place 0
+  fifteen-for-a-turn-too-large large place f =
+      fifteen-for-a-time-too-large sheet plan table planAfter tableEnd r call .always large place (turn-refused sheet place f)
+
+  -- "A flight without an order can now be impossible as well: 11 is then given at the flight head, with buffers large enough exactly when the sheet is otherwise sound
+  -- and no proper order has a timetable." Where the sheet gives no order:
+  pub record ElevenAtHead : Type 0 where
+    pub large : Large plan table
+    pub sound : readSheet sheet .number ≡ 0
+    pub none : (w : ℕ) (ps : List Passes) → Proper (readSheet sheet .flight .blocks) w → FlightLawful (readSheet sheet .flight) ps
+        → Keeps (readSheet sheet .flight) w ps → ⊥
+    pub length : ℕ
+    pub head : FieldRead sheet flightHeadTag length (r .place)
+
+  -- and where it gives one, as before: "no timetable keeps the given order", at the order field
+  pub record ElevenAtOrder : Type 0 where
+    pub large : Large plan table
+    pub sound : readSheet sheet .number ≡ 0
+    pub none : (ps : List Passes) → FlightLawful (readSheet sheet .flight) ps → Keeps (readSheet sheet .flight) (readSheet sheet .flight .order) ps → ⊥
+    pub length : ℕ
+    pub order : FieldRead sheet flightOrderTag length (r .place)
+
+  at-place : readSheet sheet .number ≡ 0 → Large plan table → Impossible (readSheet sheet) → r .place ≡ readSheet sheet .flight .place
+  at-place sound large none = ap (λ (a : Answer). a .place) (eleven-always-then sheet plan table planAfter tableEnd r call large sound none)
+
+  pub eleven-at-the-flight-head : readSheet sheet .flight .ordered ≡ false
+      → (r .number ≡ orderImpossible → ElevenAtHead)
+      × (Large plan table → readSheet sheet .number ≡ 0
+      → ((w : ℕ) (ps : List Passes) → Proper (readSheet sheet .flight .blocks) w → FlightLawful (readSheet sheet .flight) ps
+      → Keeps (readSheet sheet .flight) w ps → ⊥)
+      → r .number ≡ orderImpossible)
+  eleven-at-the-flight-head free = (
+    λ e. let p = eleven-only-then sheet plan table planAfter tableEnd r call e in given (p .0) (p .1) (p .2),
+    λ large sound none.
+        ap (λ (a : Answer). a .number) (eleven-always-then sheet plan table planAfter tableEnd r call large sound (Impossible.no-order-given free none)),
+  )
+    where
+      given : Large plan table → readSheet sheet .number ≡ 0 → Impossible (readSheet sheet) → ElevenAtHead
+      given large sound (Impossible.order-given o none) = absurd (true≢false (sym o ∙ free))
+      given large sound (Impossible.no-order-given o none) =
+          let short = free-impossible-exactly sheet sound free .0 (Impossible.no-order-given o none) in
+          let h = head-read sheet sound (omega (arith, short .known)) in
+          record {
+            large = large;
+            sound = sound;
+            none = none;
+            length = h .len;
+            head =
+                subst (FieldRead sheet flightHeadTag (h .len))
+                (sym (at-place sound large (Impossible.no-order-given o none) ∙ h .place-is free)) (h .head);
+          }
+
+  pub eleven-at-the-order-field : readSheet sheet .flight .ordered ≡ true
+      → (r .number ≡ orderImpossible → ElevenAtOrder)
+      × (Large plan table → readSheet sheet .number ≡ 0
+      → ((ps : List Passes) → FlightLawful (readSheet sheet .flight) ps → Keeps (readSheet sheet .flight) (readSheet sheet .flight .order) ps → ⊥)
+      → r .number ≡ orderImpossible)
+  eleven-at-the-order-field ordered = (
+    λ e. let p = eleven-only-then sheet plan table planAfter tableEnd r call e in given (p .0) (p .1) (p .2),
+    λ large sound none.
+        ap (λ (a : Answer). a .number) (eleven-always-then sheet plan table planAfter tableEnd r call large sound (Impossible.order-given ordered none)),
+  )
+    where
+      given : Large plan table → readSheet sheet .number ≡ 0 → Impossible (readSheet sheet) → ElevenAtOrder
+      given large sound (Impossible.order-given o none) =
+          let h = order-read sheet sound ordered in
+          record {
+            large = large;
+            sound = sound;
+            none = none;
+            length = h .len;
+            order = subst (FieldRead sheet flightOrderTag (h .len)) (sym (at-place sound large (Impossible.order-given o none))) (h .order);
+          }
+      given large sound (Impossible.no-order-given o none) = absurd (true≢false (sym ordered ∙ o))
+
+  -- A flight without an order is impossible exactly where some block's delay is below g; that is how it is decided, without a search (`freeOrder` of flight, Choice.antt).
+  pub free-eleven-by-the-delays : readSheet sheet .flight .ordered ≡ false
+      → (r .number ≡ orderImpossible → ShortDelay (readSheet sheet .flight))
+      × (Large plan table → readSheet sheet .number ≡ 0 → ShortDelay (readSheet sheet .flight) → r .number ≡ orderImpossible)
+  free-eleven-by-the-delays free = (
+    λ e. let p = eleven-only-then sheet plan table planAfter tableEnd r call e in free-impossible-exactly sheet (p .1) free .0 (p .2),
+    λ large sound short.
+        ap (λ (a : Answer). a .number)
+        (eleven-always-then sheet plan table planAfter tableEnd r call large sound (free-impossible-exactly sheet sound free .1 short)),
+  )
+
+-- "a turn too short is 13 at the head": the sheet is sound, the plan laid out, no section before has a fault and every block follows, but in the order that the plan
+-- states some pass starts less than g after the pass before it ends. Then the judge gives 13 at the plan's flight head, before 14.
+pub short-turn-is-thirteen : (sheet plan : List ℕ) (j : Judged) → j ≡ judged sheet plan → readSheet sheet .number ≡ 0 → LaidOut (readSheet sheet) plan
+    → ((i : ℕ) → 1 ≤ i → i < 3 → present (readSheet sheet) i ≡ true → (n p : ℕ) → SectionFault (readSheet sheet) plan i n p → ⊥)
+    → present (readSheet sheet) 3 ≡ true
+    → (st : Progress) → Judging (readSheet sheet) plan 3 (partAt (readSheet sheet) plan 3 .members) st
+    → (NextApart (readSheet sheet .flight) (orderFrom plan (partAt (readSheet sheet) plan 3 .head))
+    (blocksFrom plan (partAt (readSheet sheet) plan 3 .head + sizeOf flightHeadForm) (partAt (readSheet sheet) plan 3 .members)) → ⊥)
+    → j ≡ turnedBack ruleBroken (partAt (readSheet sheet) plan 3 .head)
+unfolding HeadFollows clearAt
+short-turn-is-thirteen sheet plan j call sound laid before there st judging short =
+    turns-back-for-its-fault sheet plan j call ruleBroken _
+    (Fault.in-section 3 sound laid (omega arith) (omega arith) before there
+    (SectionFault.at-head st judging (λ h. short (record { apart = h .in-order })) refl refl))
+
+-- "an empty head means 0": with an empty flight head behind some bytes, and with a written turn of 0 in its place, wherever the reading comes to that head, two
+-- calls with the same buffers give the same number, plan bytes and length, and places behind the head are two higher (`movedPlace`).
+module _ (before rest : List ℕ) (st : Reading) (reached : Reached (emptyTurn before rest) st) (here : st .at ≡ length before) where
+  module _ (plan table planAfter tableEnd otherAfter otherEnd : List ℕ) (r q : Answer)
+      (call : Called (emptyTurn before rest) plan table planAfter tableEnd r) (other : Called (writtenZero before rest) plan table otherAfter otherEnd q) where
+    pub written-zero-planned : (q ≡ movedAnswer (length before) r) × (otherAfter ≡ planAfter) × (otherEnd ≡ tableEnd)
+    written-zero-planned =
+        let same = written-zero before rest st reached here in
+        (
+          same-answer _ _ plan table planAfter tableEnd otherAfter otherEnd r q _ same call other,
+          same-buffer _ _ plan table planAfter tableEnd otherAfter otherEnd r q _ same call other,
+          same-table _ _ plan table planAfter tableEnd otherAfter otherEnd r q _ same call other,
+        )
+
+  -- and the judge gives every plan the same number, place and figures where the sheet is sound, and else turns both back with the same number
+  pub written-zero-judged : (plan : List ℕ) (j k : Judged) → j ≡ judged (emptyTurn before rest) plan → k ≡ judged (writtenZero before rest) plan
+      → (readSheet (emptyTurn before rest) .number ≡ 0 → k ≡ j)
+      × ((readSheet (emptyTurn before rest) .number ≡ 0 → ⊥) → k ≡ turnedBack (j .number) (movedPlace (length before) (j .place)))
+  written-zero-judged plan j k judging also =
+      let same = written-zero before rest st reached here in
+      rw (judging, also) (same-judged _ _ _ same plan, same-refused _ _ _ same plan)

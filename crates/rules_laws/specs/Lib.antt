@@ -15,3 +15,4 @@ pub mod Sections
 pub mod Fits
 pub mod OrderKept
 pub mod Determined
+pub mod Turns

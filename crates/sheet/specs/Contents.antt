@@ -94,6 +94,11 @@ module _ (stations desks : ℕ) where
   unfolding fieldTable contentsOf
   flight-order-content = past-strip flightOrderTag stations _ (λ e. omega arith)
 
+  -- a turn of two bytes is due in a flight head
+  pub two-bytes-due : Among 2 (lengthsDue flightHeadTag (fieldTable stations desks))
+  unfolding lengthsDue lengthsOf lengthOf emptyFlightHead turnFlightHead Among
+  two-bytes-due = rw flight-head-contents (inr (inl refl))
+
   -- a tag outside the table has none
   pub no-content : (tag : ℕ) → (tag ≡ mosaicHeadTag → ⊥) → (tag ≡ mosaicStripTag → ⊥) → (tag ≡ sortingHeadTag → ⊥) → (tag ≡ sortingStripTag → ⊥)
       → (tag ≡ flightHeadTag → ⊥) → (tag ≡ flightBlockTag → ⊥) → (tag ≡ flightOrderTag → ⊥) → contentsOf tag (fieldTable stations desks) ≡ []
