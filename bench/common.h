@@ -11,8 +11,8 @@
 
 typedef uint64_t u64;
 
-/* The greatest time of a sheet. */
-enum { MOST_TIME = 60000 };
+/* The greatest time of a sheet, and the greatest turn. */
+enum { MOST_TIME = 60000, MOST_TURN = 600 };
 
 static u64 seed = 1;
 

@@ -1,5 +1,5 @@
 /* Times the flight planner against plain C that does the same rounds over the same constraints and the same recursion over proper orders:
-   8 blocks without an order and 32 blocks with one. Both must give the same answer.
+   8 blocks without an order and 32 blocks with one, without and with a turn, also flights that are impossible by the turn. Both must give the same answer.
    rt staticlib flight_bench && gcc -O2 -Wall -Wextra -Werror -o target/bench_flight bench/flight.c target/staticlib/libflight_bench.a && target/bench_flight */
 #include "flight.h"
 
@@ -8,7 +8,7 @@ struct answer {
     bool possible;
 };
 
-extern struct answer flight_best(size_t blocks, const u64 first[32], const u64 delay[32], const u64 second[32], bool ordered, u64 order);
+extern struct answer flight_best(size_t blocks, u64 turn, const u64 first[32], const u64 delay[32], const u64 second[32], bool ordered, u64 order);
 
 enum { INSTANCES = 31 };
 
@@ -20,7 +20,7 @@ struct instance {
 static void ours(void *p) {
     struct instance *x = p;
     const struct flight *f = &x->flight;
-    x->ours = flight_best(f->blocks, f->first, f->delay, f->second, f->ordered, f->order);
+    x->ours = flight_best(f->blocks, f->turn, f->first, f->delay, f->second, f->ordered, f->order);
 }
 
 static void plain(void *p) {
@@ -52,6 +52,8 @@ static void measure_all(const char *title, const struct flight_times *limits) {
     measure("8 free, random", FREE_RANDOM, limits);
     measure("8 free, many impossible orders", FREE_MANY_IMPOSSIBLE, limits);
     measure("8 free, all equal", FREE_EQUAL, limits);
+    if (limits[FREE_IMPOSSIBLE].turn_high > 0)
+        measure("8 free, a delay below the turn", FREE_IMPOSSIBLE, limits);
     measure("32, one block after another", ONE_BY_ONE, limits);
     measure("32, random orders", RANDOM_ORDER, limits);
     measure("32, all first passes first", FIRSTS_FIRST, limits);
@@ -63,5 +65,7 @@ int main(void) {
     printf("\n");
     measure_all("short times", short_times);
     measure_all("times up to 60,000", long_times);
+    measure_all("short times and turns up to 30", short_turns);
+    measure_all("times up to 60,000 and turns up to 600", long_turns);
     return 0;
 }

@@ -6,6 +6,7 @@
 
 struct flight {
     size_t blocks;
+    u64 turn;
     u64 first[32], delay[32], second[32];
     bool ordered;
     u64 order;
@@ -36,7 +37,7 @@ static inline size_t write_constraints(const struct flight *f, u64 order, struct
         c[m++] = (struct constraint){n + i, i, 0, f->first[i] + f->delay[i]};
     for (size_t j = 0; j + 1 < 2 * n; j++) {
         size_t p = pass_of(n, order, j), q = pass_of(n, order, j + 1);
-        c[m++] = (struct constraint){p, q, p < n ? f->first[p] : f->second[p - n], 0};
+        c[m++] = (struct constraint){p, q, (p < n ? f->first[p] : f->second[p - n]) + f->turn, 0};
     }
     return m;
 }
@@ -89,6 +90,8 @@ static inline struct flight_plan flight_in_c(const struct flight *f) {
     size_t n = f->blocks;
     if (!f->ordered)
         search_orders(f, 2 * n, 0, plan.starts, &plan);
+    if (!f->ordered && !plan.possible)
+        return plan;
     plan.possible = least_starts(f, plan.order, plan.starts);
     plan.figure = plan.starts[2 * n - 1] + f->second[n - 1];
     return plan;
@@ -108,22 +111,51 @@ static inline u64 random_order(size_t n) {
     return x;
 }
 
-/* 8 blocks without an order: random, such that many orders are impossible, all equal. 32 with one: each block by itself, random orders (most of
-   them impossible), all first passes first. */
-enum flight_family { FREE_RANDOM, FREE_MANY_IMPOSSIBLE, FREE_EQUAL, ONE_BY_ONE, RANDOM_ORDER, FIRSTS_FIRST };
+/* 8 blocks without an order: random, such that many orders are impossible, all equal, and one delay below the turn, so that every order is impossible. 32 with
+   one: each block by itself, random orders (most of them impossible), all first passes first. */
+enum flight_family { FREE_RANDOM, FREE_MANY_IMPOSSIBLE, FREE_EQUAL, FREE_IMPOSSIBLE, ONE_BY_ONE, RANDOM_ORDER, FIRSTS_FIRST };
 
-/* The limits of a family: passes and delays. */
+/* The limits of a family: passes, delays and the turn. */
 struct flight_times {
-    u64 pass_low, pass_high, delay_low, delay_high;
+    u64 pass_low, pass_high, delay_low, delay_high, turn_low, turn_high;
 };
 
-/* Of each family, with short times and with times up to the greatest. */
+/* Of each family without a turn, with short times and with times up to the greatest. FREE_IMPOSSIBLE has none. */
 static const struct flight_times short_times[] = {
-    {1, 100, 0, 300}, {50, 100, 0, 60}, {5, 5, 20, 20}, {1, 100, 0, 10000}, {1, 100, 0, 300}, {10, 10, 320, 320},
+    [FREE_RANDOM] = {1, 100, 0, 300, 0, 0},
+    [FREE_MANY_IMPOSSIBLE] = {50, 100, 0, 60, 0, 0},
+    [FREE_EQUAL] = {5, 5, 20, 20, 0, 0},
+    [ONE_BY_ONE] = {1, 100, 0, 10000, 0, 0},
+    [RANDOM_ORDER] = {1, 100, 0, 300, 0, 0},
+    [FIRSTS_FIRST] = {10, 10, 320, 320, 0, 0},
 };
 static const struct flight_times long_times[] = {
-    {1, MOST_TIME / 3, 0, MOST_TIME}, {MOST_TIME / 2, MOST_TIME, 0, MOST_TIME / 5 * 3}, {MOST_TIME / 4, MOST_TIME / 4, MOST_TIME, MOST_TIME},
-    {1, MOST_TIME, 0, MOST_TIME}, {1, MOST_TIME / 3, 0, MOST_TIME}, {MOST_TIME / 32, MOST_TIME / 32, MOST_TIME, MOST_TIME},
+    [FREE_RANDOM] = {1, MOST_TIME / 3, 0, MOST_TIME, 0, 0},
+    [FREE_MANY_IMPOSSIBLE] = {MOST_TIME / 2, MOST_TIME, 0, MOST_TIME / 5 * 3, 0, 0},
+    [FREE_EQUAL] = {MOST_TIME / 4, MOST_TIME / 4, MOST_TIME, MOST_TIME, 0, 0},
+    [ONE_BY_ONE] = {1, MOST_TIME, 0, MOST_TIME, 0, 0},
+    [RANDOM_ORDER] = {1, MOST_TIME / 3, 0, MOST_TIME, 0, 0},
+    [FIRSTS_FIRST] = {MOST_TIME / 32, MOST_TIME / 32, MOST_TIME, MOST_TIME, 0, 0},
+};
+
+/* The same with a turn, which no delay is below but one of FREE_IMPOSSIBLE. Where all first passes go first, a delay takes in 31 passes and 32 turns. */
+static const struct flight_times short_turns[] = {
+    [FREE_RANDOM] = {1, 100, 30, 300, 1, 30},
+    [FREE_MANY_IMPOSSIBLE] = {50, 100, 30, 90, 1, 30},
+    [FREE_EQUAL] = {5, 5, 30, 30, 5, 5},
+    [FREE_IMPOSSIBLE] = {1, 100, 30, 300, 1, 30},
+    [ONE_BY_ONE] = {1, 100, 30, 10000, 1, 30},
+    [RANDOM_ORDER] = {1, 100, 30, 300, 1, 30},
+    [FIRSTS_FIRST] = {10, 10, 470, 470, 5, 5},
+};
+static const struct flight_times long_turns[] = {
+    [FREE_RANDOM] = {1, MOST_TIME / 3, MOST_TURN, MOST_TIME, 1, MOST_TURN},
+    [FREE_MANY_IMPOSSIBLE] = {MOST_TIME / 2, MOST_TIME, MOST_TURN, MOST_TIME / 5 * 3, 1, MOST_TURN},
+    [FREE_EQUAL] = {MOST_TIME / 5, MOST_TIME / 5, MOST_TIME, MOST_TIME, MOST_TURN, MOST_TURN},
+    [FREE_IMPOSSIBLE] = {1, MOST_TIME / 3, MOST_TURN, MOST_TIME, 1, MOST_TURN},
+    [ONE_BY_ONE] = {1, MOST_TIME, MOST_TURN, MOST_TIME, 1, MOST_TURN - 1},
+    [RANDOM_ORDER] = {1, MOST_TIME / 3, MOST_TURN, MOST_TIME, 1, MOST_TURN},
+    [FIRSTS_FIRST] = {1300, 1300, MOST_TIME, MOST_TIME, MOST_TURN, MOST_TURN},
 };
 
 static inline struct flight random_flight(enum flight_family family, const struct flight_times *times) {
@@ -134,6 +166,10 @@ static inline struct flight random_flight(enum flight_family family, const struc
         f.second[i] = any(times[family].pass_low, times[family].pass_high);
         f.delay[i] = any(times[family].delay_low, times[family].delay_high);
     }
+    if (times[family].turn_high > 0)
+        f.turn = any(times[family].turn_low, times[family].turn_high);
+    if (family == FREE_IMPOSSIBLE)
+        f.delay[any(0, f.blocks - 1)] = f.turn - 1;
     if (family == ONE_BY_ONE)
         f.order = 0xAAAAAAAAAAAAAAAAu;
     if (family == RANDOM_ORDER)

@@ -80,14 +80,14 @@ static inline struct finding judge_sorting(const struct sorting *section, const 
     return (struct finding){s.members == section->counts[0] + section->counts[1] + section->counts[2] ? NO_FAULT : s.head, figure};
 }
 
-/* Whether the passes come in the order, none before the one before has ended. */
+/* Whether the passes come in the order, none before the turn behind the one before. */
 static inline bool in_order(const struct flight *f, const u64 *starts, u64 order) {
     u64 free = 0;
     for (size_t k = 0; k < 2 * f->blocks; k++) {
         size_t pass = pass_of(f->blocks, order, k);
         if (starts[pass] < free)
             return false;
-        free = starts[pass] + (pass < f->blocks ? f->first[pass] : f->second[pass - f->blocks]);
+        free = starts[pass] + (pass < f->blocks ? f->first[pass] : f->second[pass - f->blocks]) + f->turn;
     }
     return true;
 }

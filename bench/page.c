@@ -9,7 +9,7 @@
 enum { PLANS = 21, PAGE_TURNS = 15 };
 
 /* What a family of plans has otherwise than others: as many batches as strips, one member in each section, or a fault. */
-enum change { NONE, ALL_BATCHES, ONE_MEMBER_EACH, CUT, BROKEN, UNTRUE, SMALL_BUFFER };
+enum change { NONE, ALL_BATCHES, ONE_MEMBER_EACH, CUT, BROKEN, SHORT_TURN, UNTRUE, SMALL_BUFFER };
 
 struct family {
     const char *name;
@@ -26,10 +26,12 @@ static const struct family families[] = {
     {"40 batches, 18 strips, 8 blocks", 0, ALL_BATCHES, MOST_TIME, RANDOM, FREE_RANDOM, long_times},
     {"the same with small times", 0, ALL_BATCHES, 10, RANDOM_SMALL, FREE_RANDOM, short_times},
     {"few batches, 18 strips, 32 blocks", 0, NONE, MOST_TIME, RANDOM, ONE_BY_ONE, long_times},
+    {"the same with a turn", 0, NONE, MOST_TIME, RANDOM, ONE_BY_ONE, long_turns},
     {"one member in each section", 0, ONE_MEMBER_EACH, MOST_TIME, RANDOM, FREE_RANDOM, long_times},
     {"2: page buffer too small", SEVULAMON_BUFFER_TOO_SMALL, SMALL_BUFFER, MOST_TIME, RANDOM, ONE_BY_ONE, long_times},
     {"12: last field cut", SEVULAMON_LAYOUT_WRONG, CUT, MOST_TIME, RANDOM, ONE_BY_ONE, long_times},
     {"13: last member broken", SEVULAMON_RULE_BROKEN, BROKEN, MOST_TIME, RANDOM, ONE_BY_ONE, long_times},
+    {"13: turn too short", SEVULAMON_RULE_BROKEN, SHORT_TURN, MOST_TIME, RANDOM, ONE_BY_ONE, long_turns},
     {"14: first figure untrue", SEVULAMON_FIGURE_UNTRUE, UNTRUE, MOST_TIME, RANDOM, ONE_BY_ONE, long_times},
 };
 
@@ -60,6 +62,14 @@ static void change_plan(struct call *x, enum change change) {
     }
 }
 
+/* A turn one second longer than that of the plan. */
+static void change_sheet(struct call *x, struct sheet *s, enum change change) {
+    if (change == SHORT_TURN) {
+        s->flight.turn++;
+        x->length = write_sheet(x->sheet, s);
+    }
+}
+
 static void make_call(struct call *x, const struct family *f) {
     struct sheet s = {0};
     s.mosaic = random_mosaic(4, 40, 0, f->mosaic_high);
@@ -70,6 +80,7 @@ static void make_call(struct call *x, const struct family *f) {
     x->plan_length = plan_in_c(x->sheet, x->length, x->plan, sizeof x->plan).length;
     x->page_length = SEVULAMON_PAGE_LENGTH;
     change_plan(x, f->change);
+    change_sheet(x, &s, f->change);
     memset(x->ours_page, 0xCC, sizeof x->ours_page);
     memset(x->plain_page, 0xCC, sizeof x->plain_page);
 }

@@ -1,5 +1,5 @@
 /* Times the whole call, sevulamon_plan, against plain C that does the same work on the same bytes: full sheets (40 strips, 6 + 6 + 6 strips, 8 free
-   blocks or 32 with an order), a small sheet, and sheets that are refused. Both must give the same answer and leave the same bytes in the buffer.
+   blocks or 32 with an order, without and with a turn), a small sheet, and sheets that are refused. Both must give the same answer and leave the same bytes in the buffer.
    rt staticlib viewer && gcc -O2 -Wall -Wextra -Werror -Iinclude -o target/bench_plan bench/plan.c target/staticlib/libviewer.a && target/bench_plan */
 #include "plan.h"
 #include "sheet_writer.h"
@@ -7,14 +7,14 @@
 
 enum { SHEETS = 21 };
 
-/* Bytes of the content of a sorting strip, which begins with its desk, and of whole fields of a flight. */
+/* Bytes of the content of a sorting strip, which begins with its desk, and of whole fields of a flight, its head without a turn. */
 enum { STRIP_CONTENT = 5, HEAD_FIELD = 3, BLOCK_FIELD = 9, ORDER_FIELD = 11 };
 
 /* The targets of an accepted full sheet: its time by that of the C, and by that of plain enumeration of its sorting section alone. */
 static const double target_ratio = 2.0, target_part = 0.05;
 
 /* How a full sheet with an order is spoiled, if it is. */
-enum change { NONE, ONE_MEMBER_EACH, EMPTY, CUT, LAST_DESK, FIRST_TIME, LAST_TIME, NOT_PROPER, NO_ORDER, SMALL_BUFFER };
+enum change { NONE, ONE_MEMBER_EACH, EMPTY, CUT, LAST_DESK, FIRST_TIME, TURN, LAST_TIME, NOT_PROPER, NO_ORDER, SMALL_BUFFER };
 
 struct family {
     const char *name;
@@ -37,6 +37,11 @@ static const struct family families[] = {
     {"equal strips at all desks", 0, NONE, 0, MOST_TIME, EQUAL_STRIPS, FREE_RANDOM, long_times},
     {"many impossible free orders", 0, NONE, 0, MOST_TIME, RANDOM, FREE_MANY_IMPOSSIBLE, long_times},
     {"32 blocks, first passes first", 0, NONE, 0, MOST_TIME, RANDOM, FIRSTS_FIRST, long_times},
+    {"turns, 8 free blocks", 0, NONE, 0, MOST_TIME, RANDOM, FREE_RANDOM, long_turns},
+    {"turns, small times", 0, NONE, 0, 10, RANDOM_SMALL, FREE_RANDOM, short_turns},
+    {"turns, many impossible orders", 0, NONE, 0, MOST_TIME, RANDOM, FREE_MANY_IMPOSSIBLE, long_turns},
+    {"turns, 32 blocks in order", 0, NONE, 0, MOST_TIME, RANDOM, ONE_BY_ONE, long_turns},
+    {"turns, first passes first", 0, NONE, 0, MOST_TIME, RANDOM, FIRSTS_FIRST, long_turns},
     {"one member in each section", 0, ONE_MEMBER_EACH, 0, MOST_TIME, RANDOM, FREE_RANDOM, long_times},
     {"2: buffer too small", SEVULAMON_BUFFER_TOO_SMALL, SMALL_BUFFER, 0, MOST_TIME, RANDOM, ONE_BY_ONE, long_times},
     {"3: last field cut", SEVULAMON_FIELD_CUT, CUT, 0, MOST_TIME, RANDOM, ONE_BY_ONE, long_times},
@@ -45,6 +50,9 @@ static const struct family families[] = {
     {"9: order not proper", SEVULAMON_ORDER_NOT_PROPER, NOT_PROPER, 0, MOST_TIME, RANDOM, ONE_BY_ONE, long_times},
     {"10: 32 blocks, no order", SEVULAMON_ORDER_MISSING, NO_ORDER, 0, MOST_TIME, RANDOM, ONE_BY_ONE, long_times},
     {"11: impossible order", SEVULAMON_ORDER_IMPOSSIBLE, NONE, 0, MOST_TIME, RANDOM, RANDOM_ORDER, long_times},
+    {"11: impossible order, turns", SEVULAMON_ORDER_IMPOSSIBLE, NONE, 0, MOST_TIME, RANDOM, RANDOM_ORDER, long_turns},
+    {"11: 8 free, delay below turn", SEVULAMON_ORDER_IMPOSSIBLE, NONE, 0, MOST_TIME, RANDOM, FREE_IMPOSSIBLE, long_turns},
+    {"15: turn too large", SEVULAMON_TIME_TOO_LARGE, TURN, 0, MOST_TIME, RANDOM, ONE_BY_ONE, long_turns},
     {"15: first time too large", SEVULAMON_TIME_TOO_LARGE, FIRST_TIME, 0, MOST_TIME, RANDOM, ONE_BY_ONE, long_times},
     {"16: last time of zero", SEVULAMON_TIME_OF_ZERO, LAST_TIME, 0, MOST_TIME, RANDOM, ONE_BY_ONE, long_times},
 };
@@ -66,12 +74,14 @@ static void change_sections(struct sheet *s, enum change change) {
 }
 
 static void change_bytes(struct call *x, enum change change) {
-    uint8_t *order = x->sheet + x->length - ORDER_FIELD, *flight = order - BLOCK_FIELD * x->sections.flight.blocks - HEAD_FIELD;
+    const struct flight *f = &x->sections.flight;
+    uint8_t *order = x->sheet + x->length - ORDER_FIELD, *flight = order - BLOCK_FIELD * f->blocks - HEAD_FIELD - turn_width(f);
     switch (change) {
     case EMPTY: x->length = 0; break;
     case CUT: x->length--; break;
     case LAST_DESK: put(flight - STRIP_CONTENT, 1, x->sections.sorting.desks + 1); break;
     case FIRST_TIME: put(x->sheet + 4, 2, MOST_TIME + 1); break;
+    case TURN: put(flight + 3, 2, MOST_TURN + 1); break;
     case LAST_TIME: put(order - 2, 2, 0); break;
     case NOT_PROPER: put(order + 3, 8, 3); break;
     case NO_ORDER: x->length -= ORDER_FIELD; break;

@@ -49,7 +49,7 @@ static inline struct sevulamon_answer plan_sections(const struct sheet *s, uint8
     if (s->flight.blocks > 0)
         flight = flight_in_c(&s->flight);
     if (!flight.possible)
-        return refusal(SEVULAMON_ORDER_IMPOSSIBLE, s->order_place);
+        return refusal(SEVULAMON_ORDER_IMPOSSIBLE, s->flight_place);
     if (s->mosaic.strips > 0) {
         struct mosaic_plan mosaic = mosaic_in_c(&s->mosaic);
         d = write_mosaic(d, &mosaic);

@@ -11,12 +11,12 @@ enum sheet_tag { MOSAIC_HEAD = 0x10, MOSAIC_STRIP = 0x11, SORTING_HEAD = 0x20, S
 
 enum section { NO_SECTION, IN_MOSAIC, IN_SORTING, IN_FLIGHT, AFTER_ORDER };
 
-/* A section without members is absent. */
+/* A section without members is absent. The flight's place is that of its order field, or of its head where there is none: the place of 11. */
 struct sheet {
     struct mosaic mosaic;
     struct sorting sorting;
     struct flight flight;
-    size_t order_place;
+    size_t flight_place;
 };
 
 /* The section that stands open, its head's place and its members. */
@@ -53,15 +53,16 @@ static inline bool permitted(uint8_t tag, const struct reading *r) {
     }
 }
 
-static inline size_t length_due(uint8_t tag, size_t stations) {
+/* A flight head is empty or has the turn. */
+static inline bool length_is_due(uint8_t tag, size_t length, size_t stations) {
     switch (tag) {
-    case MOSAIC_HEAD: return 3;
-    case MOSAIC_STRIP: return 2 * stations + 2;
-    case SORTING_HEAD: return 1;
-    case SORTING_STRIP: return 5;
-    case FLIGHT_HEAD: return 0;
-    case FLIGHT_BLOCK: return 6;
-    default: return 8;
+    case MOSAIC_HEAD: return length == 3;
+    case MOSAIC_STRIP: return length == 2 * stations + 2;
+    case SORTING_HEAD: return length == 1;
+    case SORTING_STRIP: return length == 5;
+    case FLIGHT_HEAD: return length == 0 || length == 2;
+    case FLIGHT_BLOCK: return length == 6;
+    default: return length == 8;
     }
 }
 
@@ -101,6 +102,10 @@ static inline u64 job_number(const uint8_t *c, size_t desks) {
     return number == 0 ? time_number(c + 3, 1) : number;
 }
 
+static inline u64 turn_number(u64 turn) {
+    return MOST_TURN < turn ? SEVULAMON_TIME_TOO_LARGE : 0;
+}
+
 static inline u64 block_number(const uint8_t *c) {
     u64 number = time_number(c, 1);
     if (number == 0)
@@ -108,12 +113,13 @@ static inline u64 block_number(const uint8_t *c) {
     return number == 0 ? time_number(c + 4, 1) : number;
 }
 
-static inline u64 range_number(uint8_t tag, const uint8_t *c, const struct sheet *s) {
+static inline u64 range_number(uint8_t tag, const uint8_t *c, size_t length, const struct sheet *s) {
     switch (tag) {
     case MOSAIC_HEAD: return head_number(c);
     case MOSAIC_STRIP: return strip_number(c, s->mosaic.stations);
     case SORTING_HEAD: return count_number(c[0], 3);
     case SORTING_STRIP: return job_number(c, s->sorting.desks);
+    case FLIGHT_HEAD: return turn_number(number_at(c, length));
     case FLIGHT_BLOCK: return block_number(c);
     default: return 0;
     }
@@ -152,9 +158,9 @@ static inline u64 section_number(const struct reading *r) {
 static inline u64 field_number(uint8_t tag, const uint8_t *c, size_t length, const struct reading *r, const struct sheet *s) {
     if (!permitted(tag, r))
         return SEVULAMON_TAG_NOT_PERMITTED;
-    if (length != length_due(tag, s->mosaic.stations))
+    if (!length_is_due(tag, length, s->mosaic.stations))
         return SEVULAMON_LENGTH_WRONG;
-    u64 out_of_range = range_number(tag, c, s);
+    u64 out_of_range = range_number(tag, c, length, s);
     if (out_of_range != 0)
         return out_of_range;
     if (!has_room(tag, c, s))
@@ -183,7 +189,7 @@ static inline void add_block(struct flight *f, const uint8_t *c) {
 }
 
 /* What a field that passed its checks adds. */
-static inline void add_field(struct sheet *s, uint8_t tag, const uint8_t *c, size_t at) {
+static inline void add_field(struct sheet *s, uint8_t tag, const uint8_t *c, size_t length, size_t at) {
     switch (tag) {
     case MOSAIC_HEAD:
         s->mosaic.stations = c[0];
@@ -192,11 +198,15 @@ static inline void add_field(struct sheet *s, uint8_t tag, const uint8_t *c, siz
     case MOSAIC_STRIP: add_strip(&s->mosaic, c); break;
     case SORTING_HEAD: s->sorting.desks = c[0]; break;
     case SORTING_STRIP: add_job(&s->sorting, c); break;
+    case FLIGHT_HEAD:
+        s->flight.turn = number_at(c, length);
+        s->flight_place = at;
+        break;
     case FLIGHT_BLOCK: add_block(&s->flight, c); break;
     case FLIGHT_ORDER:
         s->flight.ordered = true;
         s->flight.order = number_at(c, 8);
-        s->order_place = at;
+        s->flight_place = at;
         break;
     }
 }
@@ -224,7 +234,7 @@ static inline struct sevulamon_answer read_in_c(const uint8_t *bytes, size_t len
         number = field_number(tag, bytes + at + 3, content, &r, s);
         if (number != 0)
             return refusal(number, at);
-        add_field(s, tag, bytes + at + 3, at);
+        add_field(s, tag, bytes + at + 3, content, at);
         advance(&r, tag, at);
         at += 3 + content;
     }

@@ -25,8 +25,13 @@ static inline uint8_t *put_sorting(uint8_t *d, const struct sorting *s) {
     return d;
 }
 
+/* The bytes of the turn in the flight head. A turn of 0 is not written. */
+static inline size_t turn_width(const struct flight *f) {
+    return f->turn > 0 ? 2 : 0;
+}
+
 static inline uint8_t *put_flight(uint8_t *d, const struct flight *f) {
-    d = put_head(d, FLIGHT_HEAD, 0);
+    d = put(put_head(d, FLIGHT_HEAD, turn_width(f)), turn_width(f), f->turn);
     for (size_t i = 0; i < f->blocks; i++)
         d = put(put(put(put_head(d, FLIGHT_BLOCK, 6), 2, f->first[i]), 2, f->delay[i]), 2, f->second[i]);
     return f->ordered ? put(put_head(d, FLIGHT_ORDER, 8), 8, f->order) : d;
