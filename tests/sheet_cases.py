@@ -2,7 +2,7 @@
 """The sheets that the program sheet_cases reads, with what it must write for each.
 
 Each case is a name, the bytes of a sheet, and the line due: number and place, and for a sound sheet the strips of the mosaic, of each desk,
-the blocks and the order number. The lines are written by hand from 01 and the requests of 02; those of wrong lengths come from a table of fields with
+the blocks, the turn and the order number. The lines are written by hand from 01 and the requests of 02; those of wrong lengths come from a table of fields with
 their lengths, those of values out of range from a table of bad values with their numbers.
 
     sheet_cases.py           writes crates/sheet_cases/stdin and stdout
@@ -14,6 +14,7 @@ import struct
 import sys
 
 MOST_TIME = 60_000
+MOST_TURN = 600
 FOLDER = pathlib.Path(__file__).resolve().parent.parent / "crates" / "sheet_cases"
 
 
@@ -42,8 +43,9 @@ def job(desk=1, scan=1, time=1):
     return field(0x21, bytes([desk]) + word(scan, time))
 
 
-def flight(content=b""):
-    return field(0x30, content)
+def flight(turn=None):
+    """An empty head, or one with a turn."""
+    return field(0x30, b"" if turn is None else word(turn))
 
 
 def block(a=1, l=0, b=1):
@@ -73,8 +75,8 @@ def refused(name, sheet, number, place):
     CASES.append((name, sheet, "%d %d" % (number, place)))
 
 
-def sound(name, sheet, strips=0, desks=(0, 0, 0), blocks=0, order_number=0):
-    CASES.append((name, sheet, "0 0 %d %d %d %d %d %d" % (strips, *desks, blocks, order_number)))
+def sound(name, sheet, strips=0, desks=(0, 0, 0), blocks=0, turn=0, order_number=0):
+    CASES.append((name, sheet, "0 0 %d %d %d %d %d %d %d" % (strips, *desks, blocks, turn, order_number)))
 
 
 # 01, "Sheets worked through".
@@ -146,18 +148,19 @@ refused("a second order", F + BLOCK + order(2) + order(2), 4, 23)
 refused("a head behind the order", F + BLOCK + order(2) + M, 4, 23)
 refused("an unknown tag behind the order", F + BLOCK + order(2) + field(0x00), 4, 23)
 
-# 5: lengths. Each field of the table: its name, what stands before it, its tag, the length that is due, and a good content of that length.
+# 5: lengths. Each field of the table: its name, what stands before it, its tag, a good content, and another length that is due, if there is one.
 LENGTHS = [
-    ("mosaic head", b"", 0x10, 3, b"\x01" + word(0)),
-    ("strip of 1 station", mosaic(1), 0x11, 4, word(7, 1)),
-    ("strip of 2 stations", mosaic(2), 0x11, 6, word(7, 7, 1)),
-    ("strip of 3 stations", mosaic(3), 0x11, 8, word(7, 7, 7, 1)),
-    ("strip of 4 stations", mosaic(4), 0x11, 10, word(7, 7, 7, 7, 1)),
-    ("sorting head", b"", 0x20, 1, b"\x01"),
-    ("strip of a desk", S, 0x21, 5, b"\x01" + word(1, 1)),
-    ("flight head", b"", 0x30, 0, b""),
-    ("block", F, 0x31, 6, word(1, 0, 1)),
-    ("pass order", F + BLOCK, 0x32, 8, struct.pack("<Q", 2)),
+    ("mosaic head", b"", 0x10, b"\x01" + word(0)),
+    ("strip of 1 station", mosaic(1), 0x11, word(7, 1)),
+    ("strip of 2 stations", mosaic(2), 0x11, word(7, 7, 1)),
+    ("strip of 3 stations", mosaic(3), 0x11, word(7, 7, 7, 1)),
+    ("strip of 4 stations", mosaic(4), 0x11, word(7, 7, 7, 7, 1)),
+    ("sorting head", b"", 0x20, b"\x01"),
+    ("strip of a desk", S, 0x21, b"\x01" + word(1, 1)),
+    ("flight head", b"", 0x30, b"", 2),
+    ("flight head with a turn", b"", 0x30, word(MOST_TURN), 0),
+    ("block", F, 0x31, word(1, 0, 1)),
+    ("pass order", F + BLOCK, 0x32, struct.pack("<Q", 2)),
 ]
 
 
@@ -166,10 +169,10 @@ def of_length(content, length):
     return (content + b"\x01" * length)[:length]
 
 
-# Every length from 0 to 12 but the one that is due; the same low byte with another high byte, and the two bytes exchanged.
-for kind, before, tag, due, content in LENGTHS:
-    for length in [*range(13), due + 256, due * 256]:
-        if length != due:
+# Every length from 0 to 12 but those that are due; the same low byte with another high byte, and the two bytes exchanged.
+for kind, before, tag, content, *other in LENGTHS:
+    for length in [*range(13), len(content) + 256, len(content) * 256]:
+        if length not in (len(content), *other):
             refused("%s of %d bytes" % (kind, length), before + field(tag, of_length(content, length)), 5, len(before))
 for m in (1, 2, 3, 4):
     sound("a strip of %d stations" % m, mosaic(m) + strip(*[7] * m, 1), strips=1)
@@ -177,7 +180,7 @@ for m in (1, 2, 3, 4):
         refused("a strip of %d stations behind two of %d" % (n, m), mosaic(m) + strip(*[7] * m, 1) * 2 + strip(*[7] * n, 1), 5, 6 + 2 * (5 + 2 * m))
 
 # 3, 8, 10 and 4 go before 5, and 5 before all others.
-for kind, before, tag, due, content in LENGTHS:
+for kind, before, tag, content, *_ in LENGTHS:
     refused("3 goes before 5: " + kind, before + field(tag, content + b"\x01")[:-1], 3, len(before))
     if tag in (0x10, 0x20, 0x30):
         refused("8 goes before 5: " + kind, M + field(tag, content + b"\x01"), 8, 0)
@@ -189,6 +192,8 @@ for kind, before, tag, due, content in LENGTHS:
 for tag in sorted({*range(256)} - {0x10, 0x11, 0x20, 0x21, 0x30, 0x31, 0x32}):
     refused("tag %02X is not permitted" % tag, M + field(tag, bytes(tag % 11)), 4, 6)
 refused("5 goes before 6: stations 0", field(0x10, bytes(4)), 5, 0)
+refused("5 goes before 15: a turn of 601 in three bytes", field(0x30, word(MOST_TURN + 1) + b"\0"), 5, 0)
+refused("a flight head of one byte behind a mosaic", M + STRIP + field(0x30, b"\1"), 5, 13)
 refused("5 goes before 16: first pass 0", F + field(0x31, bytes(8)), 5, 3)
 refused("5 goes before 7: a 41st strip", M + STRIP * 40 + field(0x11, word(0, 1, 1)), 5, 6 + 7 * 40)
 refused("5 goes before 9: an order of seven bytes", F + BLOCK + field(0x32, bytes(7)), 5, 12)
@@ -211,6 +216,7 @@ def count(most):
     return {0: 6, most + 1: 6}, {255: 6}
 
 
+TURN = {MOST_TURN + 1: 15}, {0x0300: 15, MOST_TIME: 15, OVER: 15, 0xFFFF: 15}
 FROM_0 = {OVER: 15}, {0xEB00: 15, 0xFFFF: 15}
 FROM_1 = {0: 16, OVER: 15}, {0xEB00: 15, 0xFFFF: 15}
 
@@ -221,6 +227,7 @@ FIELDS = [
     *[("strip of %d stations" % m, mosaic(m), strip, [*[("station time %d" % k, 0, FROM_0) for k in range(1, m + 1)], BENCH]) for m in (1, 2, 3, 4)],
     ("sorting head", b"", sorting, [("desks", 1, count(3))]),
     ("strip for two desks", sorting(2), job, [("desk", 1, count(2)), ("scan time", 1, FROM_1), ("desk time", 1, FROM_1)]),
+    ("flight head", b"", flight, [("turn", 0, TURN)]),
     ("block", F, block, [("first pass", 1, FROM_1), ("delay", 0, FROM_0), ("second pass", 1, FROM_1)]),
 ]
 
@@ -285,10 +292,12 @@ for name, _, _, bad, _ in MEMBERS:
 refused("4 goes before 15: a second mosaic head", M + STRIP + mosaic(1, OVER), 4, 13)
 refused("4 goes before 6: a second sorting head", S + JOB + sorting(0), 4, 12)
 refused("4 goes before 15: a mosaic head behind the flight", F + BLOCK + mosaic(1, OVER), 4, 12)
+refused("4 goes before 15: a second flight head", F + BLOCK + flight(MOST_TURN + 1), 4, 12)
+refused("4 goes before 15: a flight head behind the order", F + BLOCK + order(2) + flight(MOST_TURN + 1), 4, 23)
 refused("4 goes before 16: a block behind the order", F + BLOCK + order(2) + block(0), 4, 23)
 
 # 8 and 10 of the section before go before the values of the head that ends it. A member ends no section.
-for head in (mosaic(0), mosaic(1, OVER), sorting(0), sorting(4)):
+for head in (mosaic(0), mosaic(1, OVER), sorting(0), sorting(4), flight(MOST_TURN + 1)):
     refused("8 goes before the values of head %s" % head.hex(), M + head, 8, 0)
     refused("8 goes before the values of head %s, behind a mosaic" % head.hex(), M + STRIP + S + head, 8, 13)
     refused("10 goes before the values of head %s" % head.hex(), F + BLOCK * 9 + head, 10, 0)
@@ -357,6 +366,54 @@ LONG_BLOCK = block(MOST_TIME, MOST_TIME, MOST_TIME)
 sound("the longest sections, a free flight", LONG_MOSAIC + LONG_SORTING + F + LONG_BLOCK * 8, strips=40, desks=(6, 6, 6), blocks=8)
 LONG = LONG_MOSAIC + LONG_SORTING + F + LONG_BLOCK * 32 + order(alternate(32))
 sound("the longest sections, a flight in order", LONG, strips=40, desks=(6, 6, 6), blocks=32, order_number=alternate(32))
+
+# The turn: both ends of its range, a low byte of 0, and two bytes that differ. Whether a delay is long enough for it is no matter of reading.
+G = flight(MOST_TURN)
+OVER_TURN = flight(MOST_TURN + 1)
+for turn in (0, 1, 255, 256, 258, 599, 600):
+    sound("turn %d" % turn, flight(turn) + BLOCK, blocks=1, turn=turn)
+    sound("turn %d, an order" % turn, flight(turn) + BLOCK * 2 + order(0xC), blocks=2, turn=turn, order_number=0xC)
+for before, strips, desks in [(M + STRIP, 1, (0, 0, 0)), (S + JOB, 0, (1, 0, 0)), (M + STRIP + S + JOB, 1, (1, 0, 0))]:
+    sound("turn 600 behind %d bytes" % len(before), before + G + BLOCK * 3, strips=strips, desks=desks, blocks=3, turn=600)
+    refused("turn 601 behind %d bytes" % len(before), before + OVER_TURN + BLOCK * 3, 15, len(before))
+sound("eight blocks, a turn and no order", G + BLOCK * 8, blocks=8, turn=600)
+sound("nine blocks, a turn and an order", G + BLOCK * 9 + order(alternate(9)), blocks=9, turn=600, order_number=alternate(9))
+sound("32 blocks, a turn and an order", G + BLOCK * 32 + order(LATE), blocks=32, turn=600, order_number=LATE)
+LONG_TURN = LONG_MOSAIC + LONG_SORTING + G + LONG_BLOCK * 32 + order(alternate(32))
+sound("the longest sections and the longest turn", LONG_TURN, strips=40, desks=(6, 6, 6), blocks=32, turn=600, order_number=alternate(32))
+
+# A turn over 600 is found when its head is read: before 8 and 10 of its own section, and before any fault behind it.
+for name, behind in [
+    ("nine blocks", BLOCK * 9),
+    ("32 blocks", BLOCK * 32),
+    ("another flight head", F),
+    ("a sorting", S + JOB),
+    ("a field that is cut", b"\x31"),
+    ("a tag that is not permitted", field(0x99)),
+    ("an order with no block before it", order(2)),
+    ("a block of a wrong length", field(0x31)),
+    ("a block with a first pass of 0", block(0)),
+    ("an order that is not proper", BLOCK + order(1)),
+]:
+    refused("turn 601, then " + name, OVER_TURN + behind, 15, 0)
+refused("15 and 16 in the sections before a turn of 601", M + strip(0, 0) + S + job(1, OVER) + OVER_TURN + BLOCK, 16, 6)
+refused("6 in the section before a turn of 601", S + job(0) + OVER_TURN + BLOCK, 6, 4)
+
+# Behind a good turn: 8 and 10 at the head, all others two bytes further on than behind an empty head.
+refused("a turn and no block", G, 8, 0)
+refused("a turn and no block, behind a mosaic", M + STRIP + G, 8, 13)
+refused("a turn and no block, ended by a second turn", G + G + BLOCK, 8, 0)
+refused("a turn, nine blocks", G + BLOCK * 9, 10, 0)
+refused("a turn, nine blocks, behind a sorting", S + JOB + G + BLOCK * 9, 10, 12)
+refused("a turn, 32 blocks and no order", G + BLOCK * 32, 10, 0)
+refused("a turn, 33 blocks", G + BLOCK * 33, 7, 5 + 9 * 32)
+refused("a turn, all bits for 32 blocks", G + BLOCK * 32 + order(2**64 - 1), 9, 5 + 9 * 32)
+refused("a head of two bytes that is cut behind its length", b"\x30\x02\x00", 3, 0)
+refused("an empty head, then the two bytes of a turn", F + word(MOST_TURN), 3, 3)
+for name, sheet, line in [case for case in CASES if case[1].startswith(F) and len(case[1]) < 120]:
+    number, place = map(int, line.split()[:2])
+    shifted = line if place < len(F) else "%d %d" % (number, place + 2)
+    CASES.append(("a written 0: " + name, flight(0) + sheet[len(F):], shifted))
 
 
 def files():
