@@ -10,7 +10,7 @@ import struct
 import sys
 
 import sheet_cases as sheets
-from sheet_cases import OVER, block, field, flight, job, mosaic, order, sorting, strip, word
+from sheet_cases import MOST_TURN, OVER, block, field, flight, job, mosaic, order, sorting, strip, word
 
 FOLDER = sheets.FOLDER.parent / "judge_cases"
 CEILING = 10_000_000
@@ -92,6 +92,7 @@ BAD_SHEETS = [
     ("desk 3 of 2", M + ONE_JOB + job(3, 1, 1) + F, 6, len(M + ONE_JOB)),
     ("scan time 0, desk time 60,001", M + ONE_JOB + job(2, 0, OVER) + F, 16, len(M + ONE_JOB)),
     ("desk time 60,001", M + ONE_JOB + job(2, 1, OVER) + F, 15, len(M + ONE_JOB)),
+    ("turn 601", M + S + flight(MOST_TURN + 1) + F[3:], 15, len(M + S)),
     ("first pass 60,001, second pass 0", M + S + ONE_BLOCK + block(OVER, 2, 0), 15, len(M + S + ONE_BLOCK)),
     ("second pass 0", M + S + ONE_BLOCK + block(1, 2, 0), 16, len(M + S + ONE_BLOCK)),
 ]
@@ -179,6 +180,83 @@ ONE = flight() + block(1, 0, 1)
 allowed("a pass that ends at the ceiling", ONE, passes(CEILING, 2, (CEILING - 2, CEILING - 1)), 0, 0, CEILING)
 refused("a pass that ends past the ceiling", ONE, passes(CEILING + 1, 2, (CEILING - 1, CEILING)), 13, 15)
 
+
+
+# The turn: passes of 1, 2, .. seconds in an order, with given gaps between them. Gaps as long as the turn are allowed and a longer one too; one a second shorter is
+# 13 at the head, before 14, whichever passes it lies between.
+def flown(number, *gaps):
+    """The blocks of such a flight, their starts, and the end."""
+    starts, lengths, now = ([], []), ([], []), 0
+    for k, gap in enumerate((*gaps, 0)):
+        second = number >> k & 1
+        starts[second].append(now)
+        lengths[second].append(k + 1)
+        now += k + 1 + gap
+    blocks = [block(a, y - x - a, b) for x, y, a, b in zip(*starts, *lengths)]
+    return b"".join(blocks), list(zip(*starts)), now
+
+
+def turns(number, turn, given, *gaps):
+    """The sheet of such a flight with a turn, and its plans with the true figure and with an untrue one."""
+    blocks, starts, end = flown(number, *gaps)
+    sheet = flight(turn) + blocks + (order(number) if given else b"")
+    return sheet, end, passes(end, number, *starts), passes(end + 1, number, *starts)
+
+
+def try_turns(number, count, turn, given):
+    name = "order %X, %s, turn %d" % (number, "given" if given else "free", turn)
+    sheet, end, plan, untrue = turns(number, turn, given, *[turn] * count)
+    allowed(name, sheet, plan, 0, 0, end)
+    refused(name + ", an untrue figure", sheet, untrue, 14, 0)
+    for k in range(count):
+        gaps = lambda gap: [turn] * k + [gap] + [turn] * (count - k - 1)
+        sheet, end, plan, untrue = turns(number, turn, given, *gaps(turn - 1))
+        refused("%s, gap %d too short" % (name, k + 1), sheet, plan, 13, 0)
+        refused("%s, gap %d too short, an untrue figure" % (name, k + 1), sheet, untrue, 13, 0)
+        sheet, end, plan, _ = turns(number, turn, given, *gaps(turn + 1))
+        allowed("%s, gap %d longer" % (name, k + 1), sheet, plan, 0, 0, end)
+
+
+for number, count in [(0x2, 1), (0xA, 3), (0xC, 3)]:
+    for turn, given in [(1, False), (1, True), (MOST_TURN, False), (MOST_TURN, True)]:
+        try_turns(number, count, turn, given)
+try_turns(0x2C, 5, 7, False)
+
+# A written 0 is as an empty head.
+allowed("passes that touch, a written 0", flight(0) + LONG[3:], passes(14, 0xC, (0, 8), (4, 12)), 0, 0, 14)
+refused("passes that overlap by one second, a written 0", flight(0) + LONG[3:], passes(13, 0xC, (0, 8), (3, 11)), 13, 0)
+refused("passes that touch, a turn of 1", flight(1) + LONG[3:], passes(14, 0xC, (0, 8), (4, 12)), 13, 0)
+# The turn is due behind each pass and not before the first one; members go first, then the head, then the figure.
+TURNED = flight(2) + block(1, 5, 1) * 2
+allowed("a turn, passes from 0 on", TURNED, passes(10, 0xC, (0, 6), (3, 9)), 0, 0, 10)
+allowed("a turn, passes from 1 on", TURNED, passes(11, 0xC, (1, 7), (4, 10)), 0, 0, 11)
+refused("a turn too short and a delay one second short", TURNED, passes(9, 0xC, (0, 6), (3, 8)), 13, 26)
+refused("a turn too short and a block past the ceiling", TURNED, passes(CEILING + 1, 0xC, (CEILING - 10, CEILING - 4), (CEILING - 6, CEILING)), 13, 26)
+refused("a turn too short and a block missing", TURNED, passes(7, 0xC, (0, 6)), 13, 0)
+refused("a turn too short and an order number that is not kept", TURNED, passes(9, 0xA, (0, 6), (2, 8)), 13, 0)
+allowed("a turn, up to the ceiling", TURNED, passes(CEILING, 0xC, (CEILING - 10, CEILING - 4), (CEILING - 7, CEILING - 1)), 0, 0, CEILING)
+refused("a turn, one past the ceiling", TURNED, passes(CEILING + 1, 0xC, (CEILING - 9, CEILING - 3), (CEILING - 6, CEILING)), 13, 26)
+# Behind other sections.
+BEFORE = PLAN[:-37]
+allowed("a turn behind two sections", M + S + TURNED, BEFORE + passes(10, 0xC, (0, 6), (3, 9)), 36, 10, 10)
+refused("a turn too short behind two sections", M + S + TURNED, BEFORE + passes(9, 0xC, (0, 6), (2, 8)), 13, len(BEFORE))
+refused("the same with an untrue figure", M + S + TURNED, BEFORE + passes(8, 0xC, (0, 6), (2, 8)), 13, len(BEFORE))
+refused("an untrue mosaic figure and a turn too short", M + TURNED, batches(37) + BEST[7:] + passes(9, 0xC, (0, 6), (2, 8)), 14, 0)
+refused("a turn too short and a byte behind the plan", TURNED, passes(9, 0xC, (0, 6), (2, 8)) + b"\0", 12, 37)
+
+# A sheet that is impossible by its turn: no plan of it is allowed, and 11 is not given.
+NEVER = flight(5) + block(1, 4, 1)
+refused("a delay below the turn", NEVER, passes(6, 2, (0, 5)), 13, 0)
+refused("a delay below the turn, an untrue figure", NEVER, passes(5, 2, (0, 5)), 13, 0)
+refused("a delay below the turn, the turn kept", NEVER, passes(7, 2, (0, 6)), 13, 15)
+refused("a delay below the turn, no block", NEVER, passes(6, 2), 13, 0)
+refused("a delay below the turn, an empty plan", NEVER, b"", 12, 0)
+refused("a delay below the turn, an untrue mosaic figure", M + NEVER, batches(37) + BEST[7:] + passes(6, 2, (0, 5)), 14, 0)
+TIGHT = flight(1) + block(1, 2, 1) * 2
+allowed("a turn of 1, order A", TIGHT + order(0xA), passes(9, 0xA, (0, 3), (5, 8)), 0, 0, 9)
+refused("a turn of 1, order C cannot be kept", TIGHT + order(0xC), passes(5, 0xC, (0, 3), (1, 4)), 13, 0)
+refused("a turn of 1, order C given, order A flown", TIGHT + order(0xC), passes(9, 0xA, (0, 3), (5, 8)), 13, 0)
+
 # The longest sections: full ones in which every time is 60,000. Without idle time, with the last member as late as it may be, and one later.
 TIME = sheets.MOST_TIME
 ALONE = [(k, (2 * k - 1) * TIME, (2 * k + 1) * TIME) for k in range(1, 41)]
@@ -210,6 +288,16 @@ late = lambda over: [(first + CEILING + over - 64 * TIME, second + CEILING + ove
 allowed("the longest flight, all of it up to the ceiling", LONG_FLIGHT + order(BY_TWO), passes(CEILING, BY_TWO, *late(0)), 0, 0, CEILING)
 refused("the longest flight, all of it one past the ceiling", LONG_FLIGHT + order(BY_TWO), passes(CEILING + 1, BY_TWO, *late(1)), 13, 15 + 11 * 31)
 refused("the longest flight, its delay one second short", LONG_FLIGHT + order(BY_ONE), passes(96 * TIME, BY_ONE, (0, 2 * TIME - 1), *ONE_BY_ONE[1:]), 13, 15)
+
+TURNED_FLIGHT = flight(MOST_TURN) + sheets.LONG_BLOCK * 32 + order(BY_ONE)
+LAST_END = 96 * TIME + 31 * MOST_TURN
+TURNED_STARTS = [(first + k * MOST_TURN, second + k * MOST_TURN) for k, (first, second) in enumerate(ONE_BY_ONE)]
+EARLY = [*TURNED_STARTS[:-1], tuple(start - 1 for start in TURNED_STARTS[-1])]
+allowed("the longest flight and the longest turn", TURNED_FLIGHT, passes(LAST_END, BY_ONE, *TURNED_STARTS), 0, 0, LAST_END)
+refused("the longest flight, the last turn one second short", TURNED_FLIGHT, passes(LAST_END - 1, BY_ONE, *EARLY), 13, 0)
+late = lambda over: [*TURNED_STARTS[:-1], (CEILING + over - 3 * TIME, CEILING + over - TIME)]
+allowed("the longest flight and the longest turn, up to the ceiling", TURNED_FLIGHT, passes(CEILING, BY_ONE, *late(0)), 0, 0, CEILING)
+refused("the longest flight and the longest turn, one past the ceiling", TURNED_FLIGHT, passes(CEILING + 1, BY_ONE, *late(1)), 13, 15 + 11 * 31)
 
 LONG_PLAN = batches(1680 * TIME, *ALONE) + jobs(189 * TIME, *IN_TURN) + passes(96 * TIME, BY_ONE, *ONE_BY_ONE)
 allowed("the longest sections", sheets.LONG, LONG_PLAN, 1680 * TIME, 189 * TIME, 96 * TIME)
