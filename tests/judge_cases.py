@@ -182,8 +182,8 @@ refused("a pass that ends past the ceiling", ONE, passes(CEILING + 1, 2, (CEILIN
 
 
 
-# The turn: passes of 1, 2, .. seconds in an order, with given gaps between them. Gaps as long as the turn are allowed and a longer one too; one a second shorter is
-# 13 at the head, before 14, whichever passes it lies between.
+# The turn: passes of 1, 2, .. seconds in an order, with given gaps between them. Gaps as long as the turn are allowed, and longer ones; one that is a second
+# shorter is 13 at the head, before 14, whichever passes it lies between.
 def flown(number, *gaps):
     """The blocks of such a flight, their starts, and the end."""
     starts, lengths, now = ([], []), ([], []), 0
