@@ -2,6 +2,7 @@
 """Runs the program plan_sheet on sheets and compares what it writes: the plan of each worked sheet of 01, and the refusal of every sheet that sheet_cases.py turns back.
 Where a sheet has several best batchings or free pass orders, the choice is left to the program: then the figures of the plan and the bytes of its sorting are
 compared, and the program judge_plan must allow it. Of several best scanner lists one is due: its bytes are compared, and judge_plan must allow the others too.
+A written turn of 0 must give the plan that an empty head gives.
 
     plan_cases.py PLANNER JUDGE
 """
@@ -15,11 +16,12 @@ import tempfile
 import judge_cases as judged
 import sheet_cases as sheets
 from judge_cases import batches, four, jobs, passes
-from sheet_cases import alternate, block, field, flight, job, mosaic, order, sorting, strip, word
+from sheet_cases import MOST_TURN, alternate, block, field, flight, job, mosaic, order, sorting, strip, word
 
 CASES = []
 BEST = []
 OTHERS = []
+SAME = []
 
 
 def planned(name, sheet, plan):
@@ -41,8 +43,13 @@ def refused(name, sheet, number, place):
     CASES.append((name, sheet, field(0xE0, word(number) + four(place))))
 
 
-def end_in_order(blocks, order_number):
-    """The end of the last pass of a flight in an order, each pass as early as it can be; None where no timetable keeps the order."""
+def same(name, before, members):
+    """A flight behind other sections: an empty head and a written turn of 0 have the same plan."""
+    SAME.append((name, before + flight() + members, before + flight(0) + members))
+
+
+def starts_in_order(blocks, order_number, turn=0):
+    """The starts of a flight in an order with a turn, each pass as early as it can be; None where no timetable keeps the order."""
     n = len(blocks)
     seconds = [order_number >> k & 1 for k in range(2 * n)]
     turns = [(sum(seconds[:k]) if second else k - sum(seconds[:k]), second) for k, second in enumerate(seconds)]
@@ -51,21 +58,29 @@ def end_in_order(blocks, order_number):
     for _ in range(n + 1):
         before = list(starts)
         for (a, x), (b, y) in zip(turns, turns[1:]):
-            end = start(a, x) + blocks[a][2 if x else 0]
-            starts[b] = max(starts[b], end - (start(b, y) - starts[b]))
+            clear = start(a, x) + blocks[a][2 if x else 0] + turn
+            starts[b] = max(starts[b], clear - (start(b, y) - starts[b]))
         if starts == before:
-            return max(start(block, 1) + blocks[block][2] for block in range(n))
+            return [(start(block, 0), start(block, 1)) for block in range(n)]
     return None
 
 
-def least_end(blocks):
-    """The least end over all proper orders, each tried."""
-    n = len(blocks)
-    ends = []
+def end_of(blocks, starts):
+    """The end of the last pass."""
+    return max(second + b for (_, _, b), (_, second) in zip(blocks, starts))
+
+
+def proper_orders(n):
+    """The numbers of all proper orders of n blocks."""
     for ones in itertools.combinations(range(2 * n), n):
         if all(2 * sum(one < k for one in ones) <= k for k in range(2 * n + 1)):
-            ends.append(end_in_order(blocks, sum(1 << one for one in ones)))
-    return min(end for end in ends if end is not None)
+            yield sum(1 << one for one in ones)
+
+
+def least_end(blocks, turn=0):
+    """The least end over all proper orders, each tried; None where none has a timetable."""
+    timetables = [starts_in_order(blocks, number, turn) for number in proper_orders(len(blocks))]
+    return min((end_of(blocks, starts) for starts in timetables if starts is not None), default=None)
 
 
 def least_sum(ready, mount, bench):
@@ -182,6 +197,117 @@ best("the longest sections, a free flight", FREE_LONG, SUM, 189 * T, 16 * T, sor
 refused("order C cannot be kept", judged.A + order(0xC), 11, len(judged.A))
 refused("order C cannot be kept behind two sections", judged.M + judged.S + judged.A + order(0xC), 11, len(judged.M + judged.S + judged.A))
 
+# The turn. A free flight with a delay below it is impossible: 11 at the flight head, with a given order at the order field.
+for turn in (1, 2, 256, 599, MOST_TURN):
+    for delay in (turn, turn + 1):
+        planned("turn %d, delay %d" % (turn, delay), flight(turn) + block(1, delay, 1), passes(delay + 2, 2, (0, delay + 1)))
+        planned("turn %d, delay %d, order 2" % (turn, delay), flight(turn) + block(1, delay, 1) + order(2), passes(delay + 2, 2, (0, delay + 1)))
+    refused("turn %d, delay %d" % (turn, turn - 1), flight(turn) + block(1, turn - 1, 1), 11, 0)
+    refused("turn %d, delay %d, order 2" % (turn, turn - 1), flight(turn) + block(1, turn - 1, 1) + order(2), 11, 14)
+for name, before, plan in [
+    ("a mosaic", judged.M, judged.BEST),
+    ("a sorting", judged.S, judged.PLAN[55:-37]),
+    ("two sections", judged.M + judged.S, judged.PLAN[:-37]),
+]:
+    refused("a delay below the turn behind " + name, before + judged.NEVER, 11, len(before))
+    refused("the same with an order, behind " + name, before + judged.NEVER + order(2), 11, len(before + judged.NEVER))
+    planned("a turn behind " + name, before + flight(4) + block(1, 4, 1), plan + passes(6, 2, (0, 5)))
+
+# Any block may be the one with the short delay. With delays of 600 and a turn of 600 one block follows another: 1 + 600 + 1 + 600 seconds each.
+BY_TURNS = [(1202 * k, 1202 * k + 601) for k in range(8)]
+planned("eight blocks, delays of 600, turn 600", flight(MOST_TURN) + block(1, 600, 1) * 8, passes(8 * 1202 - 600, alternate(8), *BY_TURNS))
+for k in range(8):
+    one_short = block(1, 600, 1) * k + block(1, 599, 1) + block(1, 600, 1) * (7 - k)
+    refused("the same with a delay of 599 of block %d" % (k + 1), flight(MOST_TURN) + one_short, 11, 0)
+refused("nine blocks, a delay below the turn", flight(MOST_TURN) + block(1, 0, 1) * 9, 10, 0)
+refused("nine blocks with an order, a delay below the turn", flight(1) + block(1, 0, 1) * 9 + order(alternate(9)), 11, 5 + 9 * 9)
+
+# A delay takes in another block's pass and two turns, or nothing.
+planned("two blocks, turn 600, delays of 1,201", flight(600) + block(1, 1201, 1) * 2, passes(1804, 0xC, (0, 1202), (601, 1803)))
+planned("two blocks, turn 600, delays of 1,200", flight(600) + block(1, 1200, 1) * 2, passes(3004, 0xA, (0, 1201), (1802, 3003)))
+planned("order A, turn 600, delays of 1,201", flight(600) + block(1, 1201, 1) * 2 + order(0xA), passes(3006, 0xA, (0, 1202), (1803, 3005)))
+refused("order C, turn 600, delays of 1,200", flight(600) + block(1, 1200, 1) * 2 + order(0xC), 11, 23)
+planned("a turn of 1, no order", judged.TIGHT, passes(9, 0xA, (0, 3), (5, 8)))
+planned("a turn of 1, order A", judged.TIGHT + order(0xA), passes(9, 0xA, (0, 3), (5, 8)))
+refused("a turn of 1, order C", judged.TIGHT + order(0xC), 11, 23)
+planned("a turn of 2, no order", judged.TURNED, passes(10, 0xC, (0, 6), (3, 9)))
+planned("a turn of 2, order A", judged.TURNED + order(0xA), passes(16, 0xA, (0, 6), (9, 15)))
+
+# 000's blocks with turns: four of them in every order and without one, all eight without order and block after block. The least delay is 4.
+FOUR = sheets.EIGHT[:4]
+for turn in range(6):
+    head = flight(turn) + b"".join(block(*b) for b in FOUR)
+    for number in proper_orders(4):
+        starts = starts_in_order(FOUR, number, turn)
+        name = "four blocks, turn %d, order %X" % (turn, number)
+        if starts is None:
+            refused(name, head + order(number), 11, len(head))
+        else:
+            planned(name, head + order(number), passes(end_of(FOUR, starts), number, *starts))
+    for blocks in (FOUR, sheets.EIGHT):
+        name, sheet = "%d blocks without order, turn %d" % (len(blocks), turn), flight(turn) + b"".join(block(*b) for b in blocks)
+        if turn <= 4:
+            best(name, sheet, 0, 0, least_end(blocks, turn))
+        else:
+            refused(name, sheet, 11, 0)
+AFTER = starts_in_order(sheets.EIGHT, alternate(8), 4)
+planned("eight blocks one after another, turn 4", flight(4) + judged.E[3:] + order(alternate(8)), passes(end_of(sheets.EIGHT, AFTER), alternate(8), *AFTER))
+
+# The longest flights with the longest turn. Block after block nothing else waits; a delay of 60,000 takes in a pass of 58,800 and two turns, and all other
+# first passes where 31 of them and 32 turns take no more than that: 31 * 1,316 + 19,200 = 59,996 seconds.
+planned("32 blocks, time 60,000 in every time, turn 600", judged.TURNED_FLIGHT, passes(judged.LAST_END, judged.BY_ONE, *judged.TURNED_STARTS))
+planned(
+    "8 free blocks, time 60,000 in every time, turn 600",
+    flight(MOST_TURN) + sheets.LONG_BLOCK * 8,
+    passes(24 * T + 7 * MOST_TURN, alternate(8), *judged.TURNED_STARTS[:8]),
+)
+STEP = T - MOST_TURN  # from start to start: 58,800 and a turn
+in_pairs = lambda time: flight(MOST_TURN) + block(time, T, time) * 32 + order(judged.BY_TWO)
+PAIRS = [(first // T * STEP, second // T * STEP) for first, second in judged.TWO_BY_TWO]
+planned("32 blocks two by two, passes of 58,800, turn 600", in_pairs(STEP - MOST_TURN), passes(64 * STEP - MOST_TURN, judged.BY_TWO, *PAIRS))
+refused("32 blocks two by two, passes of 58,801, turn 600", in_pairs(STEP - MOST_TURN + 1), 11, 5 + 9 * 32)
+TURNED_PASS = (T - 32 * MOST_TURN) // 31
+planned(
+    "32 blocks, delays of 60,000, all first passes first, turn 600",
+    flight(MOST_TURN) + block(TURNED_PASS, T, TURNED_PASS) * 32 + order(FIRSTS_FIRST),
+    passes(
+        33 * TURNED_PASS + 31 * MOST_TURN + T,
+        FIRSTS_FIRST,
+        *[(k * (TURNED_PASS + MOST_TURN), (k + 1) * TURNED_PASS + k * MOST_TURN + T) for k in range(32)],
+    ),
+)
+refused(
+    "the same with passes one second longer, turn 600",
+    flight(MOST_TURN) + block(TURNED_PASS + 1, T, TURNED_PASS + 1) * 32 + order(FIRSTS_FIRST),
+    11,
+    5 + 9 * 32,
+)
+best("the longest sections and the longest turn", sheets.LONG_TURN, SUM, 189 * T, judged.LAST_END, sorting_part=DESK_AFTER_DESK)
+
+# A written 0 is as an empty head; the places behind it are two higher.
+for name, before, members in [
+    ("one block", b"", block(3, 4, 1)),
+    ("two blocks", b"", judged.F[3:]),
+    ("order A", b"", judged.A[3:] + order(0xA)),
+    ("000's eight blocks", b"", judged.E[3:]),
+    ("000's eight blocks and an order", b"", judged.E[3:] + order(0xF2C4)),
+    ("eight equal blocks", b"", block(5, 20, 5) * 8),
+    ("eight blocks with delays of 0", b"", block(1, 0, 1) * 8),
+    ("32 blocks", b"", sheets.LONG_BLOCK * 32 + order(judged.BY_TWO)),
+    ("all three sections", judged.M + judged.S, judged.F[3:]),
+    ("nine blocks without order", judged.M, block() * 9),
+]:
+    same(name, before, members)
+refused("order C cannot be kept, a written 0", flight(0) + judged.A[3:] + order(0xC), 11, len(judged.A) + 2)
+
+# A turn of 601 is 15: the bytes of the whole answer. All other numbers go before 11, also before 11 at the flight head.
+CASES.append(("a turn of 601 behind a mosaic", judged.M + flight(601) + block(), bytes.fromhex("E0 06 00 0F 00 2A 00 00 00")))
+CASES.append(("a delay below the turn behind a mosaic", judged.M + judged.NEVER, bytes.fromhex("E0 06 00 0B 00 2A 00 00 00")))
+refused("a delay below the turn, then a first pass of 0", judged.NEVER + block(0), 16, 14)
+refused("a delay below the turn, then an order that is not proper", judged.NEVER + order(1), 9, 14)
+refused("a delay below the turn, then a mosaic", judged.NEVER + judged.M, 4, 14)
+refused("a delay below the turn, then a byte", judged.NEVER + b"\x31", 3, 14)
+
 # 6, 15 and 16 go before 11.
 refused("no desk, order C cannot be kept", judged.M + sorting(0) + judged.A + order(0xC), 6, len(judged.M))
 refused("mount time 60,001, order C cannot be kept", mosaic(2, T + 1) + judged.M[6:] + judged.A + order(0xC), 15, 0)
@@ -230,7 +356,13 @@ def main(program, judge):
         if verdict != (0, 0, *figures):
             wrong += 1
             print("%s: sheet %s, plan %s\n  due     figures %s\n  judged  %s" % (name, sheet.hex(), plan.hex(), figures, verdict))
-    print("%d sheets planned or refused by %s, %d best sortings judged, %d wrong" % (len(CASES) + len(BEST), program, len(OTHERS), wrong))
+    for name, sheet, other in SAME:
+        plans = written(program, sheet), written(program, other)
+        if plans[0] != plans[1]:
+            wrong += 1
+            print("%s: sheets %s and %s\n  an empty head %s\n  a written 0   %s" % (name, sheet.hex(), other.hex(), plans[0].hex(), plans[1].hex()))
+    counts = len(CASES) + len(BEST) + len(SAME), program, len(OTHERS), wrong
+    print("%d sheets planned or refused by %s, %d best sortings judged, %d wrong" % counts)
     sys.exit(1 if wrong else 0)
 
 
