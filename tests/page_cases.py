@@ -15,7 +15,7 @@ import tempfile
 import judge_cases as judged
 import sheet_cases as sheets
 from judge_cases import CEILING, batches, four, jobs, passes
-from sheet_cases import field, job, mosaic, order, sorting, strip, word
+from sheet_cases import MOST_TIME, MOST_TURN, block, field, flight, job, mosaic, order, sorting, strip, word
 
 LEAST_ROOM = 3069
 FILL, BEHIND = b"\xA5", 16
@@ -120,6 +120,19 @@ printed(
     "F  7              21          27",
     "F  8              22          29",
 )
+# The turn is not printed: only the starts show it.
+printed(
+    "two blocks and a turn", judged.TURNED, passes(10, 0xC, (0, 6), (3, 9)),
+    "f                             10",
+    "F  1               0           6",
+    "F  2               3           9",
+)
+printed(
+    "the longest delay and the longest turn", flight(MOST_TURN) + block(1, MOST_TIME, 1) * 2, passes(60603, 0xC, (0, 60001), (601, 60602)),
+    "f                          60603",
+    "F  1               0       60001",
+    "F  2             601       60602",
+)
 
 # Numbers of one digit and of eight; a figure of nine.
 printed(
@@ -181,6 +194,7 @@ for name, sheet, line in sheets.CASES:
     if number != 0:
         refused(name, sheet, judged.PLAN, number, place)
 refused("a plan with an order that is impossible", judged.A + order(0xC), passes(9, 0xA, (0, 1), (2, 8)), 13, 0)
+refused("a plan with a turn that is too short", judged.TURNED, passes(9, 0xC, (0, 6), (2, 8)), 13, 0)
 
 # The program takes the first 65,536 bytes of each file, the function all of them: (sheet, plan, by the program, by the function).
 MEMBER = judged.BEST[-12:]
