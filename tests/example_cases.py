@@ -1,9 +1,9 @@
 #!/usr/bin/env python3
 """Compares the files of examples/ and the worked sheets of docs/FORMAT.md with each other and with what the programs write.
 
-Every .sheet has a .txt with its bytes, one field a line; every .plan is what plan_sheet writes for its sheet and has a .page, which is what print_page writes
-for both; every .timetable is what the viewer prints, its page behind it; and the bytes of each file that docs/FORMAT.md shows, with their offsets, or the lines
-of a page, are those of the file.
+Every .sheet has a .txt with its bytes, one field a line; a sheet whose .txt says that it is refused is refused with that number and place; every .plan is what
+plan_sheet writes for its sheet and has a .page, which is what print_page writes for both; every .timetable is what the viewer prints, its page behind it; and
+the bytes of each file that docs/FORMAT.md shows, with their offsets, or the lines of a page, are those of the file.
 
     example_cases.py PLANNER PRINTER VIEWER
 """
@@ -14,6 +14,7 @@ import sys
 
 ROOT = pathlib.Path(__file__).resolve().parent.parent
 EXAMPLES = ROOT / "examples"
+REFUSED = re.compile(r"refused with (\d+) at place (\d+)")
 FIELD = re.compile(r"[0-9A-F]{2}(?: [0-9A-F]{2})*")
 SHOWN = re.compile(r"`examples/(\S+)`:")
 SHOWN_FIELD = re.compile(r" +(\d+)  ([0-9A-F]{2}(?: [0-9A-F]{2})*)  ")
@@ -52,6 +53,16 @@ def compare_sheets():
     return len(texts)
 
 
+def compare_refusals(written):
+    """What plan_sheet writes for each sheet that its text calls refused."""
+    paths = sorted(path for path in EXAMPLES.glob("*.txt") if REFUSED.search(path.read_text()))
+    for path in paths:
+        number, place = map(int, REFUSED.search(path.read_text()).groups())
+        due = b"\xE0\x06\x00" + number.to_bytes(2, "little") + place.to_bytes(4, "little")
+        compare("%s: the refusal" % path.name, written(path.with_suffix(".sheet")), due)
+    return len(paths)
+
+
 def compare_written(ending, written):
     """Each file of an ending with what a program writes for its sheet."""
     paths = sorted(EXAMPLES.glob("*" + ending))
@@ -85,8 +96,10 @@ def compare_pages():
 
 
 def main(planner, printer, viewer):
+    planned = lambda sheet: subprocess.run([planner], stdin=open(sheet, "rb"), stdout=subprocess.PIPE).stdout
     sheets = compare_sheets()
-    plans = compare_written(".plan", lambda sheet: subprocess.run([planner], stdin=open(sheet, "rb"), stdout=subprocess.PIPE).stdout)
+    refusals = compare_refusals(planned)
+    plans = compare_written(".plan", planned)
     pages = compare_written(".page", lambda sheet: subprocess.run([printer, sheet, sheet.with_suffix(".plan")], stdout=subprocess.PIPE).stdout)
     timetables = compare_written(".timetable", lambda sheet: subprocess.run([viewer, sheet], stdout=subprocess.PIPE).stdout)
     compare_pages()
@@ -95,8 +108,8 @@ def main(planner, printer, viewer):
         compare("docs/FORMAT.md: %s" % name, content, (EXAMPLES / name).read_bytes())
     for line in wrong:
         print(line)
-    counts = sheets, plans, pages, timetables, len(shown)
-    print("examples: %d sheets, %d plans, %d pages, %d timetables, %d files shown in docs/FORMAT.md, %d wrong" % (*counts, len(wrong)))
+    counts = sheets, refusals, plans, pages, timetables, len(shown)
+    print("examples: %d sheets, %d of them refused, %d plans, %d pages, %d timetables, %d files shown in docs/FORMAT.md, %d wrong" % (*counts, len(wrong)))
     sys.exit(1 if wrong or min(counts) == 0 else 0)
 
 
