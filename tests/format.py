@@ -1,8 +1,9 @@
 #!/usr/bin/env python3
 """Compares docs/FORMAT.md with the code that gives the length due for a field (02, Req 05).
 
-Of the table of fields: each length is the sum of the bytes of its content. Of the table of lengths: its rows are those of the table of fields, 11 once for each
-station count, and two for what has no length: 11 with any other count, and any other tag; its cases are those of `length_due`, in their order, and give its lengths.
+Of the table of fields: each length is the sum of the bytes of its content, and "0 or" that sum where the content may be left out. Of the table of lengths: its
+rows are those of the table of fields, 11 once for each station count, and two for what has no length: 11 with any other count, and any other tag; its cases are
+those of `length_due`, in their order, and give its lengths.
 Ends with status 1 and the first difference.
 """
 import pathlib
@@ -50,9 +51,11 @@ def with_stations(tag, length, content, m):
             numbers.append(("%d station time%s" % (m, "s" if m > 1 else ""), 2 * m))
         else:
             numbers.append((name, int(width)))
-    due = sum(width for _, width in numbers)
-    same("tag %s: its length and the sum of its bytes" % tag, 2 * m + 2 if length == "2 m + 2" else int(length), due)
-    return due, " + ".join("%s (%d)" % number for number in numbers) or "nothing"
+    due, words = str(sum(width for _, width in numbers)), " + ".join("%s (%d)" % number for number in numbers)
+    if length.startswith("0 or "):
+        due, words = "0 or " + due, "nothing, or " + words
+    same("tag %s: its length and the sum of its bytes" % tag, str(2 * m + 2) if length == "2 m + 2" else length, due)
+    return due, words
 
 
 def lengths_of_fields():
@@ -60,7 +63,7 @@ def lengths_of_fields():
     for tag, length, content in fields():
         for m in STATIONS if length == "2 m + 2" else [0]:
             due, words = with_stations(tag, length, content, m)
-            yield tag, str(m or ""), words, str(due)
+            yield tag, str(m or ""), words, due
         if length == "2 m + 2":
             yield tag, "other", "none: a head has 1 to 4 stations", "none"
     yield "other", "", "none: the tag is not in the table", "none"
@@ -84,13 +87,21 @@ def cases_of_code():
             yield "other" if pattern == "_" else names[pattern], "", line
 
 
+def answer(length):
+    """The answer of the case that gives a length of the table."""
+    if length == "none":
+        return "LengthDue::None"
+    if " or " in length:
+        return "LengthDue::Either(%s)" % length.replace(" or ", ", ")
+    return "LengthDue::Bytes(%s)" % length
+
+
 def main():
     rows = [tuple(row) for row in table(["tag", "stations", "content", "length", "case"])]
     same("docs/FORMAT.md: rows of lengths, and rows by the table of fields", [row[:4] for row in rows], list(lengths_of_fields()))
     same("docs/FORMAT.md: cases, and cases of the code", [(tag, m, case.strip("`")) for tag, m, _, _, case in rows], list(cases_of_code()))
     for tag, m, _, length, case in rows:
-        given = "LengthDue::None" if length == "none" else "LengthDue::Bytes(%s)" % length
-        same("tag %s %s: length and case" % (tag, m), given, case.strip("`").split(" => ")[1].rstrip(","))
+        same("tag %s %s: length and case" % (tag, m), answer(length), case.strip("`").split(" => ")[1].removesuffix(","))
     print("%d lengths of docs/FORMAT.md are those of the code" % len(rows))
 
 
