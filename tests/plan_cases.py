@@ -206,8 +206,8 @@ for turn in (1, 2, 256, 599, MOST_TURN):
     refused("turn %d, delay %d, order 2" % (turn, turn - 1), flight(turn) + block(1, turn - 1, 1) + order(2), 11, 14)
 for name, before, plan in [
     ("a mosaic", judged.M, judged.BEST),
-    ("a sorting", judged.S, judged.PLAN[55:-37]),
-    ("two sections", judged.M + judged.S, judged.PLAN[:-37]),
+    ("a sorting", judged.S, judged.BEFORE[len(judged.BEST):]),
+    ("two sections", judged.M + judged.S, judged.BEFORE),
 ]:
     refused("a delay below the turn behind " + name, before + judged.NEVER, 11, len(before))
     refused("the same with an order, behind " + name, before + judged.NEVER + order(2), 11, len(before + judged.NEVER))
@@ -222,7 +222,7 @@ for k in range(8):
 refused("nine blocks, a delay below the turn", flight(MOST_TURN) + block(1, 0, 1) * 9, 10, 0)
 refused("nine blocks with an order, a delay below the turn", flight(1) + block(1, 0, 1) * 9 + order(alternate(9)), 11, 5 + 9 * 9)
 
-# A delay takes in another block's pass and two turns, or nothing.
+# Between its passes a block takes in a pass of another one where its delay is as long as that pass and two turns.
 planned("two blocks, turn 600, delays of 1,201", flight(600) + block(1, 1201, 1) * 2, passes(1804, 0xC, (0, 1202), (601, 1803)))
 planned("two blocks, turn 600, delays of 1,200", flight(600) + block(1, 1200, 1) * 2, passes(3004, 0xA, (0, 1201), (1802, 3003)))
 planned("order A, turn 600, delays of 1,201", flight(600) + block(1, 1201, 1) * 2 + order(0xA), passes(3006, 0xA, (0, 1202), (1803, 3005)))
@@ -253,8 +253,8 @@ for turn in range(6):
 AFTER = starts_in_order(sheets.EIGHT, alternate(8), 4)
 planned("eight blocks one after another, turn 4", flight(4) + judged.E[3:] + order(alternate(8)), passes(end_of(sheets.EIGHT, AFTER), alternate(8), *AFTER))
 
-# The longest flights with the longest turn. Block after block nothing else waits; a delay of 60,000 takes in a pass of 58,800 and two turns, and all other
-# first passes where 31 of them and 32 turns take no more than that: 31 * 1,316 + 19,200 = 59,996 seconds.
+# The longest flights with the longest turn. A delay of 60,000 takes in no pass of 60,000, one of 58,800 with two turns, or 31 passes of 1,316 with 32 turns
+# (59,996 in all).
 planned("32 blocks, time 60,000 in every time, turn 600", judged.TURNED_FLIGHT, passes(judged.LAST_END, judged.BY_ONE, *judged.TURNED_STARTS))
 planned(
     "8 free blocks, time 60,000 in every time, turn 600",
