@@ -1,5 +1,5 @@
 /* Times the flight planner against plain C that does the same rounds over the same constraints and the same recursion over proper orders:
-   8 blocks without an order and 32 blocks with one, without and with a turn, also flights that are impossible by the turn. Both must give the same answer.
+   8 blocks without an order and 32 blocks with one, without and with a turn. Where a delay is below the turn neither searches. Both must give the same answer.
    rt staticlib flight_bench && gcc -O2 -Wall -Wextra -Werror -o target/bench_flight bench/flight.c target/staticlib/libflight_bench.a && target/bench_flight */
 #include "flight.h"
 

@@ -84,14 +84,22 @@ static inline void search_orders(const struct flight *f, size_t left, u64 x, u64
         search_orders(f, left - 1, x | (u64)1 << at, starts, best);
 }
 
-/* The plan of at least one block. */
+/* Whether every delay is at least the turn. */
+static inline bool delays_fit(const struct flight *f) {
+    for (size_t i = 0; i < f->blocks; i++)
+        if (f->delay[i] < f->turn)
+            return false;
+    return true;
+}
+
+/* The plan of at least one block. Where a delay is below the turn no order is possible, and none is searched for. */
 static inline struct flight_plan flight_in_c(const struct flight *f) {
     struct flight_plan plan = {.order = f->order};
     size_t n = f->blocks;
+    if (!f->ordered && !delays_fit(f))
+        return plan;
     if (!f->ordered)
         search_orders(f, 2 * n, 0, plan.starts, &plan);
-    if (!f->ordered && !plan.possible)
-        return plan;
     plan.possible = least_starts(f, plan.order, plan.starts);
     plan.figure = plan.starts[2 * n - 1] + f->second[n - 1];
     return plan;

@@ -233,7 +233,8 @@ refused("a turn of 1, order C", judged.TIGHT + order(0xC), 11, 23)
 planned("a turn of 2, no order", judged.TURNED, passes(10, 0xC, (0, 6), (3, 9)))
 planned("a turn of 2, order A", judged.TURNED + order(0xA), passes(16, 0xA, (0, 6), (9, 15)))
 
-# 000's blocks with turns: four of them in every order and without one, all eight without order and block after block. The least delay is 4.
+# 000's blocks with turns: four of them in every order and without one, all eight without order and block after block. The least delay is 4,
+# so that with a turn of 5 no order has a timetable.
 FOUR = sheets.EIGHT[:4]
 for turn in range(6):
     head = flight(turn) + b"".join(block(*b) for b in FOUR)
@@ -246,10 +247,11 @@ for turn in range(6):
             planned(name, head + order(number), passes(end_of(FOUR, starts), number, *starts))
     for blocks in (FOUR, sheets.EIGHT):
         name, sheet = "%d blocks without order, turn %d" % (len(blocks), turn), flight(turn) + b"".join(block(*b) for b in blocks)
-        if turn <= 4:
-            best(name, sheet, 0, 0, least_end(blocks, turn))
-        else:
+        end = least_end(blocks, turn)
+        if end is None:
             refused(name, sheet, 11, 0)
+        else:
+            best(name, sheet, 0, 0, end)
 AFTER = starts_in_order(sheets.EIGHT, alternate(8), 4)
 planned("eight blocks one after another, turn 4", flight(4) + judged.E[3:] + order(alternate(8)), passes(end_of(sheets.EIGHT, AFTER), alternate(8), *AFTER))
 
