@@ -1,5 +1,5 @@
 // Reads sheets from standard input, each behind its length in two bytes, and writes a line for each: the number and place that its reading
-// gives, and where it is sound the strips of its mosaic, those of each desk, its blocks and its order number.
+// gives, and where it is sound the strips of its mosaic, those of each desk, its blocks, its turn and its order number.
 use files::text::put_decimal;
 use sheet::Sheet;
 
@@ -12,13 +12,14 @@ fn write_place(number: u64, place: u64) -> bool {
 }
 
 fn write_counts(sheet: Sheet) -> bool {
-    let mut out = [0u8; 128];
+    let mut out = [0u8; 160];
     let counts = sheet.sorting.counts;
     let mut at = put_decimal(&mut out, 0, b" ", sheet.mosaic.strips as u64);
     at = put_decimal(&mut out, at, b" ", counts[0] as u64);
     at = put_decimal(&mut out, at, b" ", counts[1] as u64);
     at = put_decimal(&mut out, at, b" ", counts[2] as u64);
     at = put_decimal(&mut out, at, b" ", sheet.flight.blocks as u64);
+    at = put_decimal(&mut out, at, b" ", sheet.flight.turn);
     at = put_decimal(&mut out, at, b" ", sheet.flight.order);
     files::write_output(b"sheet_cases", &out[..at]) == at
 }
