@@ -11,7 +11,8 @@
  *   20   1       sorting head     desks m (1), 1 to 3
  *   21   5       strip, up to 6   desk (1), 1 to m; scan time (2); desk time (2)
  *                of each desk
- *   30   0       flight head      -
+ *   30   0 or 2  flight head      turn (2), 0 to 600: the least time between the end of a pass and
+ *                                 the start of the next; an empty head means 0
  *   31   6       block, up to 32  first pass (2); delay (2), 0 to 60,000; second pass (2)
  *   32   8       pass order       order number (8); ends the sheet; due over 8 blocks
  *
@@ -52,8 +53,8 @@
 
 /* The minor number rises with every change request that lands (docs/LANDINGS.md). */
 #define SEVULAMON_VERSION_MAJOR 1
-#define SEVULAMON_VERSION_MINOR 4
-#define SEVULAMON_VERSION "1.4"
+#define SEVULAMON_VERSION_MINOR 5
+#define SEVULAMON_VERSION "1.5"
 
 /* A plan buffer of this length is large enough for every sheet. A smaller one is refused with 2,
  * whatever the sheet. */
@@ -89,13 +90,14 @@ enum sevulamon_number {
     SEVULAMON_NO_MEMBERS = 8,        /* at the section's head; 0 for the empty sheet */
     SEVULAMON_ORDER_NOT_PROPER = 9,
     SEVULAMON_ORDER_MISSING = 10,    /* over 8 blocks and no order, at the flight head */
-    SEVULAMON_ORDER_IMPOSSIBLE = 11, /* no timetable keeps the given order, at the order field */
+    SEVULAMON_ORDER_IMPOSSIBLE = 11, /* no timetable keeps the given order, at the order field; or,
+                                        without one, any proper order, at the flight head */
     SEVULAMON_LAYOUT_WRONG = 12,     /* judge: the plan's tags, lengths or sections, at the first
                                         wrong field; at the plan's length where it ends before its
                                         last section */
     SEVULAMON_RULE_BROKEN = 13,      /* judge: at the member or the head that breaks a rule */
     SEVULAMON_FIGURE_UNTRUE = 14,    /* judge: at the head that states it */
-    SEVULAMON_TIME_TOO_LARGE = 15,   /* a time above its upper end, 60,000 */
+    SEVULAMON_TIME_TOO_LARGE = 15,   /* a time above its upper end: 600 for a turn, else 60,000 */
     SEVULAMON_TIME_OF_ZERO = 16      /* a time of 0 where at least 1 is due */
 };
 
