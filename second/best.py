@@ -2,7 +2,7 @@
 
 Mosaic: forward from strip to strip, every pair (time at which the bench is free, figure) that no other pair beats. Sorting: forward over the
 numbers of strips taken of each desk, every row (figure, scanner list, free times of the desks) that no other row beats. Flight without an order: the
-timetable in which passes of two kinds may overlap, and from there a branch on each overlap that is met, one pass first or the other.
+timetable in which passes of two kinds may stand in each other's way, and from there a branch on each two that do, one pass first or the other.
 
 The scanner list that is due is, of those of least figure, the one that has the lower desk number at the first place where it and another part. Of two rows
 with the same strips taken, the one with the lower figure, or with the same figure and the list that comes first, beats the other where its desks are free
@@ -76,27 +76,29 @@ def best_sorting(sheet):
     return rows[tuple(map(len, queues))][0][:2]
 
 
-def overlap(blocks, firsts):
-    """The first and the second pass of two blocks that overlap, as (block of the second, block of the first), or None."""
+def too_close(blocks, firsts, turn):
+    """The first and the second pass of two blocks without a turn between them, as (block of the second, block of the first), or None."""
     for i, block in enumerate(blocks):
         start = firsts[i] + distances.offset(block)
         for j in range(i + 1, len(blocks)):
-            if firsts[j] < start + block[2] and start < firsts[j] + blocks[j][0]:
+            if firsts[j] < start + block[2] + turn and start < firsts[j] + blocks[j][0] + turn:
                 return i, j
     return None
 
 
-def kinds_in_turn(blocks):
-    """The distances where first passes take the blocks in turn, and second passes too."""
+def kinds_in_turn(blocks, turn):
+    """The distances where first passes take the blocks in turn, and second passes too, and each block's first pass comes before its second."""
     far = distances.apart(len(blocks))
-    for i in range(len(blocks) - 1):
-        for kind in (0, 1):
-            far = distances.ask_passes(far, blocks, (i, kind), (i + 1, kind))
+    for i in range(len(blocks)):
+        far = distances.ask_passes(far, blocks, (i, 0), (i, 1), turn)
+    for i, kind in itertools.product(range(len(blocks) - 1), (0, 1)):
+        far = distances.ask_passes(far, blocks, (i, kind), (i + 1, kind), turn)
     return far
 
 
-def best_free_flight(blocks):
-    best, waiting = None, [kinds_in_turn(blocks)]
+def best_free_flight(blocks, turn):
+    """The least figure, or None where every branch ends without a timetable."""
+    best, waiting = None, [kinds_in_turn(blocks, turn)]
     while waiting:
         far = waiting.pop()
         if far is None:
@@ -105,25 +107,25 @@ def best_free_flight(blocks):
         end = distances.end(blocks, firsts)
         if best is not None and end >= best:
             continue
-        pair = overlap(blocks, firsts)
+        pair = too_close(blocks, firsts, turn)
         if pair is None:
             best = end
             continue
         i, j = pair
-        waiting.append(distances.ask_passes(far, blocks, (i, 1), (j, 0)))
-        waiting.append(distances.ask_passes(far, blocks, (j, 0), (i, 1)))
+        waiting.append(distances.ask_passes(far, blocks, (i, 1), (j, 0), turn))
+        waiting.append(distances.ask_passes(far, blocks, (j, 0), (i, 1), turn))
     return best
 
 
 def best_flight(sheet):
-    """The least figure, or None where the given order is impossible."""
+    """The least figure, or None where the flight is impossible."""
     if sheet.order is None:
-        return best_free_flight(sheet.blocks)
-    far = distances.in_order(sheet.blocks, sheet.order)
+        return best_free_flight(sheet.blocks, sheet.turn)
+    far = distances.in_order(sheet.blocks, sheet.order, sheet.turn)
     return None if far is None else distances.end(sheet.blocks, distances.least(far, [0] * len(sheet.blocks)))
 
 
 def best(sheet):
-    """The least figure of each section, 0 for an absent one, None for a flight whose order is impossible; and the scanner list, empty without a sorting."""
+    """The least figure of each section, 0 for an absent one, None for a flight that is impossible; and the scanner list, empty without a sorting."""
     sorting, desks = best_sorting(sheet) if sheet.jobs else (0, b"")
     return (best_mosaic(sheet) if sheet.strips else 0, sorting, best_flight(sheet) if sheet.blocks else 0), desks

@@ -2,7 +2,7 @@
 
 `of_choices` tries every batching, every interleaving and every proper order, each with its earliest starts. `of_timetables`, for tiny sheets, tries idle
 timetables too: in mosaic and sorting those that wait one minute at one or two starts, in flight every row of starts up to a time behind which no start
-is needed.
+is needed. That a flight without order is impossible is found by trying every proper order, never by its delays.
 """
 import itertools
 
@@ -65,7 +65,7 @@ def best_lists(sheet):
 def earliest_flights(sheet):
     """Order and first starts, as early as the order allows, of every order that may be chosen and has a timetable."""
     for order in proper_orders(len(sheet.blocks)) if sheet.order is None else [sheet.order]:
-        far = distances.in_order(sheet.blocks, order)
+        far = distances.in_order(sheet.blocks, order, sheet.turn)
         if far is not None:
             yield order, distances.least(far, [0] * len(sheet.blocks))
 
@@ -75,19 +75,38 @@ def least_flight(sheet):
     return min((distances.end(sheet.blocks, firsts) for _, firsts in earliest_flights(sheet)), default=None)
 
 
-def lawful_passes(blocks, firsts):
-    """Whether first passes take the blocks in turn, second passes too, and no two passes overlap."""
+def some_order(blocks, turn, far, last, taken):
+    """Whether a proper order has a timetable that begins with so many first and second passes, the last of them `last`, at these distances. A beginning
+    without a timetable is left."""
+    if far is None:
+        return False
+    firsts, seconds = taken
+    ways = [(seconds, 1)] * (seconds < firsts) + [(firsts, 0)] * (firsts < len(blocks))
+    return not ways or any(
+        some_order(blocks, turn, distances.ask_passes(far, blocks, last, way, turn) if last else far, way, (firsts + 1 - way[1], seconds + way[1]))
+        for way in ways
+    )
+
+
+def possible(sheet):
+    """Whether some proper order of a flight without one has a timetable."""
+    return some_order(sheet.blocks, sheet.turn, distances.apart(len(sheet.blocks)), None, (0, 0))
+
+
+def lawful_passes(blocks, firsts, turn):
+    """Whether first passes take the blocks in turn, second passes too, and of any two passes the later starts at least a turn after the other ends."""
     seconds = [first + distances.offset(block) for first, block in zip(firsts, blocks)]
     spans = sorted([(f, f + block[0]) for f, block in zip(firsts, blocks)] + [(s, s + block[2]) for s, block in zip(seconds, blocks)])
-    apart = all(end <= start for (_, end), (start, _) in zip(spans, spans[1:]))
+    apart = all(end + turn <= start for (_, end), (start, _) in itertools.combinations(spans, 2))
     return apart and sorted(firsts) == list(firsts) and sorted(seconds) == seconds
 
 
-def ends_by_order(blocks):
-    """The least end of every order that has a timetable, by trying every row of starts. No block needs to start behind the time of all blocks in turn."""
-    latest, ends = sum(map(sum, blocks)), {}
-    for firsts in itertools.product(range(latest), repeat=len(blocks)):
-        if lawful_passes(blocks, firsts):
+def ends_by_order(blocks, turn):
+    """The least end of every order that has a timetable, by trying every row of rising starts. No block needs to start behind the time of all blocks in turn,
+    each delay no shorter than a turn and a turn behind each block."""
+    latest, ends = sum(first + max(delay, turn) + second + turn for first, delay, second in blocks), {}
+    for firsts in itertools.combinations(range(latest), len(blocks)):
+        if lawful_passes(blocks, firsts, turn):
             order, end = distances.order_of(blocks, firsts), distances.end(blocks, firsts)
             ends[order] = min(end, ends.get(order, end))
     return ends
@@ -100,12 +119,12 @@ def of_sections(sheet, most, flight):
 
 
 def of_choices(sheet):
-    """The least figures and the scanner list. The figure of a flight whose order is impossible is None."""
+    """The least figures and the scanner list. The figure of a flight that is impossible is None."""
     return of_sections(sheet, 0, least_flight(sheet) if sheet.blocks else 0)
 
 
 def best_plan(sheet):
-    """A plan of least figures over all choices, with the scanner list that is due, or None where the given order is impossible."""
+    """A plan of least figures over all choices, with the scanner list that is due, or None where the flight is impossible."""
     batches = [timetable.batches_of(sheet, lasts) for lasts in batchings(len(sheet.strips))] if sheet.strips else [[]]
     jobs = timetable.jobs_of(sheet, least_sorting(sheet, 0)[1]) if sheet.jobs else []
     flights = list(earliest_flights(sheet)) if sheet.blocks else [(None, [])]
@@ -116,8 +135,8 @@ def best_plan(sheet):
 
 
 def of_timetables(sheet, ends=None):
-    """The same. `ends` is what ends_by_order gives for the sheet's blocks."""
+    """The same. `ends` is what ends_by_order gives for the sheet's blocks and turn."""
     flight = 0
     if sheet.blocks:
-        flight = min(ends.values()) if sheet.order is None else ends.get(sheet.order)
+        flight = min(ends.values(), default=None) if sheet.order is None else ends.get(sheet.order)
     return of_sections(sheet, 2, flight)

@@ -3,7 +3,7 @@
 A planning call is compared by value: number, place, length, every byte of the plan, and every other byte of the buffer and of the bytes behind it. Which of
 several best batchings and which of several best free pass orders the plan takes is left to the program; the scanner list is not. A judging call is compared
 by its five numbers. A page call is compared by number, place, length and every byte of the buffer and behind it; of two pages of one sheet it is also asked
-whether they are equal exactly where the plans are.
+whether they are equal exactly where the plans are, and of a call for a sheet with a turn of 0 whether it answers as with an empty flight head.
 """
 import functools
 import itertools
@@ -11,6 +11,7 @@ import struct
 import subprocess
 
 import best
+import brute
 import distances
 import judge
 import page
@@ -21,6 +22,9 @@ ROOM = 1095
 BEHIND = 16
 FILL = b"\xA5"
 
+# The numbers whose place is in the plan.
+PLAN_NUMBERS = (12, 13, 14)
+
 
 def plan_due(sheet, desks, plan):
     """The plan with this scanner list that takes the same batches and pass order as an allowed one and starts everything as early as they allow."""
@@ -30,8 +34,17 @@ def plan_due(sheet, desks, plan):
     order, firsts = None, []
     if sheet.blocks:
         order = judge.number(plan, places[0xB0][0] - 8, 8)
-        firsts = distances.least(distances.in_order(sheet.blocks, order), [0] * len(sheet.blocks))
+        firsts = distances.least(distances.in_order(sheet.blocks, order, sheet.turn), [0] * len(sheet.blocks))
     return timetable.plan_of(sheet, batches, jobs, order, firsts).bytes()
+
+
+def impossible(sheet, flight):
+    """Whether 11 is due, the least figure of the flight being this one. A flight without order is also asked whether the delays say the same: one of them is
+    shorter than the turn."""
+    if sheet.blocks and sheet.order is None:
+        shorter = any(delay < sheet.turn for _, delay, _ in sheet.blocks)
+        assert (flight is None) == shorter and brute.possible(sheet) != shorter, "the second program's own methods differ on 11"
+    return flight is None
 
 
 def scanner_list(sheet, plan):
@@ -55,7 +68,7 @@ class PlanCase:
 
     @functools.cached_property
     def due(self):
-        """Number and place of the refusal, or 0 and 0; for a sheet that is sound but for its order, what it says, its figures and its scanner list."""
+        """Number and place of the refusal, or 0 and 0; for a sheet that is sound but for 11, what it says, its figures and its scanner list."""
         if self.room < ROOM:
             return (2, 0), None
         try:
@@ -63,7 +76,8 @@ class PlanCase:
         except reader.Refused as refused:
             return (refused.number, refused.place), None
         figures, desks = self.least(sheet)
-        return ((11, sheet.order_at) if None in figures else (0, 0)), (sheet, figures, desks)
+        place = sheet.flight_at if sheet.order is None else sheet.order_at
+        return ((11, place) if impossible(sheet, figures[2]) else (0, 0)), (sheet, figures, desks)
 
     def fault(self, answer):
         """What is wrong with the answer, or None."""
@@ -198,6 +212,34 @@ class PagesCase:
 
     def shown(self):
         return "\n".join(one.shown() for one in self.pages)
+
+
+class ZeroCase:
+    """One call for a sheet with an empty flight head at this place, and for the sheet with a turn of 0 written there: the answers must be the same but for
+    places in the sheet behind the head, which are two higher."""
+
+    calls = 2
+
+    def __init__(self, empty, written, head):
+        self.both, self.head = (empty, written), head
+
+    def request(self):
+        return b"".join(one.request() for one in self.both)
+
+    def answer_length(self):
+        return sum(one.answer_length() for one in self.both)
+
+    def fault(self, answer):
+        empty, written = self.both
+        one, other = answer[:empty.answer_length()], answer[empty.answer_length():]
+        number, place = struct.unpack_from("<2Q", one)
+        higher = 2 if place > self.head and number not in PLAN_NUMBERS else 0
+        if other != struct.pack("<2Q", number, place + higher) + one[16:]:
+            return "a turn of 0 and an empty head give different answers"
+        return empty.fault(one) or written.fault(other)
+
+    def shown(self):
+        return "\n".join(one.shown() for one in self.both)
 
 
 def answers(program, cases):

@@ -1,8 +1,9 @@
 """Least distances between the first passes of a flight.
 
 A second pass starts exactly its block's first pass and delay after the first, so a timetable is the starts of the first passes, and "this pass ends
-before that one starts" says that one block starts at least so much after another. `far[i][j]` is the most that the rules asked so far say of that
-kind: block j starts at least far[i][j] after block i. A new rule is followed through all pairs at once; no rounds are needed.
+a turn before that one starts" says that one block starts at least so much after another; of a block's own two passes it says that the delay is no shorter
+than the turn. `far[i][j]` is the most that the rules asked so far say of that kind: block j starts at least far[i][j] after block i. A new rule is followed
+through all pairs at once; no rounds are needed.
 """
 NONE = float("-inf")
 
@@ -26,12 +27,12 @@ def offset(block):
     return block[0] + block[1]
 
 
-def ask_passes(far, blocks, before, after):
-    """The distances once one pass, (block, 0 or 1 for the second), ends before another one starts."""
+def ask_passes(far, blocks, before, after, turn):
+    """The distances once one pass, (block, 0 or 1 for the second), ends a turn before another one starts."""
     (i, second), (j, later) = before, after
     end = offset(blocks[i]) + blocks[i][2] if second else blocks[i][0]
     start = offset(blocks[j]) if later else 0
-    return ask(far, i, j, end - start)
+    return ask(far, i, j, end + turn - start)
 
 
 def passes_in(n, order):
@@ -44,11 +45,11 @@ def passes_in(n, order):
     return out
 
 
-def in_order(blocks, order):
+def in_order(blocks, order, turn):
     """The distances of an order, or None where no timetable keeps it."""
     far, passes = apart(len(blocks)), passes_in(len(blocks), order)
     for before, after in zip(passes, passes[1:]):
-        far = ask_passes(far, blocks, before, after)
+        far = ask_passes(far, blocks, before, after, turn)
     return far
 
 

@@ -61,13 +61,13 @@ def judge_sorting(sheet, plan, head, places):
     return (None if all(done[desk] == len(queues[desk]) for desk in queues) else head), figure
 
 
-def order_kept(blocks, starts, order):
-    """Whether the passes, taken by start, come in the order, none before the one before has ended."""
+def order_kept(blocks, starts, order, turn):
+    """Whether the passes, taken by start, come in the order, each at least a turn after the one before has ended."""
     free = 0
     for i, second in distances.passes_in(len(blocks), order):
         if starts[i][second] < free:
             return False
-        free = starts[i][second] + blocks[i][2 if second else 0]
+        free = starts[i][second] + blocks[i][2 if second else 0] + turn
     return True
 
 
@@ -84,7 +84,7 @@ def judge_flight(sheet, plan, head, places):
     order = number(plan, head + 7, 8)
     if len(starts) < len(blocks) or not reader.proper(len(blocks), order) or sheet.order not in (None, order):
         return head, 0
-    if not order_kept(blocks, starts, order):
+    if not order_kept(blocks, starts, order, sheet.turn):
         return head, 0
     return None, distances.end(blocks, [first for first, _ in starts])
 

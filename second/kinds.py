@@ -20,8 +20,9 @@ import reader
 import sheets
 import timetable
 import tiny
+import turns
 import values
-from compare import AllowedCase, BrokenCase, JudgeCase, PageCase, PagesCase, PlanCase, ROOM
+from compare import AllowedCase, BrokenCase, JudgeCase, PageCase, PagesCase, PlanCase, ROOM, ZeroCase
 from reader import field
 
 CHUNK = 250
@@ -42,11 +43,20 @@ def of_timetables(sheet):
 
 
 def tiny_flights():
-    """Each row of blocks with its orders; the ends of all its timetables are found once."""
     for blocks, orders in tiny.flights():
-        ends = brute.ends_by_order(blocks)
-        for number in orders:
-            yield PlanCase(sheets.flight(blocks, number), least=lambda sheet, ends=ends: agreed(sheet, brute.of_timetables(sheet, ends)))
+        yield from tried_flights(blocks, orders, None)
+
+
+def tiny_turned_flights():
+    for blocks, turn in tiny.turned_flights():
+        yield from tried_flights(blocks, [None, *brute.proper_orders(len(blocks))], turn)
+
+
+def tried_flights(blocks, orders, turn):
+    """A row of blocks with each of these orders; the ends of all its timetables are found once."""
+    ends = brute.ends_by_order(blocks, turn or 0)
+    for number in orders:
+        yield PlanCase(sheets.flight(blocks, number, turn), least=lambda sheet: agreed(sheet, brute.of_timetables(sheet, ends)))
 
 
 def long_sheets():
@@ -84,6 +94,59 @@ def out_of_range_and_more():
     for sheet, plan in values.one_out():
         yield from (PlanCase(sheet, ROOM - 1), PageCase(sheet, plan, page.ROOM - 1))
         yield from (case(sheet, other) for case in (JudgeCase, PageCase) for other in (b"", plan[:-1]))
+
+
+def impossible_and_more():
+    """Also with a plan buffer that is one byte too small."""
+    for sheet, plan in turns.impossible_and_more():
+        yield from (PlanCase(sheet), PlanCase(sheet, ROOM - 1), JudgeCase(sheet, plan), PageCase(sheet, plan))
+
+
+def every_start():
+    """Judged with the true figure, where it is known from the starts whether the plan is lawful, judged with an untrue one, and printed."""
+    for turn, blocks, firsts in turns.every_start():
+        sheet, plan = sheets.flight(blocks, turn=turn), turns.plan_of_starts(blocks, firsts)
+        yield AllowedCase(sheet, plan) if brute.lawful_passes(blocks, firsts, turn) else BrokenCase(sheet, plan, 0)
+        yield JudgeCase(sheet, turns.plan_of_starts(blocks, firsts, 1))
+        yield PageCase(sheet, plan)
+
+
+def one_gap_short():
+    """A plan with one gap of exactly the turn, and the same where the turn is a second longer; behind a mosaic too. Some of the sheets are planned."""
+    before, planned = tiny.ONES["m"], tiny.HEADS["m"] + tiny.MEMBERS["m"]
+    for turn, number, blocks, firsts, at in turns.one_gap_short():
+        plan = turns.plan_of_starts(blocks, firsts)
+        kept, broken = sheets.flight(blocks, number, turn), sheets.flight(blocks, number, turn + 1)
+        yield from (AllowedCase(kept, plan), BrokenCase(broken, plan, 0), PageCase(kept, plan), PageCase(broken, plan))
+        yield from (AllowedCase(before + kept, planned + plan), BrokenCase(before + broken, planned + plan, len(planned)))
+        if len(blocks) < 32 or at % 16 == 0:
+            yield from map(PlanCase, (kept, broken, sheets.flight(blocks[:8], turn=turn), sheets.flight(blocks[:8], turn=turn + 1)))
+
+
+def zero_cases(sheet, head, plan):
+    """A sheet with an empty flight head planned, judged and printed, each beside the sheet with a turn of 0."""
+    other = turns.written(sheet, head)
+    yield ZeroCase(PlanCase(sheet), PlanCase(other), head)
+    yield from (ZeroCase(case(sheet, plan), case(other, plan), head) for case in (JudgeCase, PageCase))
+
+
+def turns_of_zero():
+    return itertools.chain.from_iterable(itertools.starmap(zero_cases, turns.empty_heads()))
+
+
+def turns_fixed():
+    """The same of flights with a turn."""
+    yield "every tiny flight with a turn", tiny_turned_flights()
+    yield "every turn", all_calls(turns.every_turn())
+    yield "delays about the turn", all_calls(itertools.chain(turns.about_delays(), turns.within_another()))
+    yield "turns above 600 and heads of a wrong length, before and behind other fields", all_calls(turns.turned_back())
+    yield "flights that are impossible, with other fields behind them", impossible_and_more()
+    yield "every row of up to four fields with turns", map(PlanCase, turns.field_rows())
+    yield "every change of one byte of a flight with a turn, and every beginning", map(PlanCase, turns.changes())
+    yield "every change of one byte of a plan with a turn", itertools.starmap(JudgeCase, turns.changed_plans())
+    yield "every tiny plan with a turn", every_start()
+    yield "plans with one gap between passes shorter than the others", one_gap_short()
+    yield "a turn of 0 beside an empty head", turns_of_zero()
 
 
 def fixed():
@@ -141,7 +204,7 @@ def judged(rng, sheet):
     """A plan with idle time, the same with each fault of meaning, damaged, and for a damaged sheet; at the ceiling or behind it."""
     parsed = reader.read(sheet)
     plan = plans.idle_plan(rng, parsed)
-    allowed = AllowedCase if parsed.order in (None, plan.order) else JudgeCase
+    allowed = AllowedCase if plans.lawful(parsed, plan) else JudgeCase
     yield allowed(sheet, plan.bytes())
     for fault in plans.FAULTS:
         yield JudgeCase(sheet, plans.with_fault(rng, parsed, plan, fault))
@@ -233,7 +296,7 @@ def any_best_list(rng, count):
 
 
 def with_wrong_fields(rng, count, wrong):
-    """Small and full sheets with some fields made wrong, each with a plan that is allowed without that where the given order is possible."""
+    """Small and full sheets with some fields made wrong, each with a plan that is allowed without that where the flight is possible."""
     for draw, part in ((sheets.small_sheet, 16), (sheets.full_sheet, 80)):
         for _ in range(share(count, part)):
             sheet = draw(rng)
@@ -256,6 +319,31 @@ def ordered_flights(rng, count):
     return of_families(rng, 2 * count, sheets.FLIGHTS, sheets.ordered_flight, 32)
 
 
+def small_turned_flights(rng, count):
+    """Small flights with a turn, every order tried; some also judged and printed."""
+    for number in range(share(count, 4)):
+        sheet = turns.small_flight(rng)
+        yield PlanCase(sheet, least=of_choices)
+        if number % 4 == 0:
+            yield from judged(rng, sheet)
+            yield from itertools.starmap(PageCase, itertools.chain(pages.drawn(rng, sheet), pages.best(sheet)))
+            yield from itertools.starmap(PagesCase, pages.pairs(rng, sheet))
+
+
+def impossible_flights(rng, count):
+    return (PlanCase(turns.impossible_flight(rng)) for _ in range(share(count, 100)))
+
+
+def drawn_turns_of_zero(rng, count):
+    """Sheets with an empty head beside the same with a turn of 0, sound and damaged, with a plan for the sound one."""
+    for draw, part in ((sheets.small_sheet, 8), (sheets.large_sheet, 80)):
+        found = filter(None, (turns.with_empty_head(draw(rng)) for _ in range(share(count, part))))
+        for sheet, head in found:
+            plan = plans.idle_plan(rng, reader.read(sheet)).bytes()
+            yield from zero_cases(sheet, head, plan)
+            yield from zero_cases(sheet[:head + 3] + plans.damaged(rng, sheet[head + 3:]), head, plan)
+
+
 DRAWN = {
     "small sheets": small_sheets, "sheets with values out of range": out_of_range, "sheets with fields of other lengths": of_other_lengths,
     "plans for small sheets": plans_for_small, "mosaics of 40 strips": mosaics,
@@ -263,6 +351,8 @@ DRAWN = {
     "large sheets": large_sheets, "full sheets": full_sheets, "small sortings with ties": tied_sortings, "full sortings with ties": full_tied_sortings,
     "sortings with ties beside other sections": tied_sheets, "plans with any of the best scanner lists": any_best_list,
     "plans for full sheets": plans_for_full, "pages for small sheets": pages_for_small, "pages for full sheets": pages_for_full,
+    "small flights with a turn": small_turned_flights, "flights of 8 free blocks that are impossible": impossible_flights,
+    "sheets with a turn of 0 beside an empty head": drawn_turns_of_zero,
 }
 
 
@@ -282,7 +372,7 @@ def rows_of(name, cases):
 
 def chunks(count, seed):
     """All cases, a row of each kind in turn, so that every kind is met early."""
-    waiting = [rows_of(name, cases) for name, cases in itertools.chain(fixed(), drawn(count, seed))]
+    waiting = [rows_of(name, cases) for name, cases in itertools.chain(fixed(), turns_fixed(), drawn(count, seed))]
     while waiting:
         kind = waiting.pop(0)
         row = next(kind, None)

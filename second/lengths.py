@@ -3,8 +3,8 @@
 A field of another length has its content cut, or bytes behind it.
 
 Sheets that are planned, judged and printed, with a plan that is allowed for the sheet without the change:
-- every field of mosaics of one to four stations and of sortings of one to three desks with 0 to 16 bytes, with 256 bytes more than are due, and with as many
-  as the length due says with its two bytes exchanged; the bytes behind the content are 0, 1 or FF.
+- every field of mosaics of one to four stations, of sortings of one to three desks and of flights with and without a turn with 0 to 16 bytes, with 256 bytes
+  more than are due, and with as many as a length due says with its two bytes exchanged; the bytes behind the content are 0, 1 or FF.
 
 Sheets that are planned:
 - every field with a length of 0 to 300 that is stated only, so that the next field is read from another place;
@@ -20,10 +20,10 @@ import itertools
 import struct
 
 from reader import HEADS, field
-from sheets import block, flight, mosaic_head, order, sorting_head, strip
+from sheets import block, flight, flight_head, mosaic_head, order, sorting_head, strip
 from values import fields_in, fields_of, full_sections, read_and_planned, replaced
 
-DUE = (0, 1, 3, 4, 5, 6, 8, 10)
+DUE = (0, 1, 2, 3, 4, 5, 6, 8, 10)
 
 
 def of_length(one, length, behind):
@@ -32,23 +32,28 @@ def of_length(one, length, behind):
     return field(one[0], content[:length])
 
 
-def other_lengths(due):
-    """0 to 16, 256 more than is due, and the length due with its two bytes exchanged; never the length due itself."""
-    exchanged = due % 256 * 256 + due // 256
-    return sorted({*range(17), due + 256, exchanged} - {due})
+def lengths_due(one):
+    """The lengths due for the tag of a right field: its own, and for a flight head 0 and 2."""
+    return {0, 2} if one[0] == 0x30 else {len(one) - 3}
+
+
+def other_lengths(one):
+    """0 to 16, 256 more than is due, and the lengths due with their two bytes exchanged; never a length due itself."""
+    due = lengths_due(one)
+    return sorted({*range(17), *(length + 256 for length in due), *(length * 256 for length in due)} - due)
 
 
 def one_short_or_long(one):
-    """The field without its last byte, if it has one, and with a byte more."""
+    """A right field without its last byte, if it has one, and with a byte more."""
     if len(one) > 3:
         yield of_length(one, len(one) - 4, 0)
     yield of_length(one, len(one) - 2, 1)
 
 
 def every_field():
-    """The fields of a sheet and the index of each. The sheets have every number of stations and every number of desks."""
-    for stations, desks in ((1, 1), (2, 2), (3, 3), (4, 2)):
-        fields = fields_of(stations, desks)
+    """The fields of a sheet and the index of each. The sheets have every number of stations and every number of desks, and heads with and without a turn."""
+    for stations, desks, turn in ((1, 1, None), (2, 2, 1), (3, 3, 0), (4, 2, None)):
+        fields = fields_of(stations, desks, turn)
         yield from ((fields, at) for at in range(len(fields)))
 
 
@@ -56,7 +61,7 @@ def other_length():
     """A sheet and a plan."""
     for fields, at in every_field():
         _, plan = read_and_planned(fields)
-        for length, behind in itertools.product(other_lengths(len(fields[at]) - 3), (0x00, 0x01, 0xFF)):
+        for length, behind in itertools.product(other_lengths(fields[at]), (0x00, 0x01, 0xFF)):
             yield replaced(fields, at, of_length(fields[at], length, behind)), plan
 
 
@@ -90,14 +95,15 @@ def one_too_many():
 
 def heads_behind():
     """A head of some length behind what may not end there, or behind which no head may stand."""
-    for before in (mosaic_head(1, 0), sorting_head(1), field(0x30), flight([(1, 0, 1)] * 9), flight([(1, 0, 1)], 0b10)):
-        yield from (before + field(tag, b"\x01" * length) for tag, length in itertools.product(HEADS, range(5)))
+    heads, one = (mosaic_head(1, 0), sorting_head(1), flight_head(), flight_head(1)), (1, 1, 1)
+    for before in (*heads, flight([one] * 9), flight([one] * 9, turn=1), flight([one], 0b10), flight([one], 0b10, 1)):
+        yield from (before + field(tag, byte * length) for tag, byte, length in itertools.product(HEADS, (b"\x01", b"\xFF"), range(5)))
 
 
 def drawn(rng, data):
     """A sound sheet with one or two fields of other lengths."""
     fields = fields_in(data)
     for at in rng.sample(range(len(fields)), min(len(fields), rng.choice((1, 1, 2)))):
-        length = rng.choice(other_lengths(len(fields[at]) - 3))
+        length = rng.choice(other_lengths(fields[at]))
         fields[at] = of_length(fields[at], length, rng.randrange(256))
     return b"".join(fields)

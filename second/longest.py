@@ -5,6 +5,7 @@ Sheets that are planned:
 - mosaics of 40 strips, of one to four stations; sortings of 6, 6 + 6 and 6 + 6 + 6 strips, desk after desk and in turn; flights of 1 to 8 free blocks;
 - flights of 32 blocks: block after block, in pairs, both mixed, in orders that are impossible, and with the longest delays, all first passes first, these
   as long as the delays let them be and one second longer;
+- the same flights with the longest turn, in pairs with passes as long as delay and turns let them be and one second longer;
 - each of them with one time one less, at every place in turn; of the flights of 32 blocks those in two of the orders;
 - all three sections together, with several of these flights and with one time one less in each section.
 
@@ -15,13 +16,14 @@ Plans that are judged, of mosaics batch by batch, in pairs and in one batch, of 
 - all three sections at the ceiling, and one of them one behind it.
 """
 import copy
+import itertools
 
 import distances
 import plans
 import reader
 import sheets
 import timetable
-from reader import MOST_TIME
+from reader import MOST_TIME, MOST_TURN
 from timetable import CEILING
 
 # Orders of 32 blocks, the latest pass first. A delay of the greatest time has room for one pass of the greatest time.
@@ -29,6 +31,9 @@ IN_TURN, IN_PAIRS = int("10" * 32, 2), int("1100" * 16, 2)
 POSSIBLE = (IN_TURN, IN_PAIRS, int("10101100" * 8, 2), int("10" * 16 + "1100" * 8, 2))
 FIRSTS_FIRST = int("1" * 32 + "0" * 32, 2)
 IMPOSSIBLE = (FIRSTS_FIRST, int("1100" + "110100" * 10, 2), int("10" * 29 + "110100", 2))
+
+# With the longest turn it has room for one pass of this time, a turn before it and one behind it.
+BESIDE_TURNS = MOST_TIME - 2 * MOST_TURN
 
 # The desks of the strips of a sorting, as they stand in the sheet.
 QUEUES = ([1] * 6, [1, 2] * 6, [1] * 6 + [2] * 6, [1, 2, 3] * 6, [1] * 6 + [2] * 6 + [3] * 6)
@@ -69,24 +74,34 @@ def sortings():
         yield from (sorting(desks, less) for less in one_less(rows))
 
 
+def long_delays(members, time):
+    """So many blocks with passes of this time and the greatest delay."""
+    return [[time, MOST_TIME, time] for _ in range(members)]
+
+
 def free_flights():
-    for n in range(1, 9):
-        yield sheets.flight(longest(n, 3))
-        yield from map(sheets.flight, one_less(longest(n, 3)))
+    for n, turn in itertools.product(range(1, 9), (None, MOST_TURN)):
+        yield sheets.flight(longest(n, 3), turn=turn)
+        yield from (sheets.flight(less, turn=turn) for less in one_less(longest(n, 3)))
+    for n, time in itertools.product(range(1, 9), (BESIDE_TURNS, BESIDE_TURNS + 1)):
+        yield sheets.flight(long_delays(n, time), turn=MOST_TURN)
 
 
-def firsts_first():
-    """The delay of block 1 takes in the first passes of the 31 others, or not quite."""
-    fits = MOST_TIME // 31
-    return [sheets.flight([[time, MOST_TIME, time]] * 32, FIRSTS_FIRST) for time in (fits, fits + 1)]
+def firsts_first(turn):
+    """The delay of block 1 takes in the first passes of the 31 others with 32 turns, or not quite."""
+    fits = (MOST_TIME - 32 * (turn or 0)) // 31
+    return [sheets.flight(long_delays(32, time), FIRSTS_FIRST, turn) for time in (fits, fits + 1)]
 
 
 def ordered_flights():
-    blocks = longest(32, 3)
-    yield from (sheets.flight(blocks, order) for order in POSSIBLE + IMPOSSIBLE)
-    yield from firsts_first()
-    for order in (IN_TURN, IN_PAIRS):
-        yield from (sheets.flight(less, order) for less in one_less(blocks))
+    for turn, fits in ((None, MOST_TIME), (MOST_TURN, BESIDE_TURNS)):
+        blocks = long_delays(32, fits)
+        yield from (sheets.flight(blocks, order, turn) for order in POSSIBLE + IMPOSSIBLE)
+        yield from firsts_first(turn)
+        for order in (IN_TURN, IN_PAIRS):
+            yield from (sheets.flight(less, order, turn) for less in one_less(blocks))
+    yield from (sheets.flight(long_delays(32, BESIDE_TURNS + 1), order, MOST_TURN) for order in POSSIBLE)
+    yield from (sheets.flight(longest(32, 3), order, MOST_TURN) for order in POSSIBLE)
 
 
 def ends_less(rows):
@@ -100,8 +115,10 @@ def all_three():
     strips, jobs, blocks, desks = longest(40, 5), longest(18, 2), longest(32, 3), QUEUES[-1]
     before = mosaic(strips) + sorting(desks, jobs)
     yield before + sheets.flight(blocks[:8])
+    yield before + sheets.flight(blocks[:8], turn=MOST_TURN)
     yield from (before + sheets.flight(blocks, order) for order in POSSIBLE)
-    yield from (before + flight for flight in firsts_first())
+    yield from (before + sheets.flight(long_delays(32, BESIDE_TURNS), order, MOST_TURN) for order in POSSIBLE)
+    yield from (before + flight for flight in firsts_first(None) + firsts_first(MOST_TURN))
     yield from (mosaic(less) + sorting(desks, jobs) + sheets.flight(blocks, IN_PAIRS) for less in ends_less(strips))
     yield from (mosaic(strips) + sorting(desks, less) + sheets.flight(blocks, IN_PAIRS) for less in ends_less(jobs))
     yield from (before + sheets.flight(less, IN_PAIRS) for less in ends_less(blocks))
@@ -141,11 +158,12 @@ def sorting_plans():
 
 
 def flight_plans():
-    for n, order in [(8, int("10" * 8, 2)), (8, int("1100" * 4, 2)), *((32, order) for order in POSSIBLE)]:
-        blocks = longest(n, 3)
-        far = distances.in_order(blocks, order)
+    orders, turns = [(8, int("10" * 8, 2)), (8, int("1100" * 4, 2)), *((32, order) for order in POSSIBLE)], ((None, MOST_TIME), (MOST_TURN, BESIDE_TURNS))
+    for (n, order), (turn, fits) in itertools.product(orders, turns):
+        blocks = long_delays(n, fits)
+        far = distances.in_order(blocks, order, turn or 0)
         for given in (order, None) if n == 8 else (order,):
-            sheet = sheets.flight(blocks, given)
+            sheet = sheets.flight(blocks, given, turn)
             for gap in (0, 4 * MOST_TIME):
                 yield sheet, timetable.plan_of(reader.read(sheet), [], [], order, distances.least(far, [i * gap for i in range(n)]))
 
@@ -197,7 +215,7 @@ def all_at_ceiling():
     rows, desks, blocks = longest(40, 5), QUEUES[-1], longest(32, 3)
     sheet = mosaic(rows) + sorting(desks, longest(18, 2)) + sheets.flight(blocks, IN_PAIRS)
     parsed = reader.read(sheet)
-    firsts = distances.least(distances.in_order(blocks, IN_PAIRS), [0] * 32)
+    firsts = distances.least(distances.in_order(blocks, IN_PAIRS, 0), [0] * 32)
     plan = timetable.plan_of(parsed, timetable.batches_of(parsed, range(1, 41)), timetable.jobs_of(parsed, desks), IN_PAIRS, firsts)
     for section, (tag, _, members) in enumerate(plan.sections):
         plan = moved(parsed, plan, section, 0, CEILING - ends_of(parsed, tag, members)[-1])

@@ -120,7 +120,7 @@ def drawn(rng, sheet):
 
 
 def best(sheet):
-    """A plan of least figures of a small sheet, where its order is possible."""
+    """A plan of least figures of a small sheet, where its flight is possible."""
     plan = brute.best_plan(reader.read(sheet))
     return [(sheet, plan.bytes(), ROOM)] if plan else []
 
@@ -147,9 +147,9 @@ def nearby(rng, sheet, plan):
 
 
 def pairs(rng, sheet):
-    """Pairs of allowed plans, where the given order is possible."""
+    """Pairs of allowed plans, where the flight is possible."""
     parsed = reader.read(sheet)
     plan, other = plans.idle_plan(rng, parsed), plans.idle_plan(rng, parsed)
-    if parsed.order in (None, plan.order):
+    if plans.lawful(parsed, plan):
         yield sheet, plan.bytes(), rng.choice((plan, other)).bytes()
         yield sheet, plan.bytes(), nearby(rng, parsed, plan).bytes()

@@ -40,9 +40,9 @@ def spans_of(blocks, firsts):
     return [(start, start + time) for (first, second), (a, _, b) in zip(pairs, blocks) for start, time in ((first, a), (second, b))]
 
 
-def first_fit(blocks, firsts, start):
-    """The earliest time from `start` on at which the next block follows the blocks placed and is clear of all their passes."""
-    block, spans, moved = blocks[len(firsts)], spans_of(blocks, firsts), True
+def first_fit(blocks, firsts, start, turn):
+    """The earliest time from `start` on at which the next block follows the blocks placed and is a turn away from all their passes."""
+    block, spans, moved = blocks[len(firsts)], [(begin - turn, end + turn) for begin, end in spans_of(blocks, firsts)], True
     gap = distances.offset(block)
     if spans:
         start = max(start, spans[-2][1], spans[-1][1] - gap)
@@ -54,32 +54,32 @@ def first_fit(blocks, firsts, start):
     return start
 
 
-def random_firsts(rng, blocks):
-    """Starts of the first passes of a lawful timetable in some order, with or without idle time."""
+def random_firsts(rng, blocks, turn):
+    """Starts of the first passes of a timetable in some order, with or without idle time, lawful where no delay is shorter than the turn."""
     most, firsts = rng.choice((0, 0, 3, 30, MOST_TIME)), []
     for _ in blocks:
-        firsts.append(first_fit(blocks, firsts, (firsts[-1] if firsts else 0) + rng.randint(0, most)))
+        firsts.append(first_fit(blocks, firsts, (firsts[-1] if firsts else 0) + rng.randint(0, most), turn))
     return firsts
 
 
-def waiting_firsts(rng, blocks, order):
+def waiting_firsts(rng, blocks, order, turn):
     """Starts that keep an order, some blocks made to wait, or None where the order is impossible."""
-    far, most = distances.in_order(blocks, order), rng.choice((0, 3, 100, MOST_TIME))
+    far, most = distances.in_order(blocks, order, turn), rng.choice((0, 3, 100, MOST_TIME))
     return far and distances.least(far, [rng.choice((0, rng.randint(0, most))) for _ in blocks])
 
 
 def random_flight(rng, sheet):
     """Order number and first starts: the given order, or a random one; where that is impossible, the order of a random timetable."""
     order = random_order(rng, len(sheet.blocks)) if sheet.order is None else sheet.order
-    firsts = waiting_firsts(rng, sheet.blocks, order)
+    firsts = waiting_firsts(rng, sheet.blocks, order, sheet.turn)
     if firsts is None:
-        firsts = random_firsts(rng, sheet.blocks)
+        firsts = random_firsts(rng, sheet.blocks, sheet.turn)
         order = distances.order_of(sheet.blocks, firsts)
     return order, firsts
 
 
 def idle_plan(rng, sheet):
-    """A plan with idle time that is lawful unless the given order is impossible: then its flight keeps another order."""
+    """A plan with idle time that is lawful unless the flight is impossible: then its flight keeps another order than the given one, or has a turn too short."""
     most = rng.choice((0, 1, 20, 5000, MOST_TIME))
 
     def wait():
@@ -89,6 +89,11 @@ def idle_plan(rng, sheet):
     jobs = timetable.jobs_of(sheet, random_list(rng, sheet), wait) if sheet.jobs else []
     order, firsts = random_flight(rng, sheet) if sheet.blocks else (None, [])
     return timetable.plan_of(sheet, batches, jobs, order, firsts)
+
+
+def lawful(sheet, plan):
+    """Whether a plan with idle time is lawful."""
+    return not sheet.blocks or sheet.order in (None, plan.order) and all(delay >= sheet.turn for _, delay, _ in sheet.blocks)
 
 
 # The places of the times in a member.
@@ -207,9 +212,19 @@ def other_flight(rng, sheet, plan):
     """The flight in another order, lawful unless an order is given, and with that order's number."""
     tag, head, members = plan.sections[-1]
     if tag == 0xB0:
-        firsts = random_firsts(rng, sheet.blocks)
+        firsts = random_firsts(rng, sheet.blocks, sheet.turn)
         members[:] = timetable.passes_of(sheet.blocks, firsts)
         head[:] = [distances.end(sheet.blocks, firsts), distances.order_of(sheet.blocks, firsts)]
+
+
+def turn_too_short(rng, sheet, plan):
+    """The flight as early as its order allows with a turn one second shorter, or with none; the figure is that of the members then."""
+    tag, head, members = plan.sections[-1]
+    far = distances.in_order(sheet.blocks, head[1], rng.choice((0, max(0, sheet.turn - 1)))) if tag == 0xB0 else None
+    if far:
+        firsts = distances.least(far, [0] * len(sheet.blocks))
+        members[:] = timetable.passes_of(sheet.blocks, firsts)
+        head[0] = distances.end(sheet.blocks, firsts)
 
 
 def near_the_top(rng, sheet, plan):
@@ -230,7 +245,7 @@ def section_displaced(rng, sheet, plan):
 
 FAULTS = (
     one_off, member_moved, tail_moved, exchanged, times_exchanged, one_more, one_less, last_missing, renumbered, untrue, other_number, other_flight,
-    near_the_top, section_displaced,
+    turn_too_short, near_the_top, section_displaced,
 )
 
 

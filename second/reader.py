@@ -1,7 +1,7 @@
 """The reader of sheets: the checks of each field in the order in which they are due, and what a sound sheet says."""
 import struct
 
-MOST_TIME = 60_000
+MOST_TIME, MOST_TURN = 60_000, 600
 HEADS = (0x10, 0x20, 0x30)
 MEMBER_OF = {0x11: 0x10, 0x21: 0x20, 0x31: 0x30}
 
@@ -17,12 +17,14 @@ class Refused(Exception):
 class Sheet:
     """What a sound sheet says. The members of an absent section are None.
 
-    strips: (station times, bench time); jobs: (desk, scan time, desk time); blocks: (first pass, delay, second pass).
+    strips: (station times, bench time); jobs: (desk, scan time, desk time); blocks: (first pass, delay, second pass). `turn` is 0 where the flight head is
+    empty; `flight_at` and `order_at` are the places of the flight head and of the order field.
     """
 
     def __init__(self):
         self.stations = self.mount = self.desks = None
         self.strips = self.jobs = self.blocks = None
+        self.turn, self.flight_at = 0, None
         self.order = self.order_at = None
 
     def queue(self, desk):
@@ -59,9 +61,9 @@ def count_fault(count, most):
     return 0 if 1 <= count <= most else 6
 
 
-def time_fault(time, least):
+def time_fault(time, least, most=MOST_TIME):
     """15 for a time above its upper end, 16 for a time of 0 where at least 1 is due, or 0."""
-    if time > MOST_TIME:
+    if time > most:
         return 15
     return 16 if time < least else 0
 
@@ -88,7 +90,7 @@ class Reader:
             self.end_section()
         if not self.permitted(tag):
             raise Refused(4, at)
-        if len(content) != self.length_due(tag):
+        if len(content) not in self.lengths_due(tag):
             raise Refused(5, at)
         number = self.take(tag, content, at)
         if number:
@@ -113,10 +115,10 @@ class Reader:
             return self.open == 0x30 and len(self.members) > 0
         return tag in MEMBER_OF and MEMBER_OF[tag] == self.open
 
-    def length_due(self, tag):
+    def lengths_due(self, tag):
         if tag == 0x11:
-            return 2 * self.sheet.stations + 2
-        return {0x10: 3, 0x20: 1, 0x21: 5, 0x30: 0, 0x31: 6, 0x32: 8}[tag]
+            return (2 * self.sheet.stations + 2,)
+        return {0x10: (3,), 0x20: (1,), 0x21: (5,), 0x30: (0, 2), 0x31: (6,), 0x32: (8,)}[tag]
 
     def members_of(self, tag):
         return {0x10: self.sheet.strips, 0x20: self.sheet.jobs, 0x30: self.sheet.blocks}[tag]
@@ -135,8 +137,7 @@ class Reader:
             return self.take_block(*words(content, 0))
         if tag == 0x32:
             return self.take_order(int.from_bytes(content, "little"), at)
-        self.sheet.blocks = []
-        return 0
+        return self.take_flight(content, at)
 
     def take_mosaic(self, content):
         stations, mount = content[0], word(content, 1)
@@ -170,6 +171,15 @@ class Reader:
         if len(self.sheet.queue(desk)) == 6:
             return 7
         self.members.append((desk, scan, time))
+        return 0
+
+    def take_flight(self, content, at):
+        """An empty head means a turn of 0."""
+        turn = word(content, 0) if content else 0
+        number = time_fault(turn, 0, MOST_TURN)
+        if number:
+            return number
+        self.sheet.turn, self.sheet.flight_at, self.sheet.blocks = turn, at, []
         return 0
 
     def take_block(self, first, delay, second):

@@ -7,7 +7,7 @@ import struct
 
 import distances
 import plans
-from reader import MOST_TIME, field
+from reader import MOST_TIME, MOST_TURN, field
 
 
 def mosaic_head(stations, mount):
@@ -35,9 +35,14 @@ def order(number):
     return field(0x32, struct.pack("<Q", number))
 
 
-def flight(blocks, number=None):
+def flight_head(turn=None):
+    """Without a turn it is empty."""
+    return field(0x30, b"" if turn is None else struct.pack("<H", turn))
+
+
+def flight(blocks, number=None, turn=None):
     """A whole section; without an order number it is free."""
-    out = field(0x30) + b"".join(block(*times) for times in blocks)
+    out = flight_head(turn) + b"".join(block(*times) for times in blocks)
     return out if number is None else out + order(number)
 
 
@@ -153,6 +158,9 @@ FLIGHTS = {
     "longest times": (span(MOST_TIME, MOST_TIME), span(MOST_TIME, MOST_TIME), span(MOST_TIME, MOST_TIME)),
     "long delays": (span(1, 100), span(0, MOST_TIME), span(1, 100)),
     "short delays": (span(50, 100), span(0, 60), span(50, 100)),
+    "room for small turns": (span(1, 3), span(2, 20), span(1, 3)),
+    "room for one turn": (span(1, 60), span(500, 1300), span(1, 60)),
+    "room for many turns": (span(1, 200), span(600, 9000), span(1, 200)),
 }
 
 
@@ -187,8 +195,16 @@ def blocks_of(rng, family, n):
     return [(first(rng), delay(rng), second(rng)) for _ in range(n)]
 
 
+def turn_for(rng, blocks):
+    """None for an empty head, 0, any turn, one up to the shortest delay, or one next to it."""
+    shortest = min(MOST_TURN, *(delay for _, delay, _ in blocks))
+    near = min(MOST_TURN, max(0, shortest + rng.choice((-1, 0, 1))))
+    return rng.choice((None, None, None, 0, rng.randint(0, MOST_TURN), rng.randint(0, shortest), rng.randint(0, shortest), near))
+
+
 def free_flight(rng, family, n):
-    return flight(blocks_of(rng, family, n))
+    blocks = blocks_of(rng, family, n)
+    return flight(blocks, turn=turn_for(rng, blocks))
 
 
 def with_other_delay(rng, blocks):
@@ -199,14 +215,19 @@ def with_other_delay(rng, blocks):
 
 
 def ordered_flight(rng, family, n):
-    """With the order of some timetable, which may be spoilt by a delay that is one off; with any proper order; or block after block."""
-    blocks, kind = blocks_of(rng, family, n), rng.choice(("possible", "possible", "one off", "any", "in turn"))
+    """With the order of some timetable, which may be spoilt by a delay or a turn that is one off; with any proper order; or block after block."""
+    blocks, kind = blocks_of(rng, family, n), rng.choice(("possible", "possible", "delay one off", "turn one off", "any", "in turn"))
+    turn = turn_for(rng, blocks)
     if kind == "any":
-        return flight(blocks, plans.random_order(rng, n))
+        return flight(blocks, plans.random_order(rng, n), turn)
     if kind == "in turn":
-        return flight(blocks, int("10" * n, 2))
-    number = distances.order_of(blocks, plans.random_firsts(rng, blocks))
-    return flight(with_other_delay(rng, blocks) if kind == "one off" else blocks, number)
+        return flight(blocks, int("10" * n, 2), turn)
+    number = distances.order_of(blocks, plans.random_firsts(rng, blocks, turn or 0))
+    if kind == "delay one off":
+        blocks = with_other_delay(rng, blocks)
+    if kind == "turn one off":
+        turn = min(MOST_TURN, max(0, (turn or 0) + rng.choice((-1, 1, 1))))
+    return flight(blocks, number, turn)
 
 
 def any_family(rng, families):

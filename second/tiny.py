@@ -6,7 +6,9 @@ Sheets whose least figures are found by trying timetables, idle ones too:
 - sortings of two desks: none to two strips at each, scan and desk times 1 or 3, either desk's strips first in the sheet;
 - sortings of three desks: none or one strip at each, scan and desk times 1 to 3;
 - flights of one or two blocks: passes of 1 or 2, delays 0 to 3, without order and with every order number of up to two bits too many;
-- flights of three blocks: passes of 1, delays 0, 1, 2 or 4, without order and with every order number of six bits.
+- flights of three blocks: passes of 1, delays 0, 1, 2 or 4, without order and with every order number of six bits;
+- flights with a turn of 1, 2 or 3 and one or two blocks: passes of 1 or 2, delays next to the turn, and next to a pass and two turns; and with a turn of 1 or
+  2 and three blocks: passes of 1, the same delays and one for two passes and three turns; without order and with every proper order.
 
 Sortings whose least figure and scanner list are found by trying every interleaving:
 - three desks: none to two strips at each, of scan and desk times 1 or 2 one is always 1;
@@ -101,6 +103,16 @@ def flights():
         yield blocks, [None, *range(1 << 2 * len(blocks) + 2)]
     for delays in itertools.product((0, 1, 2, 4), repeat=3):
         yield [(1, delay, 1) for delay in delays], [None, *range(64)]
+
+
+def turned_flights():
+    """The blocks of each flight, and its turn."""
+    for turn in (1, 2, 3):
+        delays = (turn - 1, turn, 2 * turn, 2 * turn + 1, 2 * turn + 2)
+        yield from ((blocks, turn) for blocks in rows(list(itertools.product((1, 2), delays, (1, 2))), 1, 2))
+    for turn in (1, 2):
+        delays = itertools.product((turn - 1, turn, 2 * turn + 1, 3 * turn + 2), repeat=3)
+        yield from (([(1, delay, 1) for delay in row], turn) for row in delays)
 
 
 FIELDS = [

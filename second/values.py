@@ -6,7 +6,7 @@ Sheets that are planned, judged and printed:
 - every field with values, of mosaics of one to four stations and of sortings of one to three desks: values as they were, 0, 1, the upper end, one more or
   the greatest number of their bytes, in every row of up to three values, and any two of more; and every row of values that are as they were or next to their
   range;
-- a 41st strip, a 7th of a desk and a 33rd block with every row of values that are right or next to their range.
+- a 41st strip, a 7th of a desk and a 33rd block, with and without a turn, with every row of values that are right or next to their range.
 
 Sheets with one value out of its range, one for each field and number:
 - planned and printed into buffers one byte too small, and judged and printed with an empty plan and one that is cut short.
@@ -25,16 +25,18 @@ import distances
 import judge
 import reader
 import timetable
-from reader import HEADS, MEMBER_OF, MOST_TIME, field
-from sheets import block, job, mosaic_head, order, sorting_head, strip
+from reader import HEADS, MEMBER_OF, MOST_TIME, MOST_TURN, field
+from sheets import block, flight_head, job, mosaic_head, order, sorting_head, strip
 
 OVER = MOST_TIME + 1
 GREATEST = {"B": 0xFF, "H": 0xFFFF}
 
 
-def ranges_of(tag, sheet):
+def ranges_of(one, sheet):
     """Of each value of a field, from left to right: its width (B one byte, H two), the least and the greatest number of its range."""
-    from_0, from_1 = ("H", 0, MOST_TIME), ("H", 1, MOST_TIME)
+    from_0, from_1, tag = ("H", 0, MOST_TIME), ("H", 1, MOST_TIME), one[0]
+    if tag == 0x30:
+        return [("H", 0, MOST_TURN)] if len(one) > 3 else []
     if tag == 0x11:
         return [from_0] * sheet.stations + [from_1]
     if tag == 0x21:
@@ -75,21 +77,21 @@ def at_ends_or_beyond(row, ranges):
 
 def with_rows(one, sheet, *rows_of):
     """A field of this sheet with every row of values that these functions give, each row once."""
-    ranges = ranges_of(one[0], sheet)
+    ranges = ranges_of(one, sheet)
     row = struct.unpack(form_of(ranges), one[3:])
     rows = dict.fromkeys(itertools.chain.from_iterable(rows(row, ranges) for rows in rows_of))
     return [field(one[0], struct.pack(form_of(ranges), *other)) for other in rows]
 
 
-def fields_of(stations, desks):
+def fields_of(stations, desks, turn=1):
     """The fields of a sound sheet with all three sections."""
     strips = [strip([2, 1, 4, 3][:stations] + [bench]) for bench in (1, 3)]
-    jobs, blocks = [job(1, 2, 5), job(desks, 1, 1)], [block(1, 2, 1), block(2, 3, 1)]
-    return [mosaic_head(stations, 1), *strips, sorting_head(desks), *jobs, field(0x30), *blocks, order(0b1100)]
+    jobs, blocks = [job(1, 2, 5), job(desks, 1, 1)], [block(1, 4, 1), block(2, 3, 1)]
+    return [mosaic_head(stations, 1), *strips, sorting_head(desks), *jobs, flight_head(turn), *blocks, order(0b1100)]
 
 
 # The last field of each tag that has values, by its index in fields_of.
-LAST = {0x10: 0, 0x11: 2, 0x20: 3, 0x21: 5, 0x31: 8}
+LAST = {0x10: 0, 0x11: 2, 0x20: 3, 0x21: 5, 0x30: 6, 0x31: 8}
 
 
 def replaced(fields, at, one):
@@ -102,7 +104,7 @@ def read_and_planned(fields):
     sheet = reader.read(b"".join(fields))
     batches = timetable.batches_of(sheet, range(1, len(sheet.strips) + 1)) if sheet.strips else []
     jobs = timetable.jobs_of(sheet, [desk for desk, _, _ in sheet.jobs]) if sheet.jobs else []
-    firsts = distances.least(distances.in_order(sheet.blocks, sheet.order), [0] * len(sheet.blocks)) if sheet.blocks else []
+    firsts = distances.least(distances.in_order(sheet.blocks, sheet.order, sheet.turn), [0] * len(sheet.blocks)) if sheet.blocks else []
     plan = timetable.plan_of(sheet, batches, jobs, sheet.order, firsts).bytes()
     assert judge.judge_plan(sheet, plan)[0] == 0, "the second program turns its own plan back"
     return sheet, plan
@@ -112,7 +114,7 @@ def places():
     """The fields of a sheet and the index of one with values."""
     yield from ((fields_of(stations, 2), LAST[tag]) for stations in (1, 2, 3, 4) for tag in (0x10, 0x11))
     yield from ((fields_of(2, desks), LAST[tag]) for desks in (1, 2, 3) for tag in (0x20, 0x21))
-    yield fields_of(2, 2), LAST[0x31]
+    yield from ((fields_of(2, 2), LAST[tag]) for tag in (0x30, 0x31))
 
 
 def ends():
@@ -125,7 +127,8 @@ def ends():
 
 def full_sections():
     """The fields of a sheet with one full section, and the index at which one member more is put in."""
-    yield [field(0x30)] + [block(1, 0, 1)] * 32 + [order(int("10" * 32, 2))], 33
+    for turn in (None, 1):
+        yield [flight_head(turn)] + [block(1, 1, 1)] * 32 + [order(int("10" * 32, 2))], 33
     for desks in (1, 2, 3):
         yield [sorting_head(desks)] + [job(desk, 1, 1) for desk in range(1, desks + 1)] * 6, 6 * desks + 1
     for stations in (1, 2, 3, 4):
@@ -158,6 +161,7 @@ OUT_OF_RANGE = {
     0x11: [strip([2, OVER, 1]), strip([2, 1, 0])],
     0x20: [sorting_head(4)],
     0x21: [job(3, 1, 1), job(2, OVER, 1), job(2, 1, 0)],
+    0x30: [flight_head(MOST_TURN + 1)],
     0x31: [block(2, OVER, 1), block(2, 3, 0)],
 }
 
@@ -227,7 +231,7 @@ def with_some_out(rng, one, ranges):
 def drawn(rng, data):
     """A sound sheet with values of one or two fields out of their ranges."""
     sheet, fields = reader.read(data), fields_in(data)
-    with_values = [at for at, one in enumerate(fields) if ranges_of(one[0], sheet)]
+    with_values = [at for at, one in enumerate(fields) if ranges_of(one, sheet)]
     for at in rng.sample(with_values, min(len(with_values), rng.choice((1, 1, 2)))):
-        fields[at] = with_some_out(rng, fields[at], ranges_of(fields[at][0], sheet))
+        fields[at] = with_some_out(rng, fields[at], ranges_of(fields[at], sheet))
     return b"".join(fields)

@@ -20,7 +20,7 @@ static void passes_of(const struct flight *f, u64 order, struct pass *passes) {
     }
 }
 
-/* Moves each pass that starts before the pass before it has ended. Tells whether one was moved. */
+/* Moves each pass that starts less than a turn after the pass before it has ended. Tells whether one was moved. */
 static bool move_in_order(const struct flight *f, const struct pass *passes, struct starts *s) {
     bool moved = false;
     u64 free = 0;
@@ -30,7 +30,7 @@ static bool move_in_order(const struct flight *f, const struct pass *passes, str
             *start = free;
             moved = true;
         }
-        free = *start + (passes[k].second ? f->second : f->first)[passes[k].block];
+        free = *start + (passes[k].second ? f->second : f->first)[passes[k].block] + f->turn;
     }
     return moved;
 }

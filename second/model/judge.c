@@ -98,7 +98,7 @@ static struct verdict judge_sorting(const struct sorting *s, const uint8_t *plan
     return all == s->strips ? lawful(figure) : broken(p.head);
 }
 
-/* Whether the passes, taken in the order, each start no earlier than the one before has ended. */
+/* Whether the passes, taken in the order, each start at least a turn after the one before has ended. */
 static bool keeps_order(const struct flight *f, const uint8_t *plan, size_t members, u64 order) {
     u64 free = 0;
     for (size_t k = 0, firsts = 0, seconds = 0; k < 2 * f->blocks; k++) {
@@ -107,7 +107,7 @@ static bool keeps_order(const struct flight *f, const uint8_t *plan, size_t memb
         u64 start = number_at(plan + members + 11 * i + (second ? 7 : 3), 4);
         if (start < free)
             return false;
-        free = start + (second ? f->second[i] : f->first[i]);
+        free = start + (second ? f->second[i] : f->first[i]) + f->turn;
     }
     return true;
 }

@@ -84,6 +84,6 @@ struct sevulamon_answer sevulamon_plan(const uint8_t *sheet, size_t sheet_length
     if (s.flight.blocks > 0)
         flight = plan_flight(&s.flight);
     if (!flight.possible)
-        return refused(SEVULAMON_ORDER_IMPOSSIBLE, s.flight.order_place);
+        return refused(SEVULAMON_ORDER_IMPOSSIBLE, s.flight.ordered ? s.flight.order_place : s.flight.head_place);
     return (struct sevulamon_answer){0, 0, write_plan(&s, &flight, plan)};
 }

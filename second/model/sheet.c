@@ -54,6 +54,7 @@ static bool permitted(uint8_t tag, const struct reading *r, const struct sheet *
     return (tag == MOSAIC_STRIP || tag == SORTING_STRIP || tag == BLOCK) && tag == r->open + 1;
 }
 
+/* Of a flight head the length without a turn. */
 static size_t length_due(uint8_t tag, size_t stations) {
     switch (tag) {
     case MOSAIC_HEAD: return 3;
@@ -64,6 +65,12 @@ static size_t length_due(uint8_t tag, size_t stations) {
     case BLOCK: return 6;
     default: return 8;
     }
+}
+
+/* A flight head may carry the two bytes of a turn. */
+static bool length_wrong(uint8_t tag, size_t length, size_t stations) {
+    bool turn = tag == FLIGHT_HEAD && length == 2;
+    return !turn && length != length_due(tag, stations);
 }
 
 /* 6 for a count that is not 1 to `most`, or 0. */
@@ -94,12 +101,13 @@ static u64 strip_fault(const uint8_t *c, size_t stations) {
 }
 
 /* 6, 15 or 16 of the first value of a field, from left to right, that is out of its range, or 0. */
-static u64 value_fault(uint8_t tag, const uint8_t *c, const struct sheet *s) {
+static u64 value_fault(uint8_t tag, const uint8_t *c, size_t length, const struct sheet *s) {
     switch (tag) {
     case MOSAIC_HEAD: return first_fault(count_fault(c[0], MOST_STATIONS), time_fault(c + 1, 0, MOST_TIME), 0);
     case MOSAIC_STRIP: return strip_fault(c, s->mosaic.stations);
     case SORTING_HEAD: return count_fault(c[0], MOST_DESKS);
     case SORTING_STRIP: return first_fault(count_fault(c[0], s->sorting.desks), time_fault(c + 1, 1, MOST_TIME), time_fault(c + 3, 1, MOST_TIME));
+    case FLIGHT_HEAD: return length == 0 ? 0 : time_fault(c, 0, MOST_TURN);
     case BLOCK: return first_fault(time_fault(c, 1, MOST_TIME), time_fault(c + 2, 0, MOST_TIME), time_fault(c + 4, 1, MOST_TIME));
     default: return 0;
     }
@@ -127,9 +135,9 @@ static struct refusal check_end(const struct reading *r, const struct sheet *s) 
 static u64 check_field(uint8_t tag, const uint8_t *c, size_t length, const struct reading *r, const struct sheet *s) {
     if (!permitted(tag, r, s))
         return SEVULAMON_TAG_NOT_PERMITTED;
-    if (length != length_due(tag, s->mosaic.stations))
+    if (length_wrong(tag, length, s->mosaic.stations))
         return SEVULAMON_LENGTH_WRONG;
-    u64 fault = value_fault(tag, c, s);
+    u64 fault = value_fault(tag, c, length, s);
     if (fault != 0)
         return fault;
     if (too_many(tag, c, s))
@@ -159,7 +167,7 @@ static void add_block(struct flight *f, const uint8_t *c) {
 }
 
 /* What a field that passed its checks adds. */
-static void add_field(struct sheet *s, uint8_t tag, const uint8_t *c, size_t at) {
+static void add_field(struct sheet *s, uint8_t tag, const uint8_t *c, size_t length, size_t at) {
     switch (tag) {
     case MOSAIC_HEAD:
         s->mosaic.stations = c[0];
@@ -168,6 +176,10 @@ static void add_field(struct sheet *s, uint8_t tag, const uint8_t *c, size_t at)
     case MOSAIC_STRIP: add_strip(&s->mosaic, c); break;
     case SORTING_HEAD: s->sorting.desks = c[0]; break;
     case SORTING_STRIP: add_job(&s->sorting, c); break;
+    case FLIGHT_HEAD:
+        s->flight.turn = length == 0 ? 0 : number_at(c, 2);
+        s->flight.head_place = at;
+        break;
     case BLOCK: add_block(&s->flight, c); break;
     case ORDER:
         s->flight.ordered = true;
@@ -190,7 +202,7 @@ struct refusal read_sheet(const uint8_t *bytes, size_t length, struct sheet *s) 
         u64 number = check_field(tag, bytes + at + 3, content, &r, s);
         if (number != 0)
             return (struct refusal){number, at};
-        add_field(s, tag, bytes + at + 3, at);
+        add_field(s, tag, bytes + at + 3, content, at);
         if (is_head(tag))
             r = (struct reading){tag, at, 0};
         else

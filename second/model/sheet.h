@@ -8,7 +8,7 @@
 
 typedef uint64_t u64;
 
-enum { MOST_TIME = 60000, MOST_STRIPS = 40, MOST_DESKS = 3, MOST_OF_DESK = 6, MOST_BLOCKS = 32, FREE_BLOCKS = 8, MOST_STATIONS = 4 };
+enum { MOST_TIME = 60000, MOST_TURN = 600, MOST_STRIPS = 40, MOST_DESKS = 3, MOST_OF_DESK = 6, MOST_BLOCKS = 32, FREE_BLOCKS = 8, MOST_STATIONS = 4 };
 
 struct mosaic {
     size_t stations, strips;
@@ -20,9 +20,10 @@ struct sorting {
     u64 scan[MOST_DESKS][MOST_OF_DESK], desk[MOST_DESKS][MOST_OF_DESK];
 };
 
+/* The turn is 0 where the head is empty. */
 struct flight {
-    size_t blocks, order_place;
-    u64 first[MOST_BLOCKS], delay[MOST_BLOCKS], second[MOST_BLOCKS], order;
+    size_t blocks, head_place, order_place;
+    u64 turn, first[MOST_BLOCKS], delay[MOST_BLOCKS], second[MOST_BLOCKS], order;
     bool ordered;
 };
 
