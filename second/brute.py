@@ -75,22 +75,23 @@ def least_flight(sheet):
     return min((distances.end(sheet.blocks, firsts) for _, firsts in earliest_flights(sheet)), default=None)
 
 
-def some_order(blocks, turn, far, last, taken):
-    """Whether a proper order has a timetable that begins with so many first and second passes, the last of them `last`, at these distances. A beginning
-    without a timetable is left."""
-    if far is None:
-        return False
-    firsts, seconds = taken
-    ways = [(seconds, 1)] * (seconds < firsts) + [(firsts, 0)] * (firsts < len(blocks))
-    return not ways or any(
-        some_order(blocks, turn, distances.ask_passes(far, blocks, last, way, turn) if last else far, way, (firsts + 1 - way[1], seconds + way[1]))
-        for way in ways
-    )
+def some_order(blocks, turn, far, last, firsts, seconds):
+    """Whether some proper order that begins with so many first and second passes, `last` the last of them, has a timetable. `far` are the distances of this
+    beginning, None where it has no timetable itself."""
+    if far is None or seconds == len(blocks):
+        return far is not None
+    ways = [(seconds, 1)] if seconds < firsts else []
+    ways += [(firsts, 0)] if firsts < len(blocks) else []
+    for way in ways:
+        asked = distances.ask_passes(far, blocks, last, way, turn) if last else far
+        if some_order(blocks, turn, asked, way, firsts + 1 - way[1], seconds + way[1]):
+            return True
+    return False
 
 
 def possible(sheet):
     """Whether some proper order of a flight without one has a timetable."""
-    return some_order(sheet.blocks, sheet.turn, distances.apart(len(sheet.blocks)), None, (0, 0))
+    return some_order(sheet.blocks, sheet.turn, distances.apart(len(sheet.blocks)), None, 0, 0)
 
 
 def lawful_passes(blocks, firsts, turn):

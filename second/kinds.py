@@ -5,6 +5,9 @@ strips at all desks and at each, identical desks, two desks that mirror each oth
 times 1, scans so long that no desk is waited for, and desks so long that the scanner is never waited for. They have one to three desks, also with none for
 the middle one or the first, and up to 3 strips of each, where every interleaving is tried, or all 6; some stand beside a mosaic, a flight or both. Of the
 small ones plans with any of the best lists are judged and printed.
+
+Flights have an empty head or a turn: of those that are drawn, in every kind, three of eight an empty head, the others 0, any turn, one up to the shortest
+delay or one next to it.
 """
 import itertools
 import random

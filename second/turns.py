@@ -4,8 +4,8 @@ Sheets that are planned, judged and printed, with a plan of earliest starts in t
 - every turn of 0 to 700, every turn with a low byte of 0, 58 and 59, and others up to 65,535, with an order and without;
 - one to three, 8 and 32 blocks of which one, at each place in turn, has a delay one below, at and one above the turn, with an order and without; and two
   blocks, one within the other, with a delay one below, at and one above what that takes;
-- turns above 600 and heads of a wrong length, behind other sections and behind what may not end there, with nothing, with blocks, with nine and with 33 of
-  them, with an order, a head or a wrong field behind them;
+- turns above 600, heads of a wrong length and heads that are cut short, behind other sections and behind what may not end there, with nothing, with blocks,
+  with nine and with 33 of them, with an order, a head or a wrong field behind them;
 - flights that are impossible and have another fault behind them, which comes first; also with too small a buffer.
 
 Sheets that are planned:
@@ -23,8 +23,6 @@ A turn of 0 beside an empty head: both sheets planned, judged and printed. The a
 Drawn: small flights with a turn; flights of 8 blocks without order that are impossible.
 """
 import itertools
-import random
-import struct
 
 import distances
 import plans
@@ -34,7 +32,7 @@ import timetable
 import tiny
 from longest import FIRSTS_FIRST, IN_PAIRS, IN_TURN
 from reader import MOST_TIME, MOST_TURN, field
-from sheets import block, flight, flight_head, job, mosaic_head, order, sorting_head, strip
+from sheets import block, flight, flight_head, mosaic_head, order, sorting_head, strip
 
 
 def in_turn(n):
@@ -78,38 +76,47 @@ def about_delays():
 
 
 def within_another():
-    """A sheet and a plan. The first block has the second's first pass, or the whole second block, between its passes, with its turns, or not quite."""
+    """A sheet and a plan. The first delay takes in the second block's first pass and two turns, or not quite."""
     for turn, more in itertools.product((0, 1, 2, 300, 599, 600), (-1, 0, 1)):
         blocks = [(3, 2 * turn + 5 + more, 2), (5, 2 * turn + 2, 4)]
-        for number in (None, 0b1100, 0b1010):
-            yield flight(blocks, number, turn), earliest_plan(blocks, in_turn(2), turn)
+        for number, kept in itertools.product((None, 0b1100, 0b1010), (0b1010, 0b1100 if more >= 0 else 0b1010)):
+            yield flight(blocks, number, turn), earliest_plan(blocks, kept, turn)
 
 
 # Behind a head that is turned back. None of it is looked at.
 BEHIND = [
-    b"", block(1, 0, 1), block(1, 0, 1) * 9, block(1, 0, 1) * 33, block(1, 0, 1) * 9 + mosaic_head(1, 0), block(1, 0, 1) + order(2), order(2), block(1, 0, 1) + order(3),
-    flight_head(), flight_head(1), mosaic_head(1, 0), sorting_head(1), block(0, 0, 1), block(1, 0, 1)[:-1], field(0x31), field(0x99), b"\x31",
+    b"", block(1, 0, 1), block(1, 0, 1) * 9, block(1, 0, 1) * 33, block(1, 0, 1) * 9 + mosaic_head(1, 0), block(1, 0, 1) + order(2), order(2),
+    block(1, 0, 1) + order(3), flight_head(), flight_head(1), mosaic_head(1, 0), sorting_head(1), block(0, 0, 1), block(1, 0, 1)[:-1], field(0x31),
+    field(0x99), b"\x31",
 ]
 
-# Before it: nothing, other sections, and what may not end there or behind which no flight head may stand.
+# The sections that may stand before a flight, and their plans.
+SECTIONS = [
+    (b"".join(tiny.ONES[one] for one in sections), b"".join(tiny.HEADS[one] + tiny.MEMBERS[one] for one in sections)) for sections in ("", "m", "s", "ms")
+]
+
+# Before a flight head: these, what may not end there, and a flight.
 BEFORE = [
-    b"", tiny.ONES["m"], tiny.ONES["s"], tiny.ONES["m"] + tiny.ONES["s"], mosaic_head(1, 0), tiny.ONES["m"] + sorting_head(1), flight_head(), flight_head(1),
-    flight([(1, 1, 1)], turn=1), flight([(1, 1, 1)] * 9, turn=1), flight([(1, 1, 1)], 2, 1),
+    *(sheet for sheet, _ in SECTIONS), mosaic_head(1, 0), tiny.ONES["m"] + sorting_head(1), flight_head(), flight_head(1), flight([(1, 1, 1)], turn=1),
+    flight([(1, 1, 1)] * 9, turn=1), flight([(1, 1, 1)], 2, 1),
 ]
 
 
 def turned_back():
     """A sheet and a plan."""
-    heads = [flight_head(turn) for turn in (0, 600, 601, 602, 0x5802, 65535)] + [field(0x30, b"\x00" * length) for length in (1, 3, 4)]
+    heads = [flight_head(turn) for turn in (0, 600, 601, 602, 0x5802, 65535)]
+    heads += [field(0x30, byte * length) for byte, length in itertools.product((b"\x00", b"\xFF"), (1, 3, 4))]
+    cut = [flight_head(601)[:3], flight_head(601)[:4], field(0x30, b"\x59\x02\x00")[:5]]
     plan = tiny.HEADS["f"] + tiny.MEMBERS["f"]
-    return ((b"".join(parts), plan) for parts in itertools.product(BEFORE, heads, BEHIND))
+    yield from ((b"".join(parts), plan) for parts in itertools.product(BEFORE, heads, BEHIND))
+    yield from ((b"".join(parts), plan) for parts in itertools.product(BEFORE, cut))
 
 
 def impossible_and_more():
     """A sheet and a plan. The flight has a delay shorter than its turn, with an order and without, and something may stand behind it."""
     blocks = [(1, 600, 1), (2, 1, 1)]
-    for before, number, behind in itertools.product(BEFORE[:4], (None, 0b1010, 0b0011), [b"", *BEHIND]):
-        yield before + flight(blocks, number, 2) + behind, earliest_plan(blocks, 0b1010, 2)
+    for (before, planned), number, behind in itertools.product(SECTIONS, (None, 0b1010, 0b0011), BEHIND):
+        yield before + flight(blocks, number, 2) + behind, planned + earliest_plan(blocks, 0b1010, 2)
 
 
 FIELDS = [
@@ -177,10 +184,10 @@ def empty_heads():
     for at, value in itertools.product(range(head + 3, len(small)), (0, 1, 2, 0x30, 0x31, 0x32, 0xFF)):
         yield small[:at] + bytes([value]) + small[at + 1:], head, tiny.small_plan()
     yield from ((small[:length], head, tiny.small_plan()) for length in range(head + 3, len(small) + 1))
-    for before, blocks in itertools.product(BEFORE[:4], tiny.rows([(1, 0, 1), (1, 1, 1), (1, 3, 1), (2, 5, 2)], 1, 3)):
-        yield before + flight(blocks), len(before), earliest_plan(blocks, in_turn(len(blocks)), 0)
-    for before, behind in itertools.product(BEFORE[:4], BEHIND):
-        yield before + flight_head() + behind, len(before), tiny.HEADS["f"] + tiny.MEMBERS["f"]
+    for (before, planned), blocks in itertools.product(SECTIONS, tiny.rows([(1, 0, 1), (1, 1, 1), (1, 3, 1), (2, 5, 2)], 1, 3)):
+        yield before + flight(blocks), len(before), planned + earliest_plan(blocks, in_turn(len(blocks)), 0)
+    for (before, planned), behind in itertools.product(SECTIONS, BEHIND):
+        yield before + flight_head() + behind, len(before), planned + tiny.HEADS["f"] + tiny.MEMBERS["f"]
 
 
 def written(sheet, head):
