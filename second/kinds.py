@@ -50,8 +50,8 @@ def tiny_flights():
         yield from tried_flights(blocks, orders, None)
 
 
-def tiny_turned_flights():
-    for blocks, turn in tiny.turned_flights():
+def tiny_flights_with_turns():
+    for blocks, turn in tiny.flights_with_turns():
         yield from tried_flights(blocks, [None, *brute.proper_orders(len(blocks))], turn)
 
 
@@ -105,6 +105,13 @@ def impossible_and_more():
         yield from (PlanCase(sheet), PlanCase(sheet, ROOM - 1), JudgeCase(sheet, plan), PageCase(sheet, plan))
 
 
+def heads_turned_back():
+    """Also with buffers that are one byte too small."""
+    yield from all_calls(turns.turned_back(turns.BEHIND))
+    for sheet, plan in turns.turned_back([b""]):
+        yield from (PlanCase(sheet, ROOM - 1), PageCase(sheet, plan, page.ROOM - 1))
+
+
 def every_start():
     """Judged with the true figure, where it is known from the starts whether the plan is lawful, judged with an untrue one, and printed."""
     for turn, blocks, firsts in turns.every_start():
@@ -138,12 +145,13 @@ def turns_of_zero():
 
 
 def turns_fixed():
-    """The same of flights with a turn."""
-    yield "every tiny flight with a turn", tiny_turned_flights()
+    """Name and cases of those of flights with a turn, which are the same for every seed too."""
+    yield "every tiny flight with a turn", tiny_flights_with_turns()
     yield "every turn", all_calls(turns.every_turn())
     yield "delays about the turn", all_calls(itertools.chain(turns.about_delays(), turns.within_another()))
-    yield "turns above 600 and heads of a wrong length, before and behind other fields", all_calls(turns.turned_back())
+    yield "turns above 600 and heads of a wrong length, before and behind other fields", heads_turned_back()
     yield "flights that are impossible, with other fields behind them", impossible_and_more()
+    yield "free flights whose best order is another with a turn", (PlanCase(sheet, least=of_choices) for sheet in turns.other_best_order())
     yield "every row of up to four fields with turns", map(PlanCase, turns.field_rows())
     yield "every change of one byte of a flight with a turn, and every beginning", map(PlanCase, turns.changes())
     yield "every change of one byte of a plan with a turn", itertools.starmap(JudgeCase, turns.changed_plans())
@@ -322,7 +330,7 @@ def ordered_flights(rng, count):
     return of_families(rng, 2 * count, sheets.FLIGHTS, sheets.ordered_flight, 32)
 
 
-def small_turned_flights(rng, count):
+def small_flights_with_turns(rng, count):
     """Small flights with a turn, every order tried; some also judged and printed."""
     for number in range(share(count, 4)):
         sheet = turns.small_flight(rng)
@@ -354,7 +362,7 @@ DRAWN = {
     "large sheets": large_sheets, "full sheets": full_sheets, "small sortings with ties": tied_sortings, "full sortings with ties": full_tied_sortings,
     "sortings with ties beside other sections": tied_sheets, "plans with any of the best scanner lists": any_best_list,
     "plans for full sheets": plans_for_full, "pages for small sheets": pages_for_small, "pages for full sheets": pages_for_full,
-    "small flights with a turn": small_turned_flights, "flights of 8 free blocks that are impossible": impossible_flights,
+    "small flights with a turn": small_flights_with_turns, "flights of 8 free blocks that are impossible": impossible_flights,
     "sheets with a turn of 0 beside an empty head": drawn_turns_of_zero,
 }
 

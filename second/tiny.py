@@ -105,7 +105,7 @@ def flights():
         yield [(1, delay, 1) for delay in delays], [None, *range(64)]
 
 
-def turned_flights():
+def flights_with_turns():
     """The blocks of each flight, and its turn."""
     for turn in (1, 2, 3):
         delays = (turn - 1, turn, 2 * turn, 2 * turn + 1, 2 * turn + 2)

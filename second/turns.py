@@ -9,6 +9,7 @@ Sheets that are planned, judged and printed, with a plan of earliest starts in t
 - flights that are impossible and have another fault behind them, which comes first; also with too small a buffer.
 
 Sheets that are planned:
+- flights without order whose best order is another with a turn than without one, with every turn that leaves them possible, and one more;
 - every row of none to four fields of a list with heads of 0 to 3 bytes, turns of 0, 1 and 601, blocks with delays 0 and 1, and orders;
 - every change of one byte of a flight with a turn, with an order and without, and every beginning of it.
 
@@ -83,6 +84,24 @@ def within_another():
             yield flight(blocks, number, turn), earliest_plan(blocks, kept, turn)
 
 
+# Turns and blocks without order. Of all orders that are possible with the turn, those that end first end later than another where there is no turn.
+OTHER_BEST_ORDER = [
+    (2, [(4, 13, 3), (1, 8, 3), (4, 18, 1), (2, 13, 4)]),
+    (2, [(3, 7, 2), (1, 12, 1), (2, 19, 4), (3, 19, 2)]),
+    (3, [(1, 22, 3), (2, 19, 3), (1, 17, 3), (3, 11, 4)]),
+    (3, [(1, 12, 2), (3, 19, 4), (3, 15, 4), (3, 11, 1)]),
+    (3, [(4, 12, 3), (2, 21, 2), (2, 22, 2), (2, 17, 3)]),
+    (4, [(2, 14, 2), (4, 20, 3), (3, 21, 1), (1, 18, 1)]),
+]
+
+
+def other_best_order():
+    """These flights with every turn from 0 on that leaves them possible, and one more."""
+    for _, blocks in OTHER_BEST_ORDER:
+        shortest = min(delay for _, delay, _ in blocks)
+        yield from (flight(blocks, turn=turn) for turn in range(shortest + 2))
+
+
 # Behind a head that is turned back. None of it is looked at.
 BEHIND = [
     b"", block(1, 0, 1), block(1, 0, 1) * 9, block(1, 0, 1) * 33, block(1, 0, 1) * 9 + mosaic_head(1, 0), block(1, 0, 1) + order(2), order(2),
@@ -102,13 +121,13 @@ BEFORE = [
 ]
 
 
-def turned_back():
-    """A sheet and a plan."""
+def turned_back(behind):
+    """A sheet and a plan, with each of these behind the head."""
     heads = [flight_head(turn) for turn in (0, 600, 601, 602, 0x5802, 65535)]
     heads += [field(0x30, byte * length) for byte, length in itertools.product((b"\x00", b"\xFF"), (1, 3, 4))]
     cut = [flight_head(601)[:3], flight_head(601)[:4], field(0x30, b"\x59\x02\x00")[:5]]
     plan = tiny.HEADS["f"] + tiny.MEMBERS["f"]
-    yield from ((b"".join(parts), plan) for parts in itertools.product(BEFORE, heads, BEHIND))
+    yield from ((b"".join(parts), plan) for parts in itertools.product(BEFORE, heads, behind))
     yield from ((b"".join(parts), plan) for parts in itertools.product(BEFORE, cut))
 
 
