@@ -4,11 +4,11 @@
 -- `sevulamon_page` (page, Call.antt), and `GivesLength` of `sheet_lengths::length_due` (sheet_lengths, Lengths.antt). When a plan is allowed is said by
 -- the rules alone (rules: Mosaic, Sorting, Flight, Plan). Rows of bytes are lists of numbers; where a law needs that they are below 256, as those of every
 -- lent slice are, it says so (`AreBytes`).
-use Prim.Native.Nat.{ℕ, _+_, _*_, _≤_, _<_}
+use Prim.Native.Nat.{ℕ, zero, suc, _+_, _*_, _≤_, _<_}
 use mathlib.Core.Path.{_≡_, refl, sym, ap, ap₂, subst, _∙_}
 use mathlib.Core.Bool.{true, false, true≢false}
-use mathlib.Core.List.{List, [], _∷_, _++_}
-use mathlib.Core.Logic.{inl, inr}
+use mathlib.Core.List.{List, _++_}
+use mathlib.Core.Logic.{inl, inr, ⊎-elim}
 use lib.ListN.{length, drop}
 use native.Mathlib.Omega.{arith}
 use Rattle.field.specs.Bytes.{numberAt}
@@ -16,26 +16,30 @@ use Rattle.field.specs.Field.{fieldAt}
 use Rattle.field.specs.declared.Field.the-variants.{Whole}
 use Rattle.sheet.specs.Limits.{ceiling, mostStations, mostTurn, tableLength, planLength, pageLength}
 use Rattle.sheet.specs.Tags.{mosaicHeadTag, mosaicStripTag, sortingHeadTag, sortingStripTag, flightHeadTag, flightBlockTag, flightOrderTag}
-use Rattle.sheet.specs.Refusals.{outOfRange, orderImpossible, bufferTooSmall, layoutWrong, ruleBroken, figureUntrue, timeTooLarge, timeOfZero}
+use Rattle.sheet.specs.Refusals.{lengthWrong, outOfRange, orderImpossible, bufferTooSmall, layoutWrong, ruleBroken, figureUntrue, timeTooLarge, timeOfZero}
 use Rattle.sheet.specs.Read.{readSheet}
 use Rattle.sheet.specs.Theorems.{read-sound}
 use Rattle.sheet.specs.Among.{Among}
-use Rattle.sheet.specs.FieldTable.{Item, TableRow, fieldTable, tableOf, lengthOf, contentsOf, lengthsDue, turnFlightHead, Value, valuesOf}
-use Rattle.sheet.specs.Contents.{RowOfLength, two-bytes-due, flight-head-values}
-use Rattle.sheet.specs.Causes.{NoMembers, OrderMissing, Permitted, FirstOut, CountOutOfRange, TimeTooLarge, TimeOfZero}
+use Rattle.sheet.specs.FieldTable.{TableRow, fieldTable, tableOf, lengthOf, lengthsDue, turnFlightHead, Value, valuesOf}
+use Rattle.sheet.specs.Contents.{RowOfLength, head-lengths, head-length, flight-head-values}
+use Rattle.sheet.specs.Causes.{NoMembers, OrderMissing, Permitted, FirstOut, CountOutOfRange, TimeTooLarge, TimeOfZero, fieldRows, rowsAt}
 use Rattle.sheet.specs.Table.{Reached, RefusedFor, RefusedForValue}
-use Rattle.sheet.specs.Refused.{sound-exactly}
+use Rattle.sheet.specs.Rows.{rowAt}
+use Rattle.sheet.specs.Decided.{whole-at-not-cut}
+use Rattle.sheet.specs.Theorems.{at-field}
+use Rattle.sheet.specs.Refused.{sound-exactly, not-eleven}
 use Rattle.sheet.specs.Values.{count-exactly, too-large-exactly, zero-exactly}
 use Rattle.sheet.specs.Decode.{zeros}
 use Rattle.sheet.specs.Stores.{length-zeros}
 use Rattle.sheet.specs.Sound.{SheetSound}
 use Rattle.sheet.specs.FlightPlaces.{FieldRead, HeadRead, OrderRead, head-read, order-read}
-use Rattle.sheet.specs.WrittenZero.{emptyTurn, writtenZero, movedPlace, written-zero}
+use Rattle.sheet.specs.WrittenZero.{withEmptyHead, withWrittenZero, movedPlace, written-zero}
 use Rattle.sheet.specs.declared.Reading.{Reading}
 use Rattle.sheet.specs.declared.FlightSection.{FlightSection}
 use Rattle.sheet.specs.declared.Sheet.{Sheet}
 use Rattle.sheet_lengths.specs.Lengths.{lengthsGiven, GivesLength}
-use Rattle.sheet_lengths.specs.Theorems.{row-length, length-row, sole-length-due, head-lengths-due, strip-length-due, no-length, other-tag-none, other-count-none}
+use Rattle.sheet_lengths.specs.Theorems.{row-length, length-row, sole-row-length, head-lengths-due, strip-length-due, no-length, other-tag-none}
+use Rattle.sheet_lengths.specs.Theorems.{other-count-none}
 use Rattle.sheet_lengths.specs.declared.LengthDue.{LengthDue}
 use Rattle.sheet_lengths.specs.declared.LengthDue.the-variants.{Bytes, Either, None}
 use Rattle.order.specs.Order.{Proper}
@@ -45,7 +49,7 @@ use Rattle.base.specs.LeastFigure.{NoLarger, LeastFigure, same-least}
 use Rattle.rules.specs.Mosaic.{batchAt, MosaicUnder, MosaicLawful, mosaicFigure}
 use Rattle.rules.specs.Sorting.{jobAt, SortingUnder, SortingLawful, sortingFigure}
 use Rattle.rules.specs.ScannerList.{scannerList, SameOrAfter, SortingTaken}
-use Rattle.rules.specs.Flight.{passesAt, clearAt, FlightUnder, FlightLawful, Keeps, OrderAllowed, flightFigure}
+use Rattle.rules.specs.Flight.{passesAt, AllApart, FlightUnder, FlightLawful, Keeps, OrderAllowed, flightFigure}
 use Rattle.rules.specs.declared.Batch.{Batch}
 use Rattle.rules.specs.declared.Job.{Job}
 use Rattle.rules.specs.declared.Passes.{Passes}
@@ -53,7 +57,8 @@ use Rattle.rules.specs.Plan.{Plan, mosaicFields, sortingFields, flightFields, p
 use Rattle.plan_format.specs.Format.{sizeOf, flightHeadForm}
 use Rattle.plan_format.specs.ByteLaws.{AreBytes}
 use Rattle.plan_read.specs.PlanRead.{orderFrom, blocksFrom}
-use Rattle.rules_laws.specs.Turns.{AllApart, NextApart, neighbours-apart, neighbours-enough}
+use Rattle.rules_laws.specs.FlightRunning.{all-apart}
+use Rattle.rules_laws.specs.Turns.{NextApart, neighbours-apart, neighbours-enough}
 use Rattle.rules_laws.specs.Determined.{plan-most, plan-determined}
 use Rattle.judge.specs.Judged.{partAt, turnedBack, found, judged}
 use Rattle.judge_members.specs.Members.{present}
@@ -62,20 +67,21 @@ use Rattle.judge_laws.specs.Due.{LaidOut}
 use Rattle.judge.specs.declared.Judged.{Judged}
 use Rattle.judge_laws.specs.Fault.{HeadFollows, SectionFault, Fault}
 use Rattle.judge_laws.specs.Fault.{Reached as Judging}
-use Rattle.judge_laws.specs.Placed.{same-judged, same-refused}
+use Rattle.judge_laws.specs.OtherPlace.{same-judged, same-refused}
 use Rattle.judge_laws.specs.Theorems.{FiguresTrue, FiguresGiven, judge-allows, allowed-judged, allowed-found, allowed-stated, judged-figures, figures-given}
 use Rattle.judge_laws.specs.Theorems.{fault-judged, judged-fault, judged-sheet-only}
 use Rattle.mosaic.specs.Plan.{lasts}
 use Rattle.mosaic.specs.Theorems.{mosaic-ceiling}
 use Rattle.sorting.specs.Theorems.{sorting-ceiling}
 use Rattle.flight.specs.Chosen.{ShortDelay}
-use Rattle.flight.specs.Theorems.{flight-ceiling}
+use Rattle.flight.specs.Choice.{oneByOne, chosenOrder}
+use Rattle.flight.specs.Theorems.{flight-ceiling, flight-unsearched}
 use Rattle.planner.specs.Call.{chosenPlan, clearedTo, tableAfter, Called}
 use Rattle.planner.specs.Outcomes.{Large, Accepted, call-accepted, call-refused, call-small, call-cleared, ourBytes}
 use Rattle.planner.specs.TurnedBack.{TurnedBack, turned-back, turned-back-only, eleven-only, sheet-only, else-accepted}
 use Rattle.planner.specs.Theorems.{figureOfMosaic, figureOfSorting, figureOfFlight, Least, Impossible, plan-lawful, plan-least-mosaic, plan-least-sorting}
-use Rattle.planner.specs.Placed.{movedAnswer, same-answer, same-buffer, same-table}
-use Rattle.planner.specs.Theorems.{free-impossible-exactly, plan-least-flight, plan-early-mosaic, plan-early-sorting, plan-early-flight, plan-earliest, plan-taken, taken-determined}
+use Rattle.planner.specs.OtherPlace.{movedAnswer, same-answer, same-buffer, same-table}
+use Rattle.planner.specs.Theorems.{NoTimetable, NoOrder, free-impossible-exactly, plan-least-flight, plan-early-mosaic, plan-early-sorting, plan-early-flight, plan-earliest, plan-taken, taken-determined}
 use Rattle.viewer.specs.Viewed.{Viewed}
 use Rattle.page.specs.Page.{pageLines, pageBytes}
 use Rattle.page.specs.Call.{pageOf, Paged}
@@ -370,7 +376,7 @@ module _ (sheet : List ℕ) (sound : readSheet sheet .number ≡ 0) where
             no-larger = w .no-larger;
           }
 
-  -- .. and an order that no timetable keeps within the ceiling is kept by none without it: 11 is never given because of the ceiling.
+  -- .. and where no allowed order is kept within the ceiling, none is without it: 11 is never given because of the ceiling.
   pub impossible-at-all : Impossible (readSheet sheet) → (c w : ℕ) (ps : List Passes) → OrderAllowed (readSheet sheet .flight) w
       → FlightUnder c (readSheet sheet .flight) ps → Keeps (readSheet sheet .flight) w ps → ⊥
   impossible-at-all none c w ps allowed law kept =
@@ -380,7 +386,7 @@ module _ (sheet : List ℕ) (sound : readSheet sheet .number ≡ 0) where
       possible : Impossible (readSheet sheet) → (qs : List Passes) → FlightLawful (readSheet sheet .flight) qs → Keeps (readSheet sheet .flight) w qs → ⊥
       possible (Impossible.order-given o none-keeps) qs lawful keeps =
           none-keeps qs lawful (subst (λ (v : ℕ). Keeps (readSheet sheet .flight) v qs) (allowed .as-given o) keeps)
-      possible (Impossible.no-order-given o none-keeps) qs lawful keeps = none-keeps w qs (allowed .proper) lawful keeps
+      possible (Impossible.no-order-given o none-keeps) qs lawful keeps = none-keeps w (allowed .proper) qs lawful keeps
 
 -- REQ 02. A page call: the sheet, the plan and the page buffer at entry, the page buffer at exit, and the answer. Page.antt of crate page says what the page of a
 -- timetable is, line by line, and Line.antt of crate page_lines what a line is, column by column. `written r pageAfter` is what the call has written: the first
@@ -596,15 +602,16 @@ module _ (sheet plan page pageAfter : List ℕ) (r : Answer) (call : Paged sheet
 -- A call of `length_due`: a tag, the number of stations in the head of the mosaic, and the answer; `GivesLength` is its contract (sheet_lengths, Lengths.antt).
 module _ (tag stations : ℕ) (due : LengthDue) (call : GivesLength tag stations due) where
   -- "Show that the cases give the field table's length for each tag in it": the length of each row of the tag is among those that the answer means (`lengthsGiven`),
-  -- and each of those is a row's. A tag of one row has its length; that of the flight head has two rows since Req 06.
+  -- and each of those is a row's. Every tag but that of the flight head has one row at most, and its length; the flight head has two rows since Req 06.
   pub length-by-list : (desks : ℕ) (r : TableRow) → Among r (fieldTable stations desks) → tag ≡ r .tag → Among (lengthOf (r .content)) (lengthsGiven due)
   length-by-list desks r a e = row-length tag stations due call desks r a (omega arith)
 
   pub no-other-length : (desks n : ℕ) → Among n (lengthsGiven due) → RowOfLength tag n (fieldTable stations desks)
   no-other-length desks n a = length-row tag stations due call desks n a
 
-  pub length-of-one-row : (desks : ℕ) (content : List Item) → contentsOf tag (fieldTable stations desks) ≡ content ∷ [] → due ≡ Bytes (lengthOf content)
-  length-of-one-row desks content one = sole-length-due tag stations due call desks content one
+  pub length-of-one-row : (desks : ℕ) (r : TableRow) → Among r (fieldTable stations desks) → tag ≡ r .tag → (tag ≡ flightHeadTag → ⊥)
+      → due ≡ Bytes (lengthOf (r .content))
+  length-of-one-row desks r a e other = sole-row-length tag stations due call desks r a e other
 
   pub lengths-of-a-flight-head : tag ≡ flightHeadTag → due ≡ Either 0 2
   lengths-of-a-flight-head e = head-lengths-due tag stations due call e
@@ -628,9 +635,9 @@ module _ (tag stations : ℕ) (due : LengthDue) (call : GivesLength tag stations
 -- both heads, and `turnOf` (sheet, Decode.antt) the turn of each. What the turn asks is said in Flight.antt of crate rules (`clearAt`, `apart`); all that is said
 -- above of allowed plans, of least figures and of starts is said of these rules: "The leastness of figure and starts is read with g in the rules."
 module _ (sheet : List ℕ) (sound : readSheet sheet .number ≡ 0) where
-  -- The turn of a sound sheet with a flight is the one that its flight head gives.
-  pub turn-of-the-head : 1 ≤ readSheet sheet .flight .blocks → HeadRead sheet (readSheet sheet .flight)
-  turn-of-the-head = head-read sheet sound
+  -- The turn of a sound sheet with a flight is the one that its flight head gives, and at most 600.
+  pub turn-of-the-head : 1 ≤ readSheet sheet .flight .blocks → HeadRead sheet (readSheet sheet .flight) × (readSheet sheet .flight .turn ≤ mostTurn)
+  turn-of-the-head some = (head-read sheet sound some, read-sound sheet sound .flight .most-turn)
 
   -- "Each pass starts at least g after the pass before it ends, whichever blocks they belong to": so it is in every timetable, for the passes in the order kept ..
   pub turn-before-each-pass : (w : ℕ) (ps : List Passes) → Proper (readSheet sheet .flight .blocks) w → FlightLawful (readSheet sheet .flight) ps
@@ -642,21 +649,30 @@ module _ (sheet : List ℕ) (sound : readSheet sheet .number ≡ 0) where
       → AllApart (readSheet sheet .flight) ps × Keeps (readSheet sheet .flight) w ps
   turns-are-enough w ps proper next = neighbours-enough (readSheet sheet .flight) w ps proper next (read-sound sheet sound .flight)
 
--- "A g over 600 counts as a time too large": 15, at the flight head when it is read, before anything that its section lacks. A flight head of two bytes that the
--- reading comes to, the section before it well ended and the head permitted there:
-pub record TurnTooLarge (sheet : List ℕ) (place : ℕ) : Type 0 where
+-- A flight head of a length that the reading comes to, the section before it having members and the head permitted behind it:
+pub record HeadReached (sheet : List ℕ) (len place : ℕ) : Type 0 where
   pub reading : Reading
   pub reached : Reached sheet reading
-  pub head : fieldAt sheet (reading .at) ≡ Whole flightHeadTag 2
+  pub head : fieldAt sheet (reading .at) ≡ Whole flightHeadTag len
   pub some-members : NoMembers flightHeadTag (reading .section) (reading .members) → ⊥
-  pub order-given : OrderMissing flightHeadTag (reading .section) (reading .members) → ⊥
   pub tag-permitted : Permitted flightHeadTag (reading .section) (reading .members)
-  pub too-large : mostTurn < numberAt sheet (reading .at + 3) 2
   pub place-is : place ≡ reading .at
 
-turn-refused : (sheet : List ℕ) (place : ℕ) → TurnTooLarge sheet place → RefusedForValue sheet TimeTooLarge place
-unfolding FirstOut TimeTooLarge turnFlightHead valuesOf
-turn-refused sheet place f =
+-- no flight stands before it that could lack an order
+before-the-flight : (section members : ℕ) → Permitted flightHeadTag section members → OrderMissing flightHeadTag section members → ⊥
+before-the-flight section members (Permitted.mosaic-head e h) m = omega arith
+before-the-flight section members (Permitted.mosaic-strip e h) m = omega arith
+before-the-flight section members (Permitted.sorting-head e h) m = omega arith
+before-the-flight section members (Permitted.sorting-strip e h) m = omega arith
+before-the-flight section members (Permitted.flight-head e h) m = omega (arith, m .blocks .flight)
+before-the-flight section members (Permitted.flight-block e h) m = omega arith
+before-the-flight section members (Permitted.flight-order e h l) m = omega arith
+
+-- "A g over 600 counts as a time too large": a head of two bytes with a turn above 600 is refused for that value, at its place, whatever its section lacks
+pub turn-too-large : (sheet : List ℕ) (place : ℕ) (f : HeadReached sheet 2 place) → mostTurn < numberAt sheet (f .reading .at + 3) 2
+    → RefusedForValue sheet TimeTooLarge place
+unfolding FirstOut TimeTooLarge turnFlightHead valuesOf Among
+turn-too-large sheet place f large =
     record {
       reading = f .reading;
       reached = f .reached;
@@ -664,28 +680,58 @@ turn-refused sheet place f =
       len = 2;
       whole = f .head;
       some-members = f .some-members;
-      order-given = f .order-given;
+      order-given = before-the-flight (f .reading .section) (f .reading .members) (f .tag-permitted);
       tag-permitted = f .tag-permitted;
       length-due = due;
-      first-out = subst (FirstOut TimeTooLarge) (sym (flight-head-values sheet (f .reading .at + 3) 2 _ _ due)) (inl (f .too-large));
+      first-out = subst (FirstOut TimeTooLarge) (sym (flight-head-values sheet (f .reading .at + 3) 2 _ _ due)) (inl large);
       place-is = f .place-is;
     }
   where
     due : Among 2 (lengthsDue flightHeadTag (tableOf (f .reading)))
-    due = two-bytes-due (f .reading .mosaic .stations) (f .reading .sorting .desks)
+    due = subst (Among 2) (sym (head-lengths (f .reading .mosaic .stations) (f .reading .sorting .desks))) (inr (inl refl))
+
+-- and a head that is neither empty nor of two bytes is refused for its length
+pub head-length-wrong : (sheet : List ℕ) (len place : ℕ) → HeadReached sheet len place → (len ≡ 0 → ⊥) → (len ≡ 2 → ⊥) → RefusedFor sheet lengthWrong place
+unfolding rowsAt fieldRows rowAt
+head-length-wrong sheet len place f h₀ h₂ =
+    record {
+      reading = f .reading;
+      reached = f .reached;
+      cause =
+          at-field sheet (f .reading) (Whole flightHeadTag len) lengthWrong place (f .head)
+          (record {
+            k = 4;
+            number-is = refl;
+            place-is = f .place-is;
+            cause = λ due. ⊎-elim h₀ h₂ (head-length len _ _ due);
+            before = before;
+          });
+    }
+  where
+    before : (i : ℕ) → i < 4 → rowAt (fieldRows sheet (f .reading) flightHeadTag len) i .cause → ⊥
+    before zero l c = whole-at-not-cut sheet (f .reading .at) flightHeadTag len (f .head) c
+    before (suc zero) l c = f .some-members c
+    before (suc (suc zero)) l c = before-the-flight (f .reading .section) (f .reading .members) (f .tag-permitted) c
+    before (suc (suc (suc zero))) l c = c (f .tag-permitted)
+    before (suc (suc (suc (suc i)))) l c = absurd (omega arith)
 
 module _ (sheet plan table planAfter tableEnd : List ℕ) (r : Answer) (call : Called sheet plan table planAfter tableEnd r) where
-  pub fifteen-for-a-turn-too-large : Large plan table → (place : ℕ) → TurnTooLarge sheet place → r ≡ answer timeTooLarge place 0
-  fifteen-for-a-turn-too-large large place f =
-      fifteen-for-a-time-too-large sheet plan table planAfter tableEnd r call .always large place (turn-refused sheet place f)
+  pub fifteen-for-a-turn : Large plan table → (place : ℕ) (f : HeadReached sheet 2 place) → mostTurn < numberAt sheet (f .reading .at + 3) 2
+      → r ≡ answer timeTooLarge place 0
+  fifteen-for-a-turn large place f l =
+      fifteen-for-a-time-too-large sheet plan table planAfter tableEnd r call .always large place (turn-too-large sheet place f l)
 
-  -- "A flight without an order can now be impossible as well: 11 is then given at the flight head, with buffers large enough exactly when the sheet is otherwise sound
-  -- and no proper order has a timetable." Where the sheet gives no order:
+  pub five-for-another-length : Large plan table → (len place : ℕ) → HeadReached sheet len place → (len ≡ 0 → ⊥) → (len ≡ 2 → ⊥)
+      → r ≡ answer lengthWrong place 0
+  five-for-another-length large len place f h₀ h₂ =
+      turned-back sheet plan table planAfter tableEnd r call lengthWrong place (TurnedBack.in-sheet large (head-length-wrong sheet len place f h₀ h₂))
+
+  -- "A flight without an order can now be impossible as well: 11 is then given at the flight head, with buffers large enough exactly when the sheet is otherwise
+  -- sound and no proper order has a timetable." Where the sheet gives no order:
   pub record ElevenAtHead : Type 0 where
     pub large : Large plan table
     pub sound : readSheet sheet .number ≡ 0
-    pub none : (w : ℕ) (ps : List Passes) → Proper (readSheet sheet .flight .blocks) w → FlightLawful (readSheet sheet .flight) ps
-        → Keeps (readSheet sheet .flight) w ps → ⊥
+    pub none : NoOrder (readSheet sheet .flight)
     pub length : ℕ
     pub head : FieldRead sheet flightHeadTag length (r .place)
 
@@ -693,7 +739,7 @@ module _ (sheet plan table planAfter tableEnd : List ℕ) (r : Answer) (call : C
   pub record ElevenAtOrder : Type 0 where
     pub large : Large plan table
     pub sound : readSheet sheet .number ≡ 0
-    pub none : (ps : List Passes) → FlightLawful (readSheet sheet .flight) ps → Keeps (readSheet sheet .flight) (readSheet sheet .flight .order) ps → ⊥
+    pub none : NoTimetable (readSheet sheet .flight) (readSheet sheet .flight .order)
     pub length : ℕ
     pub order : FieldRead sheet flightOrderTag length (r .place)
 
@@ -702,14 +748,10 @@ module _ (sheet plan table planAfter tableEnd : List ℕ) (r : Answer) (call : C
 
   pub eleven-at-the-flight-head : readSheet sheet .flight .ordered ≡ false
       → (r .number ≡ orderImpossible → ElevenAtHead)
-      × (Large plan table → readSheet sheet .number ≡ 0
-      → ((w : ℕ) (ps : List Passes) → Proper (readSheet sheet .flight .blocks) w → FlightLawful (readSheet sheet .flight) ps
-      → Keeps (readSheet sheet .flight) w ps → ⊥)
-      → r .number ≡ orderImpossible)
+      × (Large plan table → readSheet sheet .number ≡ 0 → NoOrder (readSheet sheet .flight) → r ≡ answer orderImpossible (readSheet sheet .flight .place) 0)
   eleven-at-the-flight-head free = (
     λ e. let p = eleven-only-then sheet plan table planAfter tableEnd r call e in given (p .0) (p .1) (p .2),
-    λ large sound none.
-        ap (λ (a : Answer). a .number) (eleven-always-then sheet plan table planAfter tableEnd r call large sound (Impossible.no-order-given free none)),
+    λ large sound none. eleven-always-then sheet plan table planAfter tableEnd r call large sound (Impossible.no-order-given free none),
   )
     where
       given : Large plan table → readSheet sheet .number ≡ 0 → Impossible (readSheet sheet) → ElevenAtHead
@@ -729,13 +771,11 @@ module _ (sheet plan table planAfter tableEnd : List ℕ) (r : Answer) (call : C
 
   pub eleven-at-the-order-field : readSheet sheet .flight .ordered ≡ true
       → (r .number ≡ orderImpossible → ElevenAtOrder)
-      × (Large plan table → readSheet sheet .number ≡ 0
-      → ((ps : List Passes) → FlightLawful (readSheet sheet .flight) ps → Keeps (readSheet sheet .flight) (readSheet sheet .flight .order) ps → ⊥)
-      → r .number ≡ orderImpossible)
+      × (Large plan table → readSheet sheet .number ≡ 0 → NoTimetable (readSheet sheet .flight) (readSheet sheet .flight .order)
+      → r ≡ answer orderImpossible (readSheet sheet .flight .place) 0)
   eleven-at-the-order-field ordered = (
     λ e. let p = eleven-only-then sheet plan table planAfter tableEnd r call e in given (p .0) (p .1) (p .2),
-    λ large sound none.
-        ap (λ (a : Answer). a .number) (eleven-always-then sheet plan table planAfter tableEnd r call large sound (Impossible.order-given ordered none)),
+    λ large sound none. eleven-always-then sheet plan table planAfter tableEnd r call large sound (Impossible.order-given ordered none),
   )
     where
       given : Large plan table → readSheet sheet .number ≡ 0 → Impossible (readSheet sheet) → ElevenAtOrder
@@ -750,37 +790,55 @@ module _ (sheet plan table planAfter tableEnd : List ℕ) (r : Answer) (call : C
           }
       given large sound (Impossible.no-order-given o none) = absurd (true≢false (sym ordered ∙ o))
 
-  -- A flight without an order is impossible exactly where some block's delay is below g; that is how it is decided, without a search (`freeOrder` of flight, Choice.antt).
+  -- A flight without an order is impossible exactly where some block's delay is below g ..
   pub free-eleven-by-the-delays : readSheet sheet .flight .ordered ≡ false
       → (r .number ≡ orderImpossible → ShortDelay (readSheet sheet .flight))
-      × (Large plan table → readSheet sheet .number ≡ 0 → ShortDelay (readSheet sheet .flight) → r .number ≡ orderImpossible)
+      × (Large plan table → readSheet sheet .number ≡ 0 → ShortDelay (readSheet sheet .flight)
+      → r ≡ answer orderImpossible (readSheet sheet .flight .place) 0)
   free-eleven-by-the-delays free = (
     λ e. let p = eleven-only-then sheet plan table planAfter tableEnd r call e in free-impossible-exactly sheet (p .1) free .0 (p .2),
-    λ large sound short.
-        ap (λ (a : Answer). a .number)
-        (eleven-always-then sheet plan table planAfter tableEnd r call large sound (free-impossible-exactly sheet sound free .1 short)),
+    λ large sound short. eleven-always-then sheet plan table planAfter tableEnd r call large sound (free-impossible-exactly sheet sound free .1 short),
   )
 
--- "a turn too short is 13 at the head": the sheet is sound, the plan laid out, no section before has a fault and every block follows, but in the order that the plan
--- states some pass starts less than g after the pass before it ends. Then the judge gives 13 at the plan's flight head, before 14.
+  -- .. and then no order is searched for: that of the blocks one after the other is the only one tried.
+  pub no-search-for-a-short-delay : readSheet sheet .flight .ordered ≡ false → readSheet sheet .number ≡ 0 → ShortDelay (readSheet sheet .flight)
+      → chosenOrder (readSheet sheet .flight) ≡ oneByOne (readSheet sheet .flight .blocks)
+  no-search-for-a-short-delay free sound short = flight-unsearched (readSheet sheet .flight) (read-sound sheet sound .flight) free short
+
+-- A judging call gives 15 and 5 for such a head in the same way, and it never gives 11.
+module _ (sheet plan : List ℕ) (j : Judged) (call : j ≡ judged sheet plan) where
+  pub judged-fifteen-for-a-turn : (place : ℕ) (f : HeadReached sheet 2 place) → mostTurn < numberAt sheet (f .reading .at + 3) 2
+      → j ≡ turnedBack timeTooLarge place
+  judged-fifteen-for-a-turn place f l = judged-fifteen sheet plan j call .always place (turn-too-large sheet place f l)
+
+  pub judged-five-for-another-length : (len place : ℕ) → HeadReached sheet len place → (len ≡ 0 → ⊥) → (len ≡ 2 → ⊥) → j ≡ turnedBack lengthWrong place
+  judged-five-for-another-length len place f h₀ h₂ =
+      turns-back-for-its-fault sheet plan j call lengthWrong place (Fault.in-sheet (head-length-wrong sheet len place f h₀ h₂))
+
+  pub judge-never-gives-eleven : j .number ≡ orderImpossible → ⊥
+  judge-never-gives-eleven = rw call (λ e. not-eleven sheet _ _ (judged-sheet-only sheet plan orderImpossible (omega arith) (λ l m. omega arith) e) refl)
+
+-- "a turn too short is 13 at the head": the sheet is sound, the plan laid out, no section before has a fault and every block follows, but some two passes of the
+-- plan are less than g apart. Then the judge gives 13 at the plan's flight head, before 14.
 pub short-turn-is-thirteen : (sheet plan : List ℕ) (j : Judged) → j ≡ judged sheet plan → readSheet sheet .number ≡ 0 → LaidOut (readSheet sheet) plan
     → ((i : ℕ) → 1 ≤ i → i < 3 → present (readSheet sheet) i ≡ true → (n p : ℕ) → SectionFault (readSheet sheet) plan i n p → ⊥)
     → present (readSheet sheet) 3 ≡ true
     → (st : Progress) → Judging (readSheet sheet) plan 3 (partAt (readSheet sheet) plan 3 .members) st
-    → (NextApart (readSheet sheet .flight) (orderFrom plan (partAt (readSheet sheet) plan 3 .head))
+    → (AllApart (readSheet sheet .flight)
     (blocksFrom plan (partAt (readSheet sheet) plan 3 .head + sizeOf flightHeadForm) (partAt (readSheet sheet) plan 3 .members)) → ⊥)
     → j ≡ turnedBack ruleBroken (partAt (readSheet sheet) plan 3 .head)
-unfolding HeadFollows clearAt
+unfolding HeadFollows
 short-turn-is-thirteen sheet plan j call sound laid before there st judging short =
     turns-back-for-its-fault sheet plan j call ruleBroken _
     (Fault.in-section 3 sound laid (omega arith) (omega arith) before there
-    (SectionFault.at-head st judging (λ h. short (record { apart = h .in-order })) refl refl))
+    (SectionFault.at-head st judging (λ h. short (all-apart (readSheet sheet .flight) _ _ (h .allowed .proper) (h .in-order))) refl refl))
 
 -- "an empty head means 0": with an empty flight head behind some bytes, and with a written turn of 0 in its place, wherever the reading comes to that head, two
--- calls with the same buffers give the same number, plan bytes and length, and places behind the head are two higher (`movedPlace`).
-module _ (before rest : List ℕ) (st : Reading) (reached : Reached (emptyTurn before rest) st) (here : st .at ≡ length before) where
+-- calls with the same buffers give the same number, plan bytes and length, and places behind the head are two higher (`movedPlace`). A sheet that is refused at
+-- a field before it never comes to the head.
+module _ (before rest : List ℕ) (st : Reading) (reached : Reached (withEmptyHead before rest) st) (here : st .at ≡ length before) where
   module _ (plan table planAfter tableEnd otherAfter otherEnd : List ℕ) (r q : Answer)
-      (call : Called (emptyTurn before rest) plan table planAfter tableEnd r) (other : Called (writtenZero before rest) plan table otherAfter otherEnd q) where
+      (call : Called (withEmptyHead before rest) plan table planAfter tableEnd r) (other : Called (withWrittenZero before rest) plan table otherAfter otherEnd q) where
     pub written-zero-planned : (q ≡ movedAnswer (length before) r) × (otherAfter ≡ planAfter) × (otherEnd ≡ tableEnd)
     written-zero-planned =
         let same = written-zero before rest st reached here in
@@ -791,9 +849,9 @@ module _ (before rest : List ℕ) (st : Reading) (reached : Reached (emptyTurn b
         )
 
   -- and the judge gives every plan the same number, place and figures where the sheet is sound, and else turns both back with the same number
-  pub written-zero-judged : (plan : List ℕ) (j k : Judged) → j ≡ judged (emptyTurn before rest) plan → k ≡ judged (writtenZero before rest) plan
-      → (readSheet (emptyTurn before rest) .number ≡ 0 → k ≡ j)
-      × ((readSheet (emptyTurn before rest) .number ≡ 0 → ⊥) → k ≡ turnedBack (j .number) (movedPlace (length before) (j .place)))
+  pub written-zero-judged : (plan : List ℕ) (j k : Judged) → j ≡ judged (withEmptyHead before rest) plan → k ≡ judged (withWrittenZero before rest) plan
+      → (readSheet (withEmptyHead before rest) .number ≡ 0 → k ≡ j)
+      × ((readSheet (withEmptyHead before rest) .number ≡ 0 → ⊥) → k ≡ turnedBack (j .number) (movedPlace (length before) (j .place)))
   written-zero-judged plan j k judging also =
       let same = written-zero before rest st reached here in
       rw (judging, also) (same-judged _ _ _ same plan, same-refused _ _ _ same plan)

@@ -11,8 +11,8 @@ use borrow.Author.Tests.{le-leb, lt-leb}
 use Rattle.sheet.specs.Limits.{mostBlocks}
 use Rattle.sheet.specs.Sound.{FlightSound}
 use Rattle.sheet.specs.declared.FlightSection.{FlightSection}
-use Rattle.flight.specs.Choice.{delaysFit, alternate}
-use Rattle.flight.specs.Alternate.{low-more}
+use Rattle.flight.specs.Choice.{delaysFit, oneByOne}
+use Rattle.flight.specs.OneByOne.{low-more}
 
 -- the first i delays are at least the turn
 pub record FitSoFar (f : FlightSection) (n : ℕ) (delay : List ℕ) (i : ℕ) : Type 0 where
@@ -66,10 +66,10 @@ module _ (f : FlightSection) (n : ℕ) (delay : List ℕ) (i : ℕ) (t : FitSoFa
 -- the order of the first i blocks
 pub record OrderSoFar (n order i : ℕ) : Type 0 where
   pub within : i ≤ n
-  pub so-far : order ≡ alternate i
+  pub so-far : order ≡ oneByOne i
 
 pub order-none : (n : ℕ) → OrderSoFar n 0 0
-unfolding alternate
+unfolding oneByOne
 order-none n = record { within = omega arith; so-far = refl }
 
 module _ (n order i : ℕ) (t : OrderSoFar n order i) where
@@ -80,11 +80,11 @@ module _ (n order i : ℕ) (t : OrderSoFar n order i) where
   order-low l = rw (t .so-far) (low-more n i l)
 
   pub order-more : (next : ℕ) → i < n → next ≡ order + 2 ^ (2 * i + 1) → OrderSoFar n next (i + 1)
-  unfolding alternate
+  unfolding oneByOne
   order-more next l e = record { within = omega arith; so-far = rw (e, t .so-far, add-one i) }
 
-  pub order-all : n ≤ i → order ≡ alternate n
-  order-all l = t .so-far ∙ ap alternate all
+  pub order-all : n ≤ i → order ≡ oneByOne n
+  order-all l = t .so-far ∙ ap oneByOne all
     where
       all : i ≡ n
       all = omega (arith, t .within)

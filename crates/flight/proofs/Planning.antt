@@ -24,7 +24,7 @@ use Rattle.flight_order.specs.Contracts.{LeastStartsPre, Least}
 use Rattle.flight_search.specs.Search.{noIncumbent, searched}
 use Rattle.flight_search.specs.Orders.{ordersOf, freeSection}
 use Rattle.flight_search.specs.Contracts.{BlockTimes}
-use Rattle.flight.specs.Choice.{delaysFit, alternate, chosenOrder, isPossible, leastFigure, chosenPasses, passesOfPlan, PlannedIn, Planned}
+use Rattle.flight.specs.Choice.{delaysFit, oneByOne, chosenOrder, isPossible, leastFigure, chosenPasses, passesOfPlan, PlannedIn, Planned}
 use Rattle.flight.specs.Chosen.{chosen-given, chosen-free, chosen-none, chosen-proper}
 use Rattle.flight.specs.Contracts.{SomeBlocks, PlanChosenPre, PlanInOrderPre, PlanBlocksPre, Copied}
 use Rattle.flight_search.specs.declared.Incumbent.{Incumbent}
@@ -83,7 +83,7 @@ module _ (f : FlightSection) where
     unfolding ordersOf possibleIn orderFigure leastStarts
     searched-order best h q = ap (λ (b : Incumbent). b .order) q ∙ sym (chosen-free f e (sym d ∙ not-false fits h))
 
-    pub order-unsearched : (w : ℕ) → not fits ≡ true → w ≡ alternate (f .blocks) → w ≡ chosenOrder f
+    pub order-unsearched : (w : ℕ) → not fits ≡ true → w ≡ oneByOne (f .blocks) → w ≡ chosenOrder f
     order-unsearched w h q = q ∙ sym (chosen-none f e (sym d ∙ not-true fits h))
 
   pub block-times : SomeBlocks f → BlockTimes (f .blocks) (f .turn) (f .first) (f .second) (f .delay)

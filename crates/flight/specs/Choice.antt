@@ -21,15 +21,15 @@ delaysFit f zero = true
 delaysFit f (suc k) = delaysFit f k && leb (f .turn) (getD (f .delay) k 0)
 
 -- the order of i blocks one after the other
-unfoldable pub alternate : ℕ → ℕ
-alternate zero = 0
-alternate (suc i) = alternate i + 2 ^ (2 * i + 1)
+unfoldable pub oneByOne : ℕ → ℕ
+oneByOne zero = 0
+oneByOne (suc i) = oneByOne i + 2 ^ (2 * i + 1)
 
 -- The order of a flight without a given one. Where a delay is shorter than the turn no order is possible (`flight-free` of Theorems.antt): then none is searched
--- for, and that of the blocks one after the other stands for all.
+-- for, and that of the blocks one after the other is taken, which like every order is impossible.
 unfoldable pub freeOrder : FlightSection → ℕ
 freeOrder f =
-    elim (delaysFit f (f .blocks)) [ true ↦ searched (ordersOf f) (2 * f .blocks) 0 noIncumbent .order | false ↦ alternate (f .blocks) ]
+    elim (delaysFit f (f .blocks)) [ true ↦ searched (ordersOf f) (2 * f .blocks) 0 noIncumbent .order | false ↦ oneByOne (f .blocks) ]
 
 -- 01: "A given order must be kept; otherwise any proper order may be chosen."
 unfoldable pub chosenOrder : FlightSection → ℕ

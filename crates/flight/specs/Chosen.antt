@@ -24,8 +24,8 @@ use Rattle.flight_search.specs.Orders.{ordersOf}
 use Rattle.flight_search.specs.Search.{noIncumbent, searched}
 use Rattle.flight_search.specs.Searched.{Attained, AsGood, search-attained, search-least}
 use Rattle.flight_search.specs.declared.Incumbent.{Incumbent}
-use Rattle.flight.specs.Choice.{delaysFit, alternate, freeOrder, chosenOrder, isPossible, leastFigure}
-use Rattle.flight.specs.Alternate.{alternate-proper, alternate-possible}
+use Rattle.flight.specs.Choice.{delaysFit, oneByOne, freeOrder, chosenOrder, isPossible, leastFigure}
+use Rattle.flight.specs.OneByOne.{one-by-one-proper, one-by-one-possible}
 
 -- The test of the delays decides it, one way and the other.
 pub delays-long : (f : FlightSection) (k : ℕ) → delaysFit f k ≡ true → (i : ℕ) → i < k → f .turn ≤ getD (f .delay) i 0
@@ -52,6 +52,13 @@ delay-short f (suc k) l e = go (delaysFit f k) refl e (delay-short f k (omega ar
     go : (b : Bool) → delaysFit f k ≡ b → b && leb (f .turn) (getD (f .delay) k 0) ≡ false → (delaysFit f k ≡ false → ShortDelay f) → ShortDelay f
     go false q e before = before q
     go true q e before = record { block = k; known = omega arith; short = omega (arith, leb-false (f .turn) (getD (f .delay) k 0) e) }
+
+pub short-unfit : (f : FlightSection) → ShortDelay f → delaysFit f (f .blocks) ≡ false
+short-unfit f s = go (delaysFit f (f .blocks)) refl
+  where
+    go : (b : Bool) → delaysFit f (f .blocks) ≡ b → b ≡ false
+    go true e = absurd (omega (arith, s .short, delays-long f (f .blocks) e (s .block) (s .known)))
+    go false e = refl
 
 -- In any timetable a block's own passes are the turn apart.
 pub own-apart : {c : ℕ} (f : FlightSection) → FlightSound f → (ps : List Passes) → FlightUnder c f ps → (i : ℕ) → i < f .blocks
@@ -81,14 +88,14 @@ module _ (f : FlightSection) where
   not-given e = rw e
 
   order-found : (b : Bool) → delaysFit f (f .blocks) ≡ b
-      → freeOrder f ≡ elim b [ true ↦ searched (ordersOf f) (2 * f .blocks) 0 noIncumbent .order | false ↦ alternate (f .blocks) ]
+      → freeOrder f ≡ elim b [ true ↦ searched (ordersOf f) (2 * f .blocks) 0 noIncumbent .order | false ↦ oneByOne (f .blocks) ]
   unfolding freeOrder
-  order-found b e = ap (λ (x : Bool). elim x [ true ↦ searched (ordersOf f) (2 * f .blocks) 0 noIncumbent .order | false ↦ alternate (f .blocks) ]) e
+  order-found b e = ap (λ (x : Bool). elim x [ true ↦ searched (ordersOf f) (2 * f .blocks) 0 noIncumbent .order | false ↦ oneByOne (f .blocks) ]) e
 
   pub chosen-free : f .ordered ≡ false → delaysFit f (f .blocks) ≡ true → chosenOrder f ≡ searched (ordersOf f) (2 * f .blocks) 0 noIncumbent .order
   chosen-free e long = not-given e ∙ order-found true long
 
-  pub chosen-none : f .ordered ≡ false → delaysFit f (f .blocks) ≡ false → chosenOrder f ≡ alternate (f .blocks)
+  pub chosen-none : f .ordered ≡ false → delaysFit f (f .blocks) ≡ false → chosenOrder f ≡ oneByOne (f .blocks)
   chosen-none e short = not-given e ∙ order-found false short
 
   result : Incumbent
@@ -117,7 +124,7 @@ module _ (f : FlightSection) where
     -- .. and where every delay is, the search finds an order.
     found : delaysFit f (f .blocks) ≡ true → result .possible ≡ true
     found long =
-        as-good (alternate (f .blocks)) (alternate-proper (f .blocks)) (alternate-possible f sound (delays-long f (f .blocks) long)) .some
+        as-good (oneByOne (f .blocks)) (one-by-one-proper (f .blocks)) (one-by-one-possible f sound (delays-long f (f .blocks) long)) .some
 
     pub chosen-proper : Proper (f .blocks) (chosenOrder f)
     unfolding ordersOf result
@@ -126,7 +133,7 @@ module _ (f : FlightSection) where
         go : (o : Bool) → f .ordered ≡ o → (b : Bool) → delaysFit f (f .blocks) ≡ b → Proper (f .blocks) (chosenOrder f)
         go true e b d = rw (chosen-given e) (sound .given e)
         go false e true d = rw (chosen-free e d) (attained .proper (found d))
-        go false e false d = rw (chosen-none e d) (alternate-proper (f .blocks))
+        go false e false d = rw (chosen-none e d) (one-by-one-proper (f .blocks))
 
     pub chosen-allowed : OrderAllowed f (chosenOrder f)
     chosen-allowed = record { proper = chosen-proper; as-given = chosen-given }

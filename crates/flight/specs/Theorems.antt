@@ -15,8 +15,9 @@ use Rattle.rules_laws.specs.FlightRunning.{start-first, second-start}
 use Rattle.flight_order.specs.Ceiling.{latestEnd}
 use Rattle.flight_order.specs.Timetable.{leastPasses}
 use Rattle.flight_order.specs.Planned.{possible-lawful, possible-keeps, kept-possible, least-earliest, least-figure, figure-below, least-ends}
-use Rattle.flight.specs.Choice.{chosenOrder, isPossible, leastFigure, chosenPasses}
-use Rattle.flight.specs.Chosen.{ShortDelay, chosen-proper, chosen-allowed, chosen-least, allowed-possible, impossible-short, short-impossible}
+use Rattle.flight.specs.Choice.{oneByOne, chosenOrder, isPossible, leastFigure, chosenPasses}
+use Rattle.flight.specs.Chosen.{ShortDelay, short-unfit, chosen-none, chosen-proper, chosen-allowed, chosen-least, allowed-possible, impossible-short}
+use Rattle.flight.specs.Chosen.{short-impossible}
 
 module _ (f : FlightSection) (sound : FlightSound f) where
   -- A plan that is possible is a timetable, keeps its order, and the order is the given one or, where none is given, a proper one.
@@ -77,13 +78,13 @@ module _ (f : FlightSection) (sound : FlightSound f) where
       go none true e = let h = flight-lawful e in absurd (none (chosenOrder f) (chosenPasses f) (h .0) (h .1) (h .2))
       go none false e = refl
 
-  -- 02, Req 06. Where no order is given, the plan is not possible exactly where some block's delay is shorter than the turn; where one is given, it is not
-  -- possible there either.
+  -- 02, Req 06. Where no order is given, the plan is not possible exactly where some block's delay is shorter than the turn ..
   pub flight-free : f .ordered ≡ false → (isPossible f ≡ false → ShortDelay f) × (ShortDelay f → isPossible f ≡ false)
   flight-free e = (impossible-short f sound e, short-impossible f sound)
 
-  pub flight-short : ShortDelay f → isPossible f ≡ false
-  flight-short = short-impossible f sound
+  -- .. and then no order is searched for: that of the blocks one after the other is taken, which is not possible either.
+  pub flight-unsearched : f .ordered ≡ false → ShortDelay f → chosenOrder f ≡ oneByOne (f .blocks)
+  flight-unsearched e short = chosen-none f e (short-unfit f short)
 
   -- The ceiling is never met: every pass of the plan ends by `latestEnd`, 32 times both passes and the delay of a block, and 63 turns.
   pub flight-ends : isPossible f ≡ true → (p : ℕ) → p < 2 * f .blocks → passEnd f (chosenPasses f) p ≤ latestEnd

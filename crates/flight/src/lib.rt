@@ -4,7 +4,7 @@ ghost use mathlib.Core.Path.{_≡_};
 ghost use Prim.Native.Nat.{_≤_};
 ghost use Rattle.sheet.specs.Limits.{mostBlocks};
 ghost use Rattle.sheet.specs.Sound.{FlightSound};
-ghost use Rattle.flight.specs.Choice.{delaysFit, alternate, chosenOrder, Planned, PlannedIn};
+ghost use Rattle.flight.specs.Choice.{delaysFit, oneByOne, chosenOrder, Planned, PlannedIn};
 ghost use Rattle.flight.specs.Contracts.{SomeBlocks, PlanChosenPre, PlanInOrderPre, PlanBlocksPre, CopyStartsPre, Copied};
 use sheet::FlightSection;
 
@@ -85,7 +85,7 @@ fn delays_fit(f: FlightSection) -> bool
 // The order of n blocks one after the other.
 fn one_by_one(n: usize) -> u64
     requires { ⌜ n ≤ mostBlocks ⌝ }
-    ensures { λ r. ⌜ r ≡ alternate n ⌝ }
+    ensures { λ r. ⌜ r ≡ oneByOne n ⌝ }
 {
     let mut order: u64 = 0;
     let mut i: usize = 0;

@@ -13,4 +13,4 @@ pub mod Decided
 pub mod Figures
 pub mod Faults
 pub mod Theorems
-pub mod Placed
+pub mod OtherPlace

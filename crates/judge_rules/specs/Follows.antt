@@ -51,7 +51,8 @@ blockInTime due second end = eqb second due && leb end ceiling
 unfoldable pub blockFollows : FlightSection → ℕ → Passes → Bool
 blockFollows f i p = ltb i (f .blocks) && blockInTime (secondDue f i p) (p .second) (p .second + getD (f .second) i 0)
 
--- "At the head: members missing, order number improper or not the one given, passes not in its order or overlapping."
+-- "At the head: members missing, order number improper or not the one given, passes not in its order or overlapping." 02, Req 06: "a turn too short is 13 at
+-- the head".
 unfoldable pub allDone : List ℕ → List ℕ → ℕ → Bool
 allDone counts done zero = true
 allDone counts done (suc desk) = allDone counts done desk && eqb (getD done desk 0) (getD counts desk 0)

@@ -12,7 +12,7 @@ use Rattle.flight_order.specs.Constraints.{constraintOf, leastStarts, possibleI
 use Rattle.flight_order.specs.Timetable.{passesWithStarts, leastPasses}
 use Rattle.flight_search.specs.Search.{improves, tried, searched}
 use Rattle.flight_search.specs.Orders.{ordersOf}
-use Rattle.flight.specs.Choice.{delaysFit, alternate, freeOrder, chosenOrder, isPossible, chosenPasses}
+use Rattle.flight.specs.Choice.{delaysFit, oneByOne, freeOrder, chosenOrder, isPossible, chosenPasses}
 use Rattle.planner.specs.Call.{chosenPlan, answerOf, plannedBytes, sheetAnswer, sheetPlan}
 use Rattle.planner.specs.Theorems.{figureOfMosaic, figureOfSorting, figureOfFlight}
 
@@ -21,6 +21,6 @@ unfolding
     mountStart benchStart finishOf leastOpen leastFrom batchOf chosenOpen chosenFrom weightOf weightSum instanceOf chosenBatches
     stepOf keep overDesks branch searchFrom startState firstBest sortingInstance listedDesk reached jobOf listed jobsOfList chosenJobs
     relax relaxed rounds holds leastValues solvable constraintOf leastStarts possibleIn orderFigure passesWithStarts leastPasses
-    improves tried searched ordersOf delaysFit alternate freeOrder chosenOrder isPossible chosenPasses
+    improves tried searched ordersOf delaysFit oneByOne freeOrder chosenOrder isPossible chosenPasses
     chosenPlan sheetAnswer sheetPlan answerOf plannedBytes figureOfMosaic figureOfSorting figureOfFlight
 plannerComputes = tt

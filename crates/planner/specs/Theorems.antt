@@ -44,13 +44,17 @@ figureOfFlight s p = flightFigure (s .flight) (p .passes)
 unfoldable pub Least : (Sheet → Plan → ℕ) → Sheet → Plan → Type 0
 Least figure s q = (c : ℕ) (other : Plan) → PlanUnder c s other → figure s q ≤ figure s other
 
+-- no timetable keeps an order; no proper order has a timetable
+abbrev pub NoTimetable : FlightSection → ℕ → Type 0
+NoTimetable f w = (ps : List Passes) → FlightLawful f ps → Keeps f w ps → ⊥
+
+abbrev pub NoOrder : FlightSection → Type 0
+NoOrder f = (w : ℕ) → Proper (f .blocks) w → NoTimetable f w
+
 -- 11: "no timetable keeps the given order". 02, Req 06: "A flight without an order can now be impossible as well: .. no proper order has a timetable."
 pub data Impossible (s : Sheet) : Type 0 where
-  order-given :
-      s .flight .ordered ≡ true → ((ps : List Passes) → FlightLawful (s .flight) ps → Keeps (s .flight) (s .flight .order) ps → ⊥) → Impossible s
-  no-order-given :
-      s .flight .ordered ≡ false
-      → ((w : ℕ) (ps : List Passes) → Proper (s .flight .blocks) w → FlightLawful (s .flight) ps → Keeps (s .flight) w ps → ⊥) → Impossible s
+  order-given : s .flight .ordered ≡ true → NoTimetable (s .flight) (s .flight .order) → Impossible s
+  no-order-given : s .flight .ordered ≡ false → NoOrder (s .flight) → Impossible s
 
 module _ (sheet : List ℕ) (sound : readSheet sheet .number ≡ 0) where
   whole : SheetSound (readSheet sheet)
@@ -70,14 +74,14 @@ module _ (sheet : List ℕ) (sound : readSheet sheet .number ≡ 0) where
           (λ ps law keeps. flight-impossible f (whole .flight) .0 e ceiling (f .order) ps law keeps (record { proper = whole .flight .given o; as-given = λ _. refl }))
       is-impossible e false o =
           Impossible.no-order-given o
-          (λ w ps proper law keeps.
+          (λ w proper ps law keeps.
           flight-impossible f (whole .flight) .0 e ceiling w ps law keeps (record { proper = proper; as-given = λ g. absurd (true≢false (sym g ∙ o)) }))
 
       called-impossible : Impossible (readSheet sheet) → isPossible f ≡ false
       called-impossible (Impossible.order-given o none) =
           flight-impossible f (whole .flight) .1 (λ w ps law keeps allowed. none ps law (subst (λ (v : ℕ). Keeps f v ps) (allowed .as-given o) keeps))
       called-impossible (Impossible.no-order-given o none) =
-          flight-impossible f (whole .flight) .1 (λ w ps law keeps allowed. none w ps (allowed .proper) law keeps)
+          flight-impossible f (whole .flight) .1 (λ w ps law keeps allowed. none w (allowed .proper) ps law keeps)
 
   -- .. and where no order is given, exactly where some block's delay is shorter than the turn (02, Req 06) ..
   pub free-impossible-exactly : readSheet sheet .flight .ordered ≡ false

@@ -193,6 +193,11 @@ samples =
     -- passes of two blocks between each other, the turn apart, and a second too close
     ∷ row (ofFlight (blocksOf 1 false 0 (1 ∷ 1 ∷ []) (3 ∷ 3 ∷ []) (1 ∷ 1 ∷ [])) 0xC (starts 0 4 ∷ starts 2 6 ∷ [])) (lawful 7)
     ∷ row (ofFlight (blocksOf 2 false 0 (1 ∷ 1 ∷ []) (3 ∷ 3 ∷ []) (1 ∷ 1 ∷ [])) 0xC (starts 0 4 ∷ starts 2 6 ∷ [])) refused
+    -- the first passes alone too close, and the second passes alone
+    ∷ row (ofFlight (blocksOf 2 false 0 (1 ∷ 1 ∷ []) (6 ∷ 7 ∷ []) (1 ∷ 1 ∷ [])) 0xC (starts 0 7 ∷ starts 2 10 ∷ [])) refused
+    ∷ row (ofFlight (blocksOf 2 false 0 (1 ∷ 1 ∷ []) (6 ∷ 5 ∷ []) (1 ∷ 1 ∷ [])) 0xC (starts 0 7 ∷ starts 3 9 ∷ [])) refused
+    -- a last pass that ends at the ceiling: no turn is due behind it
+    ∷ row (ofFlight (blocksOf 600 false 0 (3 ∷ []) (600 ∷ []) (1 ∷ [])) 2 (starts 9_999_396 9_999_999 ∷ [])) (lawful 10_000_000)
     ∷ []
 
 unfoldable pub allTested : List Sample → Bool

@@ -47,12 +47,16 @@ clearAt f ps p = passEnd f ps p + f .turn
 abbrev pub Clear : FlightSection → List Passes → ℕ → ℕ → Type 0
 Clear f ps p q = clearAt f ps p ≤ passStart f ps q
 
+-- said of every pair of passes: one of the two comes after the other, clear of it. It is the same to say it of each pass and the next one in the order that is
+-- kept (rules_laws, Turns.antt).
+abbrev pub AllApart : FlightSection → List Passes → Type 0
+AllApart f ps = (p q : ℕ) → p < 2 * f .blocks → q < 2 * f .blocks → (p ≡ q → ⊥) → Clear f ps p q ⊎ Clear f ps q p
+
 -- a timetable of the flight under the ceiling c
 pub record FlightUnder (c : ℕ) (f : FlightSection) (ps : List Passes) : Type 0 where
   pub every-block : length ps ≡ f .blocks
   pub delay-kept : (i : ℕ) → i < f .blocks → DelayKept f i (passesAt ps i)
-  -- said of every pair of passes: one of the two comes after the other, clear of it
-  pub apart : (p q : ℕ) → p < 2 * f .blocks → q < 2 * f .blocks → (p ≡ q → ⊥) → Clear f ps p q ⊎ Clear f ps q p
+  pub apart : AllApart f ps
   -- "all starts and finishes are whole numbers from 0" to the ceiling
   pub within : (p : ℕ) → p < 2 * f .blocks → passEnd f ps p ≤ c
 

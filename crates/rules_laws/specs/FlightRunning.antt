@@ -1,5 +1,5 @@
 -- The rules of the flight, by pairs of passes and as they run over the blocks and over neighbours in the order, say the same.
--- Each pass ends, and the turn is over, before the next one in the order starts, so before every later one; and every pass stands somewhere in a proper order.
+-- Each pass ends, and the turn is over, before the next one in the order starts, so before every later one; every pass stands somewhere in a proper order.
 use mathlib.Core.Path.{_≡_, refl, sym, ap, subst, _∙_}
 use mathlib.Core.List.{List}
 use mathlib.Core.Logic.{_⊎_, inl, inr, ⊎-elim}
@@ -99,7 +99,7 @@ module _ (f : FlightSection) (ps : List Passes) where
       head = record { every-block = law .every-block; allowed = allowed; in-order = next-apart w law keeps (allowed .proper) };
     }
 
-  -- Where each pass ends before the next one in a proper order starts, it ends before every later one, and any two passes are apart.
+  -- Where each pass ends, and the turn is over, before the next one in a proper order starts, so it is before every later one, and any two passes are apart.
   module _ (w : ℕ) (proper : Proper (f .blocks) w)
       (next : (k : ℕ) → k + 1 < 2 * f .blocks → Clear f ps (passAt (f .blocks) w k) (passAt (f .blocks) w (k + 1))) where
     chain : (j d : ℕ) → j + 1 + d < 2 * f .blocks → Clear f ps (passAt (f .blocks) w j) (passAt (f .blocks) w (j + 1 + d))

@@ -67,7 +67,7 @@ pub record BlockFollows (f : FlightSection) (i : ℕ) (p : Passes) : Type 0 wher
   pub delay-kept : DelayKept f i p
   pub within : p .second + getD (f .second) i 0 ≤ ceiling
 
--- What is checked at the head of a flight: every block there, the order proper and as given, each pass after the one before it in the order.
+-- What is checked at the head of a flight: every block there, the order proper and as given, each pass at least the turn after the one before it in the order.
 pub record FlightHead (f : FlightSection) (order : ℕ) (ps : List Passes) : Type 0 where
   pub every-block : length ps ≡ f .blocks
   pub allowed : OrderAllowed f order

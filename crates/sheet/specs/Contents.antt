@@ -1,10 +1,10 @@
--- The field table by tag: the content that it has for each, and that a field of a length that is due has the values of that content.
+-- The field table by tag: the content that it has for each, for a flight head two, and that a field of a length that is due has the values of its content.
 -- The idea: for a tag that is known the table computes. Only the row of a mosaic strip does not: it is there or not by the number of stations.
 use Prim.Native.Nat.{ℕ, zero, suc, _+_, _*_, _≤_}
 use mathlib.Core.Path.{_≡_, refl, sym, ap, ap₂, subst, _∙_}
 use mathlib.Core.Bool.{Bool, true, false, cond, _&&_, true≢false}
 use mathlib.Core.List.{List, [], _∷_, _++_}
-use mathlib.Core.Logic.{inl, inr}
+use mathlib.Core.Logic.{_⊎_, inl, inr}
 use native.Mathlib.Omega.{arith}
 use lib.Dec.{eqb}
 use borrow.Author.Tests.{eq-eqb, ne-eqb, eqb-true, le-leb, leb-true}
@@ -94,10 +94,10 @@ module _ (stations desks : ℕ) where
   unfolding fieldTable contentsOf
   flight-order-content = past-strip flightOrderTag stations _ (λ e. omega arith)
 
-  -- a turn of two bytes is due in a flight head
-  pub two-bytes-due : Among 2 (lengthsDue flightHeadTag (fieldTable stations desks))
-  unfolding lengthsDue lengthsOf lengthOf emptyFlightHead turnFlightHead Among
-  two-bytes-due = rw flight-head-contents (inr (inl refl))
+  -- no byte and two bytes are due for a flight head, and no other length
+  pub head-lengths : lengthsDue flightHeadTag (fieldTable stations desks) ≡ 0 ∷ 2 ∷ []
+  unfolding lengthsDue lengthsOf lengthOf emptyFlightHead turnFlightHead
+  head-lengths = rw flight-head-contents
 
   -- a tag outside the table has none
   pub no-content : (tag : ℕ) → (tag ≡ mosaicHeadTag → ⊥) → (tag ≡ mosaicStripTag → ⊥) → (tag ≡ sortingHeadTag → ⊥) → (tag ≡ sortingStripTag → ⊥)
@@ -206,6 +206,15 @@ strip-stations len stations desks due = go (isStationCount stations) refl
     go : (b : Bool) → isStationCount stations ≡ b → (1 ≤ stations) × (stations ≤ mostStations)
     go true e = count-bounds stations e
     go false e = absurd (none-due mosaicStripTag _ (no-strip-content stations desks (λ lo hi. true≢false (sym (is-count stations lo hi) ∙ e))) len due)
+
+pub head-length : (len stations desks : ℕ) → Among len (lengthsDue flightHeadTag (fieldTable stations desks)) → (len ≡ 0) ⊎ (len ≡ 2)
+unfolding Among
+head-length len stations desks due = go (subst (Among len) (head-lengths stations desks) due)
+  where
+    go : Among len (0 ∷ 2 ∷ []) → (len ≡ 0) ⊎ (len ≡ 2)
+    go (inl e) = inl e
+    go (inr (inl e)) = inr e
+    go (inr (inr a)) = absurd a
 
 -- the values of a field by its tag
 module _ (s : List ℕ) (c len stations desks : ℕ) where

@@ -198,7 +198,7 @@ cut-at s at e = go (leb (length s) at) refl (ltb (length s - at) 3) refl (leb (n
         past : 3 ≤ length s - at → length s - at - 3 < numberAt s (at + 1) 2 → length s < at + 3 + numberAt s (at + 1) 2
         past h k = omega arith
 
-whole-at-not-cut : (s : List ℕ) (at tag len : ℕ) → fieldAt s at ≡ Whole tag len → FieldCut s at → ⊥
+pub whole-at-not-cut : (s : List ℕ) (at tag len : ℕ) → fieldAt s at ≡ Whole tag len → FieldCut s at → ⊥
 whole-at-not-cut s at tag len e (FieldCut.under-three h) = let w = whole-at s at tag len e in omega (arith, w .within)
 whole-at-not-cut s at tag len e (FieldCut.past-end h) = let w = whole-at s at tag len e in omega (arith, w .within, w .length-is)
 

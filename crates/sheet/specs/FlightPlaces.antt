@@ -4,12 +4,17 @@ use Prim.Native.Nat.{ℕ, _+_, _≤_, _<_}
 use mathlib.Core.Path.{_≡_, refl, sym, ap, subst, _∙_}
 use mathlib.Core.Bool.{true, false, true≢false}
 use mathlib.Core.List.{List}
+use mathlib.Core.Logic.{_⊎_, inl, inr}
 use native.Mathlib.Decide.{ℕ-discrete, decLt}
 use native.Mathlib.Omega.{arith}
+use Rattle.field.specs.Bytes.{numberAt}
 use Rattle.field.specs.Field.{fieldAt}
 use Rattle.field.specs.declared.Field.the-variants.{Whole}
 use Rattle.sheet.specs.Tags.{mosaicHeadTag, mosaicStripTag, sortingHeadTag, sortingStripTag, flightHeadTag, flightBlockTag, flightOrderTag}
 use Rattle.sheet.specs.Sections.{noSection, inMosaic, inSorting, inFlight, afterOrder}
+use Rattle.sheet.specs.Among.{Among}
+use Rattle.sheet.specs.FieldTable.{tableOf, lengthsDue}
+use Rattle.sheet.specs.Contents.{head-length}
 use Rattle.sheet.specs.Causes.{Permitted, fieldRows}
 use Rattle.sheet.specs.Checks.{endsSection}
 use Rattle.sheet.specs.Rows.{NoCause}
@@ -32,12 +37,13 @@ pub record FieldRead (s : List ℕ) (tag len at : ℕ) : Type 0 where
   pub whole : fieldAt s (reading .at) ≡ Whole tag len
   pub passes : NoCause (fieldRows s reading tag len)
 
--- the head of a flight section: where it stands, that the turn is the one that it gives, and that without an order the place of 11 is its place
+-- the head of a flight section: where it stands, that the turn is the one that it gives ("The flight head may carry two bytes, the turn g ..; an empty head
+-- means 0"), and that without an order the place of 11 is its place
 pub record HeadRead (s : List ℕ) (f : FlightSection) : Type 0 where
   pub at : ℕ
   pub len : ℕ
   pub head : FieldRead s flightHeadTag len at
-  pub turn-is : f .turn ≡ turnOf s (at + 3) len
+  pub turn-is : ((len ≡ 0) × (f .turn ≡ 0)) ⊎ ((len ≡ 2) × (f .turn ≡ numberAt s (at + 3) 2))
   pub place-is : f .ordered ≡ false → f .place ≡ at
 
 -- its order field, whose place is that of 11
@@ -48,6 +54,16 @@ pub record OrderRead (s : List ℕ) (f : FlightSection) : Type 0 where
 record Placed (s : List ℕ) (st : Reading) : Type 0 where
   head : inFlight ≤ st .section → HeadRead s (st .flight)
   order : st .section ≡ afterOrder → OrderRead s (st .flight)
+
+-- the turn of a head of a length that is due
+turn-read : (s : List ℕ) (st : Reading) (c len : ℕ) → Among len (lengthsDue flightHeadTag (tableOf st))
+    → ((len ≡ 0) × (turnOf s c len ≡ 0)) ⊎ ((len ≡ 2) × (turnOf s c len ≡ numberAt s c 2))
+unfolding turnOf
+turn-read s st c len due = go (head-length len (st .mosaic .stations) (st .sorting .desks) due)
+  where
+    go : (len ≡ 0) ⊎ (len ≡ 2) → ((len ≡ 0) × (turnOf s c len ≡ 0)) ⊎ ((len ≡ 2) × (turnOf s c len ≡ numberAt s c 2))
+    go (inl e) = inl (e, rw e)
+    go (inr e) = inr (e, rw e)
 
 module _ (s : List ℕ) (st : Reading) (len : ℕ) (r : Reached s st) (p : Placed s st) where
   -- a field of a section before the flight
@@ -63,7 +79,7 @@ module _ (s : List ℕ) (st : Reading) (len : ℕ) (r : Reached s st) (p : Place
           at = st .at;
           len = len;
           head = record { reading = st; reached = r; place-is = refl; whole = e; passes = c };
-          turn-is = refl;
+          turn-is = turn-read s st (st .at + 3) len (passed-rows s st flightHeadTag len c .length-ok);
           place-is = λ _. refl;
         };
     order = λ d. absurd (omega arith);

@@ -7,7 +7,7 @@ mostStations = 4
 abbrev pub mostDesks : ℕ
 mostDesks = 3
 
--- 02, Req 01: "every two-byte time" goes "up to 60,000"
+-- 02, Req 01: "every two-byte time" goes "up to 60,000"; the turn of Req 06 has an upper end of its own
 abbrev pub mostTime : ℕ
 mostTime = 60_000
 

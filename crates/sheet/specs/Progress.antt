@@ -17,49 +17,49 @@ use Rattle.sheet.specs.Invariant.{Kept, kept-start, kept-next}
 use Rattle.sheet.specs.declared.Reading.{Reading}
 use Rattle.sheet.specs.declared.Sheet.{Sheet}
 
--- one turn, by what stands there
-module _ (turns : ℕ) (s : List ℕ) (st : Reading) where
-  pub turn-end : fieldAt s (st .at) ≡ End → readFrom (suc turns) s st ≡ atEnd st (endNumber (st .section) (st .members))
+-- one step, by what stands there
+module _ (steps : ℕ) (s : List ℕ) (st : Reading) where
+  pub step-end : fieldAt s (st .at) ≡ End → readFrom (suc steps) s st ≡ atEnd st (endNumber (st .section) (st .members))
   unfolding readFrom
-  turn-end e = rw (e, readFrom)
+  step-end e = rw (e, readFrom)
 
-  pub turn-cut : fieldAt s (st .at) ≡ Cut → readFrom (suc turns) s st ≡ refused fieldCut (st .at)
+  pub step-cut : fieldAt s (st .at) ≡ Cut → readFrom (suc steps) s st ≡ refused fieldCut (st .at)
   unfolding readFrom
-  turn-cut e = rw (e, readFrom)
+  step-cut e = rw (e, readFrom)
 
-  pub turn-next : (tag len : ℕ) → fieldAt s (st .at) ≡ Whole tag len → fieldNumber s st tag len ≡ 0
-      → readFrom (suc turns) s st ≡ readFrom turns s (nextReading s st tag len)
+  pub step-next : (tag len : ℕ) → fieldAt s (st .at) ≡ Whole tag len → fieldNumber s st tag len ≡ 0
+      → readFrom (suc steps) s st ≡ readFrom steps s (nextReading s st tag len)
   unfolding readFrom
-  turn-next tag len e h = rw (e, readFrom, eq-eqb _ _ h)
+  step-next tag len e h = rw (e, readFrom, eq-eqb _ _ h)
 
-  pub turn-refused : (tag len : ℕ) → fieldAt s (st .at) ≡ Whole tag len → (fieldNumber s st tag len ≡ 0 → ⊥)
-      → readFrom (suc turns) s st ≡ refused (fieldNumber s st tag len) (placeOf (fieldNumber s st tag len) (st .head) (st .at))
+  pub step-refused : (tag len : ℕ) → fieldAt s (st .at) ≡ Whole tag len → (fieldNumber s st tag len ≡ 0 → ⊥)
+      → readFrom (suc steps) s st ≡ refused (fieldNumber s st tag len) (placeOf (fieldNumber s st tag len) (st .head) (st .at))
   unfolding readFrom
-  turn-refused tag len e h = rw (e, readFrom, ne-eqb _ _ h)
+  step-refused tag len e h = rw (e, readFrom, ne-eqb _ _ h)
 
 pub record Progress (s : List ℕ) (st : Reading) : Type 0 where
   pub kept : Kept s st
-  pub turns : ℕ
-  pub enough : length s - st .at < turns
-  pub same : readFrom turns s st ≡ readSheet s
+  pub steps : ℕ
+  pub enough : length s - st .at < steps
+  pub same : readFrom steps s st ≡ readSheet s
 
 pub progress-start : (s : List ℕ) (st : Reading) → st ≡ startReading → Progress s st
 unfolding readSheet startReading
-progress-start s st e = rw e (record { kept = kept-start s; turns = length s + 1; enough = omega arith; same = refl })
+progress-start s st e = rw e (record { kept = kept-start s; steps = length s + 1; enough = omega arith; same = refl })
 
 module _ (s : List ℕ) (st : Reading) (p : Progress s st) where
-  more : p .turns ≡ suc (p .turns - 1)
+  more : p .steps ≡ suc (p .steps - 1)
   more = let h = p .enough in omega arith
 
-  opened : readFrom (suc (p .turns - 1)) s st ≡ readSheet s
+  opened : readFrom (suc (p .steps - 1)) s st ≡ readSheet s
   opened = ap (λ n. readFrom n s st) (sym more) ∙ p .same
 
   module _ (f : Field) (ef : f ≡ fieldAt s (st .at)) where
     pub progress-end : (r : Sheet) → f ≡ End → r ≡ atEnd st (endNumber (st .section) (st .members)) → r ≡ readSheet s
-    progress-end r e h = h ∙ sym (turn-end (p .turns - 1) s st (sym ef ∙ e)) ∙ opened
+    progress-end r e h = h ∙ sym (step-end (p .steps - 1) s st (sym ef ∙ e)) ∙ opened
 
     pub progress-cut : (r : Sheet) → f ≡ Cut → r ≡ refused fieldCut (st .at) → r ≡ readSheet s
-    progress-cut r e h = h ∙ sym (turn-cut (p .turns - 1) s st (sym ef ∙ e)) ∙ opened
+    progress-cut r e h = h ∙ sym (step-cut (p .steps - 1) s st (sym ef ∙ e)) ∙ opened
 
     module _ (tag len : ℕ) (e : f ≡ Whole tag len) where
       within : st .at + 3 + len ≤ length s
@@ -71,7 +71,7 @@ module _ (s : List ℕ) (st : Reading) (p : Progress s st) where
           h
           ∙ ap (refused number) ep
           ∙ ap (λ n. refused n (placeOf n (st .head) (st .at))) en
-          ∙ sym (turn-refused (p .turns - 1) s st tag len (sym ef ∙ e) (λ z. hn (en ∙ z)))
+          ∙ sym (step-refused (p .steps - 1) s st tag len (sym ef ∙ e) (λ z. hn (en ∙ z)))
           ∙ opened
 
       ahead : nextReading s st tag len .at ≡ st .at + 3 + len
@@ -85,9 +85,9 @@ module _ (s : List ℕ) (st : Reading) (p : Progress s st) where
           rw h
           (record {
             kept = kept-next s st tag len (p .kept) w (passes s st tag len (sym ef ∙ e) (sym en ∙ hn));
-            turns = p .turns - 1;
+            steps = p .steps - 1;
             enough = omega (arith, ahead);
-            same = sym (turn-next (p .turns - 1) s st tag len (sym ef ∙ e) (sym en ∙ hn)) ∙ opened;
+            same = sym (step-next (p .steps - 1) s st tag len (sym ef ∙ e) (sym en ∙ hn)) ∙ opened;
           })
 
       pub progress-less : (next : Reading) → next ≡ nextReading s st tag len → length s - next .at < length s - st .at

@@ -60,16 +60,16 @@ accepted st = record { number = 0; place = 0; mosaic = st .mosaic; sorting = st 
 unfoldable pub atEnd : Reading → ℕ → Sheet
 atEnd st number = cond (eqb number 0) (accepted st) (refused number (st .head))
 
--- the sheet read field by field from where a reading stands; each field takes three bytes or more, so as many turns as bytes and one more are enough
+-- the sheet read field by field from where a reading stands; each field takes three bytes or more, so as many steps as bytes and one more are enough
 unfoldable pub readFrom : ℕ → List ℕ → Reading → Sheet
 readFrom zero s st = refused 0 0
-readFrom (suc turns) s st =
+readFrom (suc steps) s st =
     elim (fieldAt s (st .at)) [
       | End ↦ atEnd st (endNumber (st .section) (st .members))
       | Cut ↦ refused fieldCut (st .at)
       | Whole tag len ↦
           elim (eqb (fieldNumber s st tag len) 0) [
-            | true ↦ readFrom turns s (nextReading s st tag len)
+            | true ↦ readFrom steps s (nextReading s st tag len)
             | false ↦ refused (fieldNumber s st tag len) (placeOf (fieldNumber s st tag len) (st .head) (st .at))
           ]
     ]

@@ -37,7 +37,7 @@ orderNotProper = 9
 abbrev pub orderMissing : ℕ
 orderMissing = 10
 
--- "no timetable keeps the given order"
+-- "no timetable keeps the given order"; 02, Req 06: "no proper order has a timetable", where none is given
 abbrev pub orderImpossible : ℕ
 orderImpossible = 11
 

@@ -4,7 +4,7 @@ use Prim.Native.Nat.{ℕ, zero, suc, _+_, _-_, _*_, _≤_, _<_}
 use mathlib.Core.Path.{_≡_, refl, sym, ap, ap₂, subst, _∙_}
 use mathlib.Core.Bool.{Bool, true, false, cond}
 use mathlib.Core.List.{List, [], _∷_}
-use mathlib.Core.Logic.{inl, inr}
+use mathlib.Core.Logic.{_⊎_, inl, inr}
 use native.Mathlib.Decide.{ℕ-discrete}
 use native.Mathlib.Omega.{arith}
 use lib.Dec.{eqb}
@@ -16,11 +16,11 @@ use Rattle.sheet.specs.Tags.{mosaicHeadTag, mosaicStripTag, sortingHeadT
 use Rattle.sheet.specs.Refusals.{tagNotPermitted, lengthWrong, tooMany, noMembers, orderNotProper, orderMissing}
 use Rattle.sheet.specs.Sections.{stripsOfDesk}
 use Rattle.sheet.specs.Among.{Among, isAmong, true-among}
-use Rattle.sheet.specs.FieldTable.{Item, TableRow, mosaicHead, mosaicStrip, sortingHead, sortingStrip, emptyFlightHead, turnFlightHead}
-use Rattle.sheet.specs.FieldTable.{flightBlock, flightOrder, fieldTable, tableOf, lengthsOf}
+use Rattle.sheet.specs.FieldTable.{Item, TableRow, mosaicHead, mosaicStrip, sortingHead, sortingStrip}
+use Rattle.sheet.specs.FieldTable.{flightBlock, flightOrder, fieldTable, tableOf}
 use Rattle.sheet.specs.FieldTable.{lengthOf, contentsOf, lengthsDue, ofLength, Value, numbersAt, valuesOf, contentValues, fieldValues}
 use Rattle.sheet.specs.Contents.{mosaic-head-content, mosaic-strip-content, sorting-head-content, sorting-strip-content, flight-block-content}
-use Rattle.sheet.specs.Contents.{flight-order-content, flight-head-contents, sole-length, strip-length, strip-stations}
+use Rattle.sheet.specs.Contents.{flight-order-content, head-length, sole-length, strip-length, strip-stations}
 use Rattle.sheet.specs.Rows.{firstFailure}
 use Rattle.sheet.specs.Checks.{sectionFilled, orderGiven, permitted, rangeNumber, hasRoom, orderProper}
 use Rattle.sheet.specs.Decode.{withMosaicHead, withStationTimes, withMosaicStrip, withSortingHead, withStripAt, withSortingStrip, turnOf, withFlightHead}
@@ -31,11 +31,12 @@ use Rattle.sheet.specs.declared.SortingSection.{SortingSection}
 use Rattle.sheet.specs.declared.FlightSection.{FlightSection}
 use Rattle.sheet.specs.declared.Reading.{Reading}
 
--- a flight section with another place for 11, and that place after a field: a head and an order field set it
-abbrev pub placedAt : ℕ → FlightSection → FlightSection
-placedAt place f =
+-- a flight section with another place for 11
+abbrev pub withPlace : ℕ → FlightSection → FlightSection
+withPlace place f =
     record { blocks = f .blocks; turn = f .turn; first = f .first; delay = f .delay; second = f .second; ordered = f .ordered; order = f .order; place = place }
 
+-- the place for 11 after a field: a head and an order field set it
 unfoldable pub placeAfter : ℕ → ℕ → ℕ → ℕ
 placeAfter tag at place = cond (eqb tag flightHeadTag) at (cond (eqb tag flightOrderTag) at place)
 
@@ -45,11 +46,11 @@ pub record SameBytes (s : List ℕ) (c : ℕ) (t : List ℕ) (d len : ℕ) : Typ
 
 module _ {s : List ℕ} {c : ℕ} {t : List ℕ} {d len : ℕ} (b : SameBytes s c t d len) where
   -- then so are the numbers in them ..
-  number-from : (width j : ℕ) → j + width ≤ len → numberAt s (c + j) width ≡ numberAt t (d + j) width
+  pub same-number : (width j : ℕ) → j + width ≤ len → numberAt s (c + j) width ≡ numberAt t (d + j) width
   unfolding numberAt
-  number-from zero j l = refl
-  number-from (suc width) j l =
-      ap₂ (λ (x y : ℕ). x + 256 * y) (b .same j (omega arith)) (ap (λ at. numberAt s at width) here ∙ number-from width (j + 1) (omega arith) ∙ ap (λ at. numberAt t at width) there)
+  same-number zero j l = refl
+  same-number (suc width) j l =
+      ap₂ (λ (x y : ℕ). x + 256 * y) (b .same j (omega arith)) (ap (λ at. numberAt s at width) here ∙ same-number width (j + 1) (omega arith) ∙ ap (λ at. numberAt t at width) there)
     where
       here : c + j + 1 ≡ c + (j + 1)
       here = omega arith
@@ -57,12 +58,9 @@ module _ {s : List ℕ} {c : ℕ} {t : List ℕ} {d len : ℕ} (b : SameBytes s 
       there : d + (j + 1) ≡ d + j + 1
       there = omega arith
 
-  pub same-number : (width j : ℕ) → j + width ≤ len → numberAt s (c + j) width ≡ numberAt t (d + j) width
-  same-number = number-from
-
   pub first-number : (width : ℕ) → width ≤ len → numberAt s c width ≡ numberAt t d width
   first-number width l =
-      ap (λ at. numberAt s at width) here ∙ number-from width 0 (omega arith) ∙ ap (λ at. numberAt t at width) there
+      ap (λ at. numberAt s at width) here ∙ same-number width 0 (omega arith) ∙ ap (λ at. numberAt t at width) there
     where
       here : c ≡ c + 0
       here = omega arith
@@ -75,7 +73,7 @@ module _ {s : List ℕ} {c : ℕ} {t : List ℕ} {d len : ℕ} (b : SameBytes s 
   unfolding numbersAt lengthOf
   same-numbers [] j l = refl
   same-numbers (i ∷ content) j l =
-      ap₂ (λ (x : ℕ) (xs : List ℕ). x ∷ xs) (number-from (i .width) j (omega arith))
+      ap₂ (λ (x : ℕ) (xs : List ℕ). x ∷ xs) (same-number (i .width) j (omega arith))
       (ap (λ at. numbersAt s at content) here ∙ same-numbers content (j + i .width) (omega arith) ∙ ap (λ at. numbersAt t at content) there)
     where
       here : c + j + i .width ≡ c + (j + i .width)
@@ -196,42 +194,41 @@ module _ {s : List ℕ} {c : ℕ} {t : List ℕ} {d len : ℕ} (b : SameBytes s 
 
     -- a flight head is empty or has two bytes
     same-turn : tag ≡ flightHeadTag → turnOf s c len ≡ turnOf t d len
-    unfolding turnOf lengthsDue lengthsOf lengthOf emptyFlightHead turnFlightHead Among
-    same-turn e = go (rw (flight-head-contents stations desks) at (due-at flightHeadTag e))
+    unfolding turnOf
+    same-turn e = go (head-length len stations desks (due-at flightHeadTag e))
       where
-        go : Among len (0 ∷ 2 ∷ []) → turnOf s c len ≡ turnOf t d len
+        go : (len ≡ 0) ⊎ (len ≡ 2) → turnOf s c len ≡ turnOf t d len
         go (inl q) = rw q
-        go (inr (inl q)) = ap (cond (eqb len 0) 0) (first-number 2 (omega arith))
-        go (inr (inr a)) = absurd a
+        go (inr q) = ap (cond (eqb len 0) 0) (first-number 2 (omega arith))
 
     block-length : tag ≡ flightBlockTag → len ≡ 6
     unfolding flightBlock lengthOf
     block-length e = sole-length flightBlockTag len _ flightBlock (flight-block-content stations desks) (due-at flightBlockTag e)
 
-    same-block : (f : FlightSection) (place : ℕ) → tag ≡ flightBlockTag → withBlock t d (placedAt place f) ≡ placedAt place (withBlock s c f)
+    same-block : (f : FlightSection) (place : ℕ) → tag ≡ flightBlockTag → withBlock t d (withPlace place f) ≡ withPlace place (withBlock s c f)
     unfolding withBlock
     same-block f place e =
         let l : len ≡ 6 = block-length e in
         rw (first-number 2 (omega arith), same-number 2 2 (omega arith), same-number 2 4 (omega arith))
 
     same-order : (f : FlightSection) (place at there : ℕ) → tag ≡ flightOrderTag
-        → withOrder t d there (placedAt place f) ≡ placedAt there (withOrder s c at f)
+        → withOrder t d there (withPlace place f) ≡ withPlace there (withOrder s c at f)
     unfolding withOrder
     same-order f place at there e =
         let l : len ≡ 8 = order-field e in
         rw (first-number 8 (omega arith))
 
-    same-head : (at there : ℕ) → tag ≡ flightHeadTag → withFlightHead t d len there ≡ placedAt there (withFlightHead s c len at)
+    same-head : (at there : ℕ) → tag ≡ flightHeadTag → withFlightHead t d len there ≡ withPlace there (withFlightHead s c len at)
     unfolding withFlightHead
     same-head at there e = rw (same-turn e)
 
     pub same-flight : (f : FlightSection) (place at there : ℕ)
-        → nextFlight t d tag len there (placedAt place f) ≡ placedAt (placeAfter tag there place) (nextFlight s c tag len at f)
+        → nextFlight t d tag len there (withPlace place f) ≡ withPlace (placeAfter tag there place) (nextFlight s c tag len at f)
     unfolding nextFlight placeAfter
     same-flight f place at there = go (ℕ-discrete tag flightHeadTag) (ℕ-discrete tag flightBlockTag) (ℕ-discrete tag flightOrderTag)
       where
         go : Dec (tag ≡ flightHeadTag) → Dec (tag ≡ flightBlockTag) → Dec (tag ≡ flightOrderTag)
-            → nextFlight t d tag len there (placedAt place f) ≡ placedAt (placeAfter tag there place) (nextFlight s c tag len at f)
+            → nextFlight t d tag len there (withPlace place f) ≡ withPlace (placeAfter tag there place) (nextFlight s c tag len at f)
         go (yes e) q o = rw e (same-head at there e)
         go (no e) (yes q) o = rw q (same-block f place q)
         go (no e) (no q) (yes o) = rw o (same-order f place at there o)
@@ -255,7 +252,7 @@ pub record Alike (st other : Reading) : Type 0 where
   pub members : other .members ≡ st .members
   pub mosaic : other .mosaic ≡ st .mosaic
   pub sorting : other .sorting ≡ st .sorting
-  pub flight : other .flight ≡ placedAt (other .flight .place) (st .flight)
+  pub flight : other .flight ≡ withPlace (other .flight .place) (st .flight)
 
 -- a wrong length decides, whatever is checked behind it
 length-decides : (x y z : ℕ) (a b : List ℕ) → firstFailure (x ∷ y ∷ z ∷ lengthWrong ∷ a) ≡ firstFailure (x ∷ y ∷ z ∷ lengthWrong ∷ b)
@@ -308,11 +305,11 @@ module _ {s : List ℕ} {st : Reading} {t : List ℕ} {other : Reading} {len : �
     members = ap (nextMembers tag) (alike .members);
     mosaic = ap (nextMosaic t (other .at + 3) tag) (alike .mosaic) ∙ sym (same-mosaic b tag _ _ due (st .mosaic) refl);
     sorting = ap (nextSorting t (other .at + 3) tag) (alike .sorting) ∙ sym (same-sorting b tag _ _ due (st .sorting));
-    flight = flight ∙ ap (λ x. placedAt x (nextFlight s (st .at + 3) tag len (st .at) (st .flight))) (sym (place-after t _ tag len _ (other .flight)));
+    flight = flight ∙ ap (λ x. withPlace x (nextFlight s (st .at + 3) tag len (st .at) (st .flight))) (sym (place-after t _ tag len _ (other .flight)));
   }
     where
       flight : nextFlight t (other .at + 3) tag len (other .at) (other .flight)
-          ≡ placedAt (placeAfter tag (other .at) (other .flight .place)) (nextFlight s (st .at + 3) tag len (st .at) (st .flight))
+          ≡ withPlace (placeAfter tag (other .at) (other .flight .place)) (nextFlight s (st .at + 3) tag len (st .at) (st .flight))
       flight =
           ap (nextFlight t (other .at + 3) tag len (other .at)) (alike .flight)
           ∙ same-flight b tag _ _ due (st .flight) (other .flight .place) (st .at) (other .at)

@@ -1,5 +1,5 @@
 -- What holds of every sheet: it is refused exactly for a cause of the table, with its number and place, and else accepted; and what is accepted is sound.
--- The idea: the reading goes from field to field as the rows say; each turn ends in the first row that fails or in the next field.
+-- The idea: the reading goes from field to field as the rows say; each step ends in the first row that fails or in the next field.
 use Prim.Native.Nat.{ℕ, zero, suc, _+_, _-_, _≤_, _<_}
 use mathlib.Core.Path.{_≡_, refl, sym, ap, ap₂, subst, _∙_}
 use mathlib.Core.Bool.{Bool, true, false}
@@ -26,8 +26,8 @@ use Rattle.sheet.specs.Read.{fieldNumber, endNumber, refused, accepted, 
 use Rattle.sheet.specs.Sound.{SheetSound, stripsInAll}
 use Rattle.sheet.specs.Decided.{field-answers, end-answers, cut-answers}
 use Rattle.sheet.specs.Invariant.{Kept}
-use Rattle.sheet.specs.Progress.{Progress, progress-start, progress-end, progress-cut, progress-refused, progress-next, turn-end, turn-cut, turn-next}
-use Rattle.sheet.specs.Progress.{turn-refused}
+use Rattle.sheet.specs.Progress.{Progress, progress-start, progress-end, progress-cut, progress-refused, progress-next, step-end, step-cut, step-next}
+use Rattle.sheet.specs.Progress.{step-refused}
 use Rattle.sheet.specs.declared.Reading.{Reading}
 use Rattle.sheet.specs.declared.Sheet.{Sheet}
 
@@ -75,32 +75,32 @@ ending s st k ek (no z) r e =
     (at-field s st End k (st .head) e (subst (λ n. Fails (endRows st) n (st .head)) ek (answer-fails _ _ _ (end-answers st) (λ q. z (sym ek ∙ q)))))
     (rw (ne-eqb _ _ z))
 
-module _ (turns : ℕ) (s : List ℕ) (st : Reading) (r : Reached s st) (enough : length s - st .at < suc turns)
-    (later : (st′ : Reading) → Reached s st′ → length s - st′ .at < turns → Outcome s (readFrom turns s st′)) where
-  shorter : (tag len : ℕ) → fieldAt s (st .at) ≡ Whole tag len → length s - nextReading s st tag len .at < turns
+module _ (steps : ℕ) (s : List ℕ) (st : Reading) (r : Reached s st) (enough : length s - st .at < suc steps)
+    (later : (st′ : Reading) → Reached s st′ → length s - st′ .at < steps → Outcome s (readFrom steps s st′)) where
+  shorter : (tag len : ℕ) → fieldAt s (st .at) ≡ Whole tag len → length s - nextReading s st tag len .at < steps
   unfolding nextReading
   shorter tag len e = let w = whole-at s (st .at) tag len e .within in omega arith
 
-  whole-turn : (tag len : ℕ) → fieldAt s (st .at) ≡ Whole tag len → Dec (fieldNumber s st tag len ≡ 0) → Outcome s (readFrom (suc turns) s st)
+  whole-step : (tag len : ℕ) → fieldAt s (st .at) ≡ Whole tag len → Dec (fieldNumber s st tag len ≡ 0) → Outcome s (readFrom (suc steps) s st)
   unfolding rowsAt
-  whole-turn tag len e (yes z) =
-      rw (turn-next turns s st tag len e z)
+  whole-step tag len e (yes z) =
+      rw (step-next steps s st tag len e z)
       (later (nextReading s st tag len) (past-field tag len r e (answer-passes _ _ _ (field-answers s st tag len e) z)) (shorter tag len e))
-  whole-turn tag len e (no z) =
-      rw (turn-refused turns s st tag len e z)
+  whole-step tag len e (no z) =
+      rw (step-refused steps s st tag len e z)
       (is-refused st _ _ r (at-field s st (Whole tag len) _ _ e (answer-fails _ _ _ (field-answers s st tag len e) z)) refl)
 
-  one-turn : (f : Field) → fieldAt s (st .at) ≡ f → Outcome s (readFrom (suc turns) s st)
+  one-step : (f : Field) → fieldAt s (st .at) ≡ f → Outcome s (readFrom (suc steps) s st)
   unfolding rowsAt
-  one-turn End e = rw (turn-end turns s st e) (ending s st _ refl (ℕ-discrete _ 0) r e)
-  one-turn Cut e =
-      rw (turn-cut turns s st e)
+  one-step End e = rw (step-end steps s st e) (ending s st _ refl (ℕ-discrete _ 0) r e)
+  one-step Cut e =
+      rw (step-cut steps s st e)
       (is-refused st fieldCut (st .at) r (at-field s st Cut _ _ e (answer-fails _ _ _ (cut-answers s st e) (λ z. omega arith))) refl)
-  one-turn (Whole tag len) e = whole-turn tag len e (ℕ-discrete _ 0)
+  one-step (Whole tag len) e = whole-step tag len e (ℕ-discrete _ 0)
 
-traced : (turns : ℕ) (s : List ℕ) (st : Reading) → Reached s st → length s - st .at < turns → Outcome s (readFrom turns s st)
+traced : (steps : ℕ) (s : List ℕ) (st : Reading) → Reached s st → length s - st .at < steps → Outcome s (readFrom steps s st)
 traced zero s st r h = absurd (omega arith)
-traced (suc turns) s st r h = one-turn turns s st r h (λ st′ r′ h′. traced turns s st′ r′ h′) (fieldAt s (st .at)) refl
+traced (suc steps) s st r h = one-step steps s st r h (λ st′ r′ h′. traced steps s st′ r′ h′) (fieldAt s (st .at)) refl
 
 -- Every sheet is accepted or refused for a cause of the table ..
 pub read-outcome : (s : List ℕ) → Outcome s (readSheet s)

@@ -22,8 +22,8 @@ use Rattle.sheet.specs.Tags.{flightHeadTag, flightBlockTag, flightOrderT
 use Rattle.sheet.specs.Refusals.{fieldCut, tagNotPermitted, noMembers, orderMissing}
 use Rattle.sheet.specs.Sections.{inFlight}
 use Rattle.sheet.specs.Among.{Among, isAmong, false-not-among}
-use Rattle.sheet.specs.FieldTable.{tableOf, lengthOf, lengthsOf, lengthsDue, emptyFlightHead, turnFlightHead, valuesOf, fieldValues}
-use Rattle.sheet.specs.Contents.{flight-head-contents, flight-head-values}
+use Rattle.sheet.specs.FieldTable.{tableOf, lengthsDue, turnFlightHead, valuesOf}
+use Rattle.sheet.specs.Contents.{head-lengths, flight-head-values}
 use Rattle.sheet.specs.Rows.{firstFailure, Fails, NoCause}
 use Rattle.sheet.specs.RowLaws.{answer-passes, passes-answer, answer-fails}
 use Rattle.sheet.specs.Causes.{Permitted, fieldRows, endRows, rowsAt}
@@ -36,17 +36,17 @@ use Rattle.sheet.specs.Read.{contentChecks, fieldChecks, fieldNumber, en
 use Rattle.sheet.specs.Passed.{passed-rows}
 use Rattle.sheet.specs.Decided.{field-answers, end-answers, cut-answers}
 use Rattle.sheet.specs.Theorems.{at-field, read-refused, read-accepted}
-use Rattle.sheet.specs.SameContent.{placedAt, placeAfter, SameBytes, first-number, Alike, place-after, same-field, alike-behind}
+use Rattle.sheet.specs.SameContent.{withPlace, placeAfter, SameBytes, first-number, Alike, place-after, same-field, alike-behind}
 use Rattle.sheet.specs.declared.FlightSection.{FlightSection}
 use Rattle.sheet.specs.declared.Reading.{Reading}
 use Rattle.sheet.specs.declared.Sheet.{Sheet}
 
 -- a sheet with an empty flight head behind some bytes and before others, and the same sheet with a written turn of 0
-abbrev pub emptyTurn : List ℕ → List ℕ → List ℕ
-emptyTurn before rest = before ++ (fieldBytes flightHeadTag [] ++ rest)
+abbrev pub withEmptyHead : List ℕ → List ℕ → List ℕ
+withEmptyHead before rest = before ++ (fieldBytes flightHeadTag [] ++ rest)
 
-abbrev pub writtenZero : List ℕ → List ℕ → List ℕ
-writtenZero before rest = before ++ (fieldBytes flightHeadTag (bytesOf 2 0) ++ rest)
+abbrev pub withWrittenZero : List ℕ → List ℕ → List ℕ
+withWrittenZero before rest = before ++ (fieldBytes flightHeadTag (bytesOf 2 0) ++ rest)
 
 -- a place of the one sheet in the other: two higher behind the head, which stands at n
 unfoldable pub movedPlace : ℕ → ℕ → ℕ
@@ -58,7 +58,7 @@ pub record SameButPlaces (n : ℕ) (x y : Sheet) : Type 0 where
   pub place : y .place ≡ movedPlace n (x .place)
   pub mosaic : y .mosaic ≡ x .mosaic
   pub sorting : y .sorting ≡ x .sorting
-  pub flight : y .flight ≡ placedAt (movedPlace n (x .flight .place)) (x .flight)
+  pub flight : y .flight ≡ withPlace (movedPlace n (x .flight .place)) (x .flight)
 
 module _ (n place : ℕ) where
   pub stays : place ≤ n → movedPlace n place ≡ place
@@ -113,7 +113,7 @@ module _ (s t : List ℕ) (n : ℕ) (within : n ≤ length t) (same : (i : ℕ) 
             → nextFlight t (st .at + 3) tag len (st .at) (st .flight) ≡ nextFlight s (st .at + 3) tag len (st .at) (st .flight)
         flight a =
             a .flight
-            ∙ ap (λ x. placedAt x (nextFlight s (st .at + 3) tag len (st .at) (st .flight)))
+            ∙ ap (λ x. withPlace x (nextFlight s (st .at + 3) tag len (st .at) (st .flight)))
             (place-after t (st .at + 3) tag len (st .at) (st .flight) ∙ sym (place-after s (st .at + 3) tag len (st .at) (st .flight)))
 
   reached-before : (st : Reading) → Reached s st → st .at ≤ n → Reached t st
@@ -141,7 +141,7 @@ refused-same n number place there e = record {
   place = e;
   mosaic = refl;
   sorting = refl;
-  flight = ap (λ x. placedAt x noFlight) (sym (stays n 0 (omega arith)));
+  flight = ap (λ x. withPlace x noFlight) (sym (stays n 0 (omega arith)));
 }
 
 accepted-same : (n : ℕ) (st other : Reading) → Alike st other → other .flight .place ≡ movedPlace n (st .flight .place)
@@ -152,7 +152,7 @@ accepted-same n st other a e = record {
   place = sym (stays n 0 (omega arith));
   mosaic = a .mosaic;
   sorting = a .sorting;
-  flight = a .flight ∙ ap (λ x. placedAt x (st .flight)) e;
+  flight = a .flight ∙ ap (λ x. withPlace x (st .flight)) e;
 }
 
 -- the place of a refusal: that of the head stays, that of a later field moves
@@ -293,14 +293,14 @@ module _ (s t : List ℕ) (n : ℕ) (long : length t ≡ length s + 2) (same : (
   in-a-flight tag section members l (Permitted.flight-block e h) = inl e
   in-a-flight tag section members l (Permitted.flight-order e h m) = inr e
 
-  later-same : (turns : ℕ) (st other : Reading) → Later st other → Reached s st → Reached t other → length s - st .at < turns
+  later-same : (steps : ℕ) (st other : Reading) → Later st other → Reached s st → Reached t other → length s - st .at < steps
       → SameButPlaces n (readSheet s) (readSheet t)
   unfolding nextReading
   later-same zero st other p r q l = absurd (omega arith)
-  later-same (suc turns) st other p r q l = go (fieldAt s (st .at)) refl (later-same turns)
+  later-same (suc steps) st other p r q l = go (fieldAt s (st .at)) refl (later-same steps)
     where
       go : (f : Field) → fieldAt s (st .at) ≡ f
-          → ((next following : Reading) → Later next following → Reached s next → Reached t following → length s - next .at < turns
+          → ((next following : Reading) → Later next following → Reached s next → Reached t following → length s - next .at < steps
           → SameButPlaces n (readSheet s) (readSheet t))
           → SameButPlaces n (readSheet s) (readSheet t)
       go End e on = ends st other p r q _ refl e (ℕ-discrete _ 0)
@@ -340,15 +340,14 @@ head-number u st len due z = rw (is-due (isAmong len (lengthsDue flightHeadTag (
     is-due false e = absurd (false-not-among len _ e due)
 
 head-due : (len : ℕ) (st : Reading) → Among len (0 ∷ 2 ∷ []) → Among len (lengthsDue flightHeadTag (tableOf st))
-unfolding lengthsDue lengthsOf lengthOf emptyFlightHead turnFlightHead
-head-due len st a = rw (flight-head-contents (st .mosaic .stations) (st .sorting .desks)) a
+head-due len st a = subst (Among len) (sym (head-lengths (st .mosaic .stations) (st .sorting .desks))) a
 
 module _ (before rest : List ℕ) where
   s : List ℕ
-  s = emptyTurn before rest
+  s = withEmptyHead before rest
 
   t : List ℕ
-  t = writtenZero before rest
+  t = withWrittenZero before rest
 
   n : ℕ
   n = length before
@@ -485,7 +484,7 @@ module _ (before rest : List ℕ) where
         (refused-same n _ _ _ (sym (stays n _ (place-here (headNumber st)))))
 
 -- With an empty head and with a written turn of 0, wherever the reading comes to that head.
-pub written-zero : (before rest : List ℕ) (st : Reading) → Reached (emptyTurn before rest) st → st .at ≡ length before
-    → SameButPlaces (length before) (readSheet (emptyTurn before rest)) (readSheet (writtenZero before rest))
+pub written-zero : (before rest : List ℕ) (st : Reading) → Reached (withEmptyHead before rest) st → st .at ≡ length before
+    → SameButPlaces (length before) (readSheet (withEmptyHead before rest)) (readSheet (withWrittenZero before rest))
 unfolding s t n
 written-zero before rest st r e = at-head before rest st r e (ℕ-discrete (headNumber st) 0)

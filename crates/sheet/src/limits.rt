@@ -3,7 +3,7 @@
 pub const MOST_STATIONS: u64 = 4;
 
 pub const MOST_DESKS: u64 = 3;
-// A time of any kind (02, Req 01); the least is 0 for a mount, a station and a delay, and 1 for the others.
+// Any time but the turn (02, Req 01); the least is 0 for a mount, a station and a delay, and 1 for the others.
 pub const MOST_TIME: u64 = 60_000;
 
 // The turn between passes, in seconds (02, Req 06); the least is 0.

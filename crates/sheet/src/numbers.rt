@@ -20,6 +20,7 @@ pub const ORDER_NOT_PROPER: u64 = 9;
 
 pub const ORDER_MISSING: u64 = 10;
 
+// The given order is impossible or, where none is given, every proper one.
 pub const ORDER_IMPOSSIBLE: u64 = 11;
 
 pub const LAYOUT_WRONG: u64 = 12;

@@ -3,13 +3,16 @@
 use Prim.Native.Nat.{ℕ, _+_, _*_, _≤_}
 use mathlib.Core.Path.{_≡_, refl, sym, ap, ap₂, subst, _∙_}
 use mathlib.Core.List.{List, [], _∷_}
+use mathlib.Core.Logic.{inl, inr}
+use native.Mathlib.Decide.{ℕ-discrete}
 use native.Mathlib.Omega.{arith}
 use lib.ListN.{length, getD}
 use Rattle.sheet.specs.Limits.{mostStations}
 use Rattle.sheet.specs.Tags.{mosaicHeadTag, mosaicStripTag, sortingHeadTag, sortingStripTag, flightHeadTag, flightBlockTag, flightOrderTag}
 use Rattle.sheet.specs.Among.{Among}
 use Rattle.sheet.specs.FieldTable.{Item, TableRow, fieldTable, lengthOf, contentsOf, lengthsOf, lengthsDue}
-use Rattle.sheet.specs.Contents.{RowOfLength, row-due, due-row, no-row-due}
+use Rattle.sheet.specs.Contents.{RowOfLength, row-due, due-row, no-row-due, none-due, strip-stations, no-content, mosaic-head-content, mosaic-strip-content}
+use Rattle.sheet.specs.Contents.{sorting-head-content, sorting-strip-content, flight-block-content, flight-order-content}
 use Rattle.sheet_lengths.specs.Lengths.{lengthsGiven, GivesLength, mosaic-strip-case, flight-head-case, other-count-case, other-tag-case}
 use Rattle.sheet_lengths.specs.declared.LengthDue.{LengthDue}
 use Rattle.sheet_lengths.specs.declared.LengthDue.the-variants.{Bytes, Either, None}
@@ -50,10 +53,43 @@ module _ (tag stations : ℕ) (due : LengthDue) (call : GivesLength tag stations
   pub length-row : (desks n : ℕ) → Among n (lengthsGiven due) → RowOfLength tag n (fieldTable stations desks)
   length-row desks n a = due-row tag n (fieldTable stations desks) (subst (Among n) (call desks) a)
 
-  -- a tag with one content has its length, and the flight head the two of its contents
-  pub sole-length-due : (desks : ℕ) (content : List Item) → contentsOf tag (fieldTable stations desks) ≡ content ∷ [] → due ≡ Bytes (lengthOf content)
-  unfolding lengthsDue lengthsOf
-  sole-length-due desks content one = given-bytes due _ (call desks ∙ ap lengthsOf one)
+  -- a tag of one row has its length ..
+  module _ (desks : ℕ) (r : TableRow) (a : Among r (fieldTable stations desks)) (e : tag ≡ r .tag) where
+    of-one-content : (content : List Item) → contentsOf tag (fieldTable stations desks) ≡ content ∷ [] → due ≡ Bytes (lengthOf (r .content))
+    unfolding lengthsDue lengthsOf Among
+    of-one-content content one = given-bytes due _ (call desks ∙ ap lengthsOf one ∙ ap (λ n. n ∷ []) (only (subst (Among _) (ap lengthsOf one) (row-due tag _ r a e))))
+      where
+        only : Among (lengthOf (r .content)) (lengthOf content ∷ []) → lengthOf content ≡ lengthOf (r .content)
+        only (inl q) = sym q
+        only (inr n) = absurd n
+
+    at-tag : (t : ℕ) (content : List Item) → tag ≡ t → contentsOf t (fieldTable stations desks) ≡ content ∷ [] → due ≡ Bytes (lengthOf (r .content))
+    at-tag t content q one = of-one-content content (ap (λ x. contentsOf x (fieldTable stations desks)) q ∙ one)
+
+    no-row : contentsOf tag (fieldTable stations desks) ≡ [] → due ≡ Bytes (lengthOf (r .content))
+    no-row none = absurd (none-due tag _ none _ (row-due tag _ r a e))
+
+    strip-row : tag ≡ mosaicStripTag → due ≡ Bytes (lengthOf (r .content))
+    strip-row q =
+        let h = strip-stations _ stations desks (subst (λ x. Among (lengthOf (r .content)) (lengthsDue x (fieldTable stations desks))) q (row-due tag _ r a e)) in
+        at-tag mosaicStripTag _ q (mosaic-strip-content stations desks (h .0) (h .1))
+
+    pub sole-row-length : (tag ≡ flightHeadTag → ⊥) → due ≡ Bytes (lengthOf (r .content))
+    sole-row-length other =
+        go (ℕ-discrete tag mosaicHeadTag) (ℕ-discrete tag mosaicStripTag) (ℕ-discrete tag sortingHeadTag) (ℕ-discrete tag sortingStripTag)
+        (ℕ-discrete tag flightBlockTag) (ℕ-discrete tag flightOrderTag)
+      where
+        go : Dec (tag ≡ mosaicHeadTag) → Dec (tag ≡ mosaicStripTag) → Dec (tag ≡ sortingHeadTag) → Dec (tag ≡ sortingStripTag) → Dec (tag ≡ flightBlockTag)
+            → Dec (tag ≡ flightOrderTag) → due ≡ Bytes (lengthOf (r .content))
+        go (yes q) d₂ d₃ d₄ d₅ d₆ = at-tag mosaicHeadTag _ q (mosaic-head-content stations desks)
+        go (no h₁) (yes q) d₃ d₄ d₅ d₆ = strip-row q
+        go (no h₁) (no h₂) (yes q) d₄ d₅ d₆ = at-tag sortingHeadTag _ q (sorting-head-content stations desks)
+        go (no h₁) (no h₂) (no h₃) (yes q) d₅ d₆ = at-tag sortingStripTag _ q (sorting-strip-content stations desks)
+        go (no h₁) (no h₂) (no h₃) (no h₄) (yes q) d₆ = at-tag flightBlockTag _ q (flight-block-content stations desks)
+        go (no h₁) (no h₂) (no h₃) (no h₄) (no h₅) (yes q) = at-tag flightOrderTag _ q (flight-order-content stations desks)
+        go (no h₁) (no h₂) (no h₃) (no h₄) (no h₅) (no h₆) = no-row (no-content stations desks tag h₁ h₂ h₃ h₄ other h₅ h₆)
+
+  -- .. and the flight head the two of its rows
 
   pub head-lengths-due : tag ≡ flightHeadTag → due ≡ Either 0 2
   unfolding lengthsGiven

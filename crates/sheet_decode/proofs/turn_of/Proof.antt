@@ -1,4 +1,4 @@
--- `turn_of` meets its contract: an empty head has no turn, another has the number read.
+-- `turn_of` meets its contract: an empty head means 0, another has the number read.
 use Rattle.sheet_decode.specs.DecodeLaws.{no-turn, turn-read}
 use borrow.Author.Needs.{needs}
 use Rattle.sheet_decode.proofs.turn_of.Statement.{statement}

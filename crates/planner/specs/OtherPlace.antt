@@ -12,12 +12,12 @@ use Rattle.field.specs.Put.{holding}
 use Rattle.sheet.specs.Limits.{tableLength, planLength}
 use Rattle.sheet.specs.Refusals.{tableTooSmall, bufferTooSmall, orderImpossible}
 use Rattle.sheet.specs.Read.{readSheet}
-use Rattle.sheet.specs.SameContent.{placedAt}
+use Rattle.sheet.specs.SameContent.{withPlace}
 use Rattle.sheet.specs.WrittenZero.{movedPlace, SameButPlaces, stays}
 use Rattle.sheet.specs.declared.Sheet.{Sheet}
 use Rattle.rules.specs.Plan.{planBytes}
 use Rattle.flight.specs.Choice.{isPossible}
-use Rattle.flight.specs.Placed.{order-placed, possible-placed, passes-placed, figure-placed}
+use Rattle.flight.specs.OtherPlace.{order-placed, possible-placed, passes-placed, figure-placed}
 use Rattle.planner.specs.Call.{chosenPlan, sheetAnswer, sheetPlan, answerOf, plannedBytes, Called}
 
 -- an answer with its place moved

@@ -5,7 +5,7 @@ use mathlib.Core.List.{List}
 use Prim.Native.Nat.{ℕ, zero, suc}
 use lib.Dec.{leb}
 use lib.ListN.{getD}
-use Rattle.sheet.specs.SameContent.{placedAt}
+use Rattle.sheet.specs.SameContent.{withPlace}
 use Rattle.sheet.specs.declared.FlightSection.{FlightSection}
 use Rattle.rules.specs.Flight.{passStart, passTime, passEnd, flightFigure}
 use Rattle.rules.specs.declared.Passes.{Passes}
@@ -16,28 +16,28 @@ use Rattle.flight.specs.Choice.{delaysFit, chosenOrder, isPossible, chos
 use Rattle.flight.specs.Chosen.{chosen-given, chosen-free, chosen-none}
 
 module _ (place : ℕ) (f : FlightSection) where
-  fit-placed : (k : ℕ) → delaysFit (placedAt place f) k ≡ delaysFit f k
+  fit-placed : (k : ℕ) → delaysFit (withPlace place f) k ≡ delaysFit f k
   unfolding delaysFit
   fit-placed zero = refl
   fit-placed (suc k) = ap (λ b. b && leb (f .turn) (getD (f .delay) k 0)) (fit-placed k)
 
-  pub order-placed : chosenOrder (placedAt place f) ≡ chosenOrder f
+  pub order-placed : chosenOrder (withPlace place f) ≡ chosenOrder f
   unfolding ordersOf possibleIn orderFigure leastStarts
   order-placed = go (f .ordered) refl (delaysFit f (f .blocks)) refl
     where
-      go : (o : Bool) → f .ordered ≡ o → (b : Bool) → delaysFit f (f .blocks) ≡ b → chosenOrder (placedAt place f) ≡ chosenOrder f
-      go true e b d = chosen-given (placedAt place f) e ∙ sym (chosen-given f e)
-      go false e true d = chosen-free (placedAt place f) e (fit-placed (f .blocks) ∙ d) ∙ sym (chosen-free f e d)
-      go false e false d = chosen-none (placedAt place f) e (fit-placed (f .blocks) ∙ d) ∙ sym (chosen-none f e d)
+      go : (o : Bool) → f .ordered ≡ o → (b : Bool) → delaysFit f (f .blocks) ≡ b → chosenOrder (withPlace place f) ≡ chosenOrder f
+      go true e b d = chosen-given (withPlace place f) e ∙ sym (chosen-given f e)
+      go false e true d = chosen-free (withPlace place f) e (fit-placed (f .blocks) ∙ d) ∙ sym (chosen-free f e d)
+      go false e false d = chosen-none (withPlace place f) e (fit-placed (f .blocks) ∙ d) ∙ sym (chosen-none f e d)
 
-  pub possible-placed : isPossible (placedAt place f) ≡ isPossible f
+  pub possible-placed : isPossible (withPlace place f) ≡ isPossible f
   unfolding isPossible possibleIn
   possible-placed = ap (possibleIn f) order-placed
 
-  pub passes-placed : chosenPasses (placedAt place f) ≡ chosenPasses f
+  pub passes-placed : chosenPasses (withPlace place f) ≡ chosenPasses f
   unfolding chosenPasses leastPasses leastStarts
   passes-placed = ap (leastPasses f) order-placed
 
-  pub figure-placed : (ps : List Passes) → flightFigure (placedAt place f) ps ≡ flightFigure f ps
+  pub figure-placed : (ps : List Passes) → flightFigure (withPlace place f) ps ≡ flightFigure f ps
   unfolding flightFigure passEnd passStart passTime
   figure-placed ps = refl

@@ -8,7 +8,7 @@ use borrow.Author.Tests.{eq-eqb, ne-eqb}
 use Rattle.order.specs.Passes.{passAt}
 use Rattle.sheet.specs.Refusals.{ruleBroken}
 use Rattle.sheet.specs.Read.{readSheet}
-use Rattle.sheet.specs.SameContent.{placedAt}
+use Rattle.sheet.specs.SameContent.{withPlace}
 use Rattle.sheet.specs.WrittenZero.{movedPlace, SameButPlaces}
 use Rattle.sheet.specs.declared.FlightSection.{FlightSection}
 use Rattle.sheet.specs.declared.Sheet.{Sheet}
@@ -25,10 +25,10 @@ use Rattle.judge.specs.Judged.{partAt, sectionFrom, sectionVerdict, sectionsFro
 -- a sheet with other places
 abbrev relocated : ℕ → ℕ → Sheet → Sheet
 relocated place eleven s =
-    record { number = s .number; place = place; mosaic = s .mosaic; sorting = s .sorting; flight = placedAt eleven (s .flight) }
+    record { number = s .number; place = place; mosaic = s .mosaic; sorting = s .sorting; flight = withPlace eleven (s .flight) }
 
 module _ (place eleven : ℕ) (s : Sheet) where
-  in-order-placed : (order : ℕ) (ps : List Passes) (k : ℕ) → passesInOrder (placedAt eleven (s .flight)) order ps k ≡ passesInOrder (s .flight) order ps k
+  in-order-placed : (order : ℕ) (ps : List Passes) (k : ℕ) → passesInOrder (withPlace eleven (s .flight)) order ps k ≡ passesInOrder (s .flight) order ps k
   unfolding passesInOrder clearAt passEnd passStart passTime
   in-order-placed order ps zero = refl
   in-order-placed order ps (suc k) =
@@ -36,7 +36,7 @@ module _ (place eleven : ℕ) (s : Sheet) where
       (λ b. b && leb (clearAt (s .flight) ps (passAt (s .flight .blocks) order k)) (passStart (s .flight) ps (passAt (s .flight .blocks) order (k + 1))))
       (in-order-placed order ps k)
 
-  head-placed : (members order : ℕ) (ps : List Passes) → flightHead (placedAt eleven (s .flight)) members order ps ≡ flightHead (s .flight) members order ps
+  head-placed : (members order : ℕ) (ps : List Passes) → flightHead (withPlace eleven (s .flight)) members order ps ≡ flightHead (s .flight) members order ps
   unfolding flightHead
   head-placed members order ps = rw (in-order-placed order ps _)
 

@@ -24,16 +24,16 @@ use Rattle.flight_order.specs.Schedule.{Schedule}
 use Rattle.flight_order.specs.Timetable.{time-is}
 use Rattle.rules_laws.specs.FlightRunning.{time-first, second-time}
 use Rattle.flight_order.specs.Planned.{schedule-possible, empty-possible}
-use Rattle.flight.specs.Choice.{alternate}
+use Rattle.flight.specs.Choice.{oneByOne}
 
 -- A beginning of 2 i passes with i first and i second passes.
 record Half (n i : ℕ) : Type 0 where
-  begun : Beginning n (2 * i) (alternate i)
-  first-count : firsts (alternate i) (2 * i) ≡ i
-  second-count : seconds (alternate i) (2 * i) ≡ i
+  begun : Beginning n (2 * i) (oneByOne i)
+  first-count : firsts (oneByOne i) (2 * i) ≡ i
+  second-count : seconds (oneByOne i) (2 * i) ≡ i
 
 half : (n i : ℕ) → i ≤ n → Half n i
-unfolding alternate
+unfolding oneByOne
 half n zero l = record { begun = beginning-empty n; first-count = omega (arith, firsts-seconds 0 0); second-count = omega (arith, firsts-seconds 0 0) }
 half n (suc i) l = go (half n i (omega arith))
   where
@@ -43,38 +43,38 @@ half n (suc i) l = go (half n i (omega arith))
         e : 2 * suc i ≡ 2 * i + 1 + 1
         e = omega arith
 
-        one : Beginning n (2 * i + 1) (alternate i)
+        one : Beginning n (2 * i + 1) (oneByOne i)
         one = first-child (h .begun) (omega (arith, h .first-count))
 
-        one-first : firsts (alternate i) (2 * i + 1) ≡ i + 1
-        one-first = omega (arith, firsts-first (alternate i) (2 * i) (h .begun .no-higher), h .first-count)
+        one-first : firsts (oneByOne i) (2 * i + 1) ≡ i + 1
+        one-first = omega (arith, firsts-first (oneByOne i) (2 * i) (h .begun .no-higher), h .first-count)
 
-        one-second : seconds (alternate i) (2 * i + 1) ≡ i
-        one-second = omega (arith, seconds-first (alternate i) (2 * i) (h .begun .no-higher), h .second-count)
+        one-second : seconds (oneByOne i) (2 * i + 1) ≡ i
+        one-second = omega (arith, seconds-first (oneByOne i) (2 * i) (h .begun .no-higher), h .second-count)
 
-        two : Beginning n (2 * i + 1 + 1) (alternate i + 2 ^ (2 * i + 1))
+        two : Beginning n (2 * i + 1 + 1) (oneByOne i + 2 ^ (2 * i + 1))
         two = second-child one (omega (arith, one-first, one-second))
 
-        more-firsts : firsts (alternate i + 2 ^ (2 * i + 1)) (2 * i + 1 + 1) ≡ i + 1
-        more-firsts = omega (arith, firsts-second (alternate i) (2 * i + 1) (one .no-higher), one-first)
+        more-firsts : firsts (oneByOne i + 2 ^ (2 * i + 1)) (2 * i + 1 + 1) ≡ i + 1
+        more-firsts = omega (arith, firsts-second (oneByOne i) (2 * i + 1) (one .no-higher), one-first)
 
-        more-seconds : seconds (alternate i + 2 ^ (2 * i + 1)) (2 * i + 1 + 1) ≡ i + 1
-        more-seconds = omega (arith, seconds-second (alternate i) (2 * i + 1) (one .no-higher), one-second)
+        more-seconds : seconds (oneByOne i + 2 ^ (2 * i + 1)) (2 * i + 1 + 1) ≡ i + 1
+        more-seconds = omega (arith, seconds-second (oneByOne i) (2 * i + 1) (one .no-higher), one-second)
 
-pub alternate-proper : (n : ℕ) → Proper n (alternate n)
-alternate-proper n = whole-proper (half n n (omega arith) .begun)
+pub one-by-one-proper : (n : ℕ) → Proper n (oneByOne n)
+one-by-one-proper n = whole-proper (half n n (omega arith) .begun)
 
 -- The first 2 (i + 1) passes, without the last, and without the last two.
 module _ (n : ℕ) where
-  low : (i : ℕ) → i ≤ n → alternate i < 2 ^ (2 * i)
+  low : (i : ℕ) → i ≤ n → oneByOne i < 2 ^ (2 * i)
   low i l = half n i l .begun .no-higher
 
-  pub low-more : (i : ℕ) → i < n → alternate i < 2 ^ (2 * i + 1)
+  pub low-more : (i : ℕ) → i < n → oneByOne i < 2 ^ (2 * i + 1)
   low-more i l = first-child (half n i (omega arith) .begun) (omega (arith, half n i (omega arith) .first-count)) .no-higher
 
-  extends : (d i : ℕ) → i + d ≡ n → Extends (alternate n) (2 * i) (alternate i)
-  unfolding alternate
-  extends zero i e = rw same (extends-itself (alternate-proper n))
+  extends : (d i : ℕ) → i + d ≡ n → Extends (oneByOne n) (2 * i) (oneByOne i)
+  unfolding oneByOne
+  extends zero i e = rw same (extends-itself (one-by-one-proper n))
     where
       same : i ≡ n
       same = omega arith
@@ -83,41 +83,41 @@ module _ (n : ℕ) where
       next : 2 * suc i ≡ 2 * i + 1 + 1
       next = omega arith
 
-      go : Extends (alternate n) (2 * suc i) (alternate i + 2 ^ (2 * i + 1)) → Extends (alternate n) (2 * i) (alternate i)
-      go x = first-parent (low i (omega arith)) (second-parent (alternate n) (2 * i + 1) (alternate i) (low-more i (omega arith)) (rw next at x))
+      go : Extends (oneByOne n) (2 * suc i) (oneByOne i + 2 ^ (2 * i + 1)) → Extends (oneByOne n) (2 * i) (oneByOne i)
+      go x = first-parent (low i (omega arith)) (second-parent (oneByOne n) (2 * i + 1) (oneByOne i) (low-more i (omega arith)) (rw next at x))
 
   module _ (i : ℕ) (l : i < n) where
-    here : Extends (alternate n) (2 * i) (alternate i)
+    here : Extends (oneByOne n) (2 * i) (oneByOne i)
     here = extends (n - i) i (omega arith)
 
-    after : Extends (alternate n) (2 * i + 1 + 1) (alternate i + 2 ^ (2 * i + 1))
-    unfolding alternate
+    after : Extends (oneByOne n) (2 * i + 1 + 1) (oneByOne i + 2 ^ (2 * i + 1))
+    unfolding oneByOne
     after = rw next at (extends (n - suc i) (suc i) (omega arith))
       where
         next : 2 * suc i ≡ 2 * i + 1 + 1
         next = omega arith
 
-    between : Extends (alternate n) (2 * i + 1) (alternate i)
-    between = second-parent (alternate n) (2 * i + 1) (alternate i) (low-more i l) after
+    between : Extends (oneByOne n) (2 * i + 1) (oneByOne i)
+    between = second-parent (oneByOne n) (2 * i + 1) (oneByOne i) (low-more i l) after
 
-    even-bit : bit (alternate n) (2 * i) ≡ 0
-    even-bit = extends-bit between (2 * i) (omega arith) ∙ bit-first (alternate i) (2 * i) (low i (omega arith))
+    even-bit : bit (oneByOne n) (2 * i) ≡ 0
+    even-bit = extends-bit between (2 * i) (omega arith) ∙ bit-first (oneByOne i) (2 * i) (low i (omega arith))
 
-    odd-bit : bit (alternate n) (2 * i + 1) ≡ 1
-    odd-bit = extends-bit after (2 * i + 1) (omega arith) ∙ bit-second (alternate i) (2 * i + 1) (low-more i l)
+    odd-bit : bit (oneByOne n) (2 * i + 1) ≡ 1
+    odd-bit = extends-bit after (2 * i + 1) (omega arith) ∙ bit-second (oneByOne i) (2 * i + 1) (low-more i l)
 
-    even-pass : passAt n (alternate n) (2 * i) ≡ i
+    even-pass : passAt n (oneByOne n) (2 * i) ≡ i
     even-pass =
-        pass-first n (alternate n) (2 * i) (λ e. omega (arith, even-bit))
+        pass-first n (oneByOne n) (2 * i) (λ e. omega (arith, even-bit))
         ∙ extends-firsts here (2 * i) (omega arith)
         ∙ half n i (omega arith) .first-count
 
-    odd-pass : passAt n (alternate n) (2 * i + 1) ≡ n + i
+    odd-pass : passAt n (oneByOne n) (2 * i + 1) ≡ n + i
     odd-pass =
-        pass-second n (alternate n) (2 * i + 1) odd-bit
+        pass-second n (oneByOne n) (2 * i + 1) odd-bit
         ∙ omega (
           arith,
-          seconds-more (alternate n) (2 * i),
+          seconds-more (oneByOne n) (2 * i),
           even-bit,
           extends-seconds here (2 * i) (omega arith),
           half n i (omega arith) .second-count,
@@ -155,9 +155,9 @@ module _ (f : FlightSection) where
   time-after i = sym (time-is f (f .blocks + i)) ∙ second-time f i
 
   order-step : ((i : ℕ) → i < f .blocks → f .turn ≤ getD (f .delay) i 0) → (j : ℕ) → j + 1 < 2 * f .blocks
-      → starts (passAt (f .blocks) (alternate (f .blocks)) j)
-      + (timeOf (f .blocks) (f .first) (f .second) (passAt (f .blocks) (alternate (f .blocks)) j) + f .turn)
-      ≤ starts (passAt (f .blocks) (alternate (f .blocks)) (j + 1))
+      → starts (passAt (f .blocks) (oneByOne (f .blocks)) j)
+      + (timeOf (f .blocks) (f .first) (f .second) (passAt (f .blocks) (oneByOne (f .blocks)) j) + f .turn)
+      ≤ starts (passAt (f .blocks) (oneByOne (f .blocks)) (j + 1))
   order-step long j l = go (ℕ-discrete (j % 2) 0)
     where
       i : ℕ
@@ -165,9 +165,9 @@ module _ (f : FlightSection) where
 
       goal : ℕ → Type 0
       goal j =
-          starts (passAt (f .blocks) (alternate (f .blocks)) j)
-          + (timeOf (f .blocks) (f .first) (f .second) (passAt (f .blocks) (alternate (f .blocks)) j) + f .turn)
-          ≤ starts (passAt (f .blocks) (alternate (f .blocks)) (j + 1))
+          starts (passAt (f .blocks) (oneByOne (f .blocks)) j)
+          + (timeOf (f .blocks) (f .first) (f .second) (passAt (f .blocks) (oneByOne (f .blocks)) j) + f .turn)
+          ≤ starts (passAt (f .blocks) (oneByOne (f .blocks)) (j + 1))
 
       even : (i : ℕ) → i < f .blocks → goal (2 * i)
       even i q =
@@ -200,16 +200,16 @@ module _ (f : FlightSection) where
           back : j ≡ 2 * (j / 2) + 1
           back = omega arith
 
-  alternate-schedule : ((i : ℕ) → i < f .blocks → f .turn ≤ getD (f .delay) i 0) → Schedule (exactFlight f (alternate (f .blocks))) starts
-  alternate-schedule long = record {
+  one-by-one-schedule : ((i : ℕ) → i < f .blocks → f .turn ≤ getD (f .delay) i 0) → Schedule (exactFlight f (oneByOne (f .blocks))) starts
+  one-by-one-schedule long = record {
     at-least = λ i l. omega (arith, starts-first i l, starts-second i);
     at-most = λ i l. omega (arith, starts-first i l, starts-second i);
     in-order = order-step long;
   }
 
-  pub alternate-possible : FlightSound f → ((i : ℕ) → i < f .blocks → f .turn ≤ getD (f .delay) i 0) → possibleIn f (alternate (f .blocks)) ≡ true
-  alternate-possible sound long = go (decLt 0 (f .blocks))
+  pub one-by-one-possible : FlightSound f → ((i : ℕ) → i < f .blocks → f .turn ≤ getD (f .delay) i 0) → possibleIn f (oneByOne (f .blocks)) ≡ true
+  one-by-one-possible sound long = go (decLt 0 (f .blocks))
     where
-      go : Dec (0 < f .blocks) → possibleIn f (alternate (f .blocks)) ≡ true
-      go (yes some) = schedule-possible f (alternate (f .blocks)) sound (alternate-proper (f .blocks)) some starts (alternate-schedule long)
-      go (no none) = empty-possible f (alternate (f .blocks)) sound (alternate-proper (f .blocks)) none
+      go : Dec (0 < f .blocks) → possibleIn f (oneByOne (f .blocks)) ≡ true
+      go (yes some) = schedule-possible f (oneByOne (f .blocks)) sound (one-by-one-proper (f .blocks)) some starts (one-by-one-schedule long)
+      go (no none) = empty-possible f (oneByOne (f .blocks)) sound (one-by-one-proper (f .blocks)) none
