@@ -236,16 +236,16 @@ no-flight-sound = flight-begun 0 0 (omega arith)
 -- the turn of a head whose values are within their ranges
 turn-within : (s : List ℕ) (c len : ℕ) → InRange (cond (eqb len 0) [] (valuesOf turnFlightHead (numberAt s c 2 ∷ []))) → turnOf s c len ≤ mostTurn
 unfolding turnOf turnFlightHead valuesOf Within
-turn-within s c len r = go (eqb len 0) r
+turn-within s c len r = go (eqb len 0) refl r
   where
-    go : (b : Bool) → InRange (cond b [] (value (time mostTurn) (numberAt s c 2) ∷ [])) → cond b 0 (numberAt s c 2) ≤ mostTurn
-    go true q = omega arith
-    go false q = first-within _ _ q .at-most
+    go : (b : Bool) → eqb len 0 ≡ b → InRange (cond b [] (value (time mostTurn) (numberAt s c 2) ∷ [])) → turnOf s c len ≤ mostTurn
+    go true e q = rw e (omega arith)
+    go false e q = rw e (first-within _ _ q .at-most)
 
 pub flight-head-sound : (s : List ℕ) (c len at : ℕ) → InRange (cond (eqb len 0) [] (valuesOf turnFlightHead (numberAt s c 2 ∷ [])))
     → FlightWithin mostBlocks (withFlightHead s c len at)
 unfolding withFlightHead
-flight-head-sound s c len at r = flight-begun (turnOf s c len) at (turn-within s c len r)
+flight-head-sound s c len at r = flight-begun (turnOf s c len) _ (turn-within s c len r)
 
 pub block-sound : (s : List ℕ) (c : ℕ) (f : FlightSection) → FlightWithin mostBlocks f → f .ordered ≡ false → f .blocks < mostBlocks
     → InRange (valuesOf flightBlock (numberAt s c 2 ∷ numberAt s (c + 2) 2 ∷ numberAt s (c + 4) 2 ∷ [])) → FlightWithin mostBlocks (withBlock s c f)

@@ -67,7 +67,7 @@ module _ (n place : ℕ) where
 
   pub moves : n < place → movedPlace n place ≡ place + 2
   unfolding movedPlace
-  moves l = rw (lt-leb place n l)
+  moves l = rw (lt-leb place n l) refl
 
 -- A field that lies in the sheet is whole.
 whole-there : (t : List ℕ) (at tag len : ℕ) → getD t at 0 ≡ tag → numberAt t (at + 1) 2 ≡ len → at + 3 + len ≤ length t → fieldAt t at ≡ Whole tag len

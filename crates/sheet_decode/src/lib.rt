@@ -206,8 +206,9 @@ fn turn_of(s: &[u8], c: usize, length: usize) -> u64
     number(s, c, 2)
 }
 
-fn with_flight_head(s: &[u8], c: usize, length: usize, at: usize) -> FlightSection
-    ensures { λ r. ⌜ r ≡ withFlightHead (now (s .entry)) c length at ⌝ }
+// The flight of a head alone, which stands at an offset.
+fn with_flight_head(s: &[u8], c: usize, length: usize, head: usize) -> FlightSection
+    ensures { λ r. ⌜ r ≡ withFlightHead (now (s .entry)) c length head ⌝ }
 {
     FlightSection {
         blocks: 0,
@@ -217,7 +218,7 @@ fn with_flight_head(s: &[u8], c: usize, length: usize, at: usize) -> FlightSecti
         second: [0; 32],
         ordered: false,
         order: 0,
-        place: at,
+        place: head,
     }
 }
 
