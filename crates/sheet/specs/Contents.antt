@@ -97,7 +97,7 @@ module _ (stations desks : ℕ) where
   -- no byte and two bytes are due for a flight head, and no other length
   pub head-lengths : lengthsDue flightHeadTag (fieldTable stations desks) ≡ 0 ∷ 2 ∷ []
   unfolding lengthsDue lengthsOf lengthOf emptyFlightHead turnFlightHead
-  head-lengths = rw flight-head-contents
+  head-lengths = rw flight-head-contents refl
 
   -- a tag outside the table has none
   pub no-content : (tag : ℕ) → (tag ≡ mosaicHeadTag → ⊥) → (tag ≡ mosaicStripTag → ⊥) → (tag ≡ sortingHeadTag → ⊥) → (tag ≡ sortingStripTag → ⊥)

@@ -62,8 +62,8 @@ unfolding turnOf
 turn-read s st c len due = go (head-length len (st .mosaic .stations) (st .sorting .desks) due)
   where
     go : (len ≡ 0) ⊎ (len ≡ 2) → ((len ≡ 0) × (turnOf s c len ≡ 0)) ⊎ ((len ≡ 2) × (turnOf s c len ≡ numberAt s c 2))
-    go (inl e) = inl (e, rw e)
-    go (inr e) = inr (e, rw e)
+    go (inl e) = inl (e, rw e refl)
+    go (inr e) = inr (e, rw e refl)
 
 module _ (s : List ℕ) (st : Reading) (len : ℕ) (r : Reached s st) (p : Placed s st) where
   -- a field of a section before the flight
