@@ -841,8 +841,7 @@ module _ (before rest : List ℕ) (st : Reading) (reached : Reached (withEmptyHe
       (call : Called (withEmptyHead before rest) plan table planAfter tableEnd r) (other : Called (withWrittenZero before rest) plan table otherAfter otherEnd q) where
     pub written-zero-planned : (q ≡ movedAnswer (length before) r) × (otherAfter ≡ planAfter) × (otherEnd ≡ tableEnd)
     written-zero-planned =
-        let same = written-zero before rest st reached here in
-        (
+        let same = written-zero before rest st reached here in (
           same-answer _ _ plan table planAfter tableEnd otherAfter otherEnd r q _ same call other,
           same-buffer _ _ plan table planAfter tableEnd otherAfter otherEnd r q _ same call other,
           same-table _ _ plan table planAfter tableEnd otherAfter otherEnd r q _ same call other,

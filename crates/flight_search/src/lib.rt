@@ -68,14 +68,47 @@ fn search<'a>(
     let seconds = at - firsts;
     if n <= firsts {
         let y = order::append_second(x, at as u64);
-        return search(n, left - 1, y, turn, first, second, delay, rows, starts, best);
+        return search(
+            n,
+            left - 1,
+            y,
+            turn,
+            first,
+            second,
+            delay,
+            rows,
+            starts,
+            best,
+        );
     }
-    let after = search(n, left - 1, x, turn, first, second, delay, rows, starts, best);
+    let after = search(
+        n,
+        left - 1,
+        x,
+        turn,
+        first,
+        second,
+        delay,
+        rows,
+        starts,
+        best,
+    );
     if firsts <= seconds {
         return after;
     }
     let y = order::append_second(x, at as u64);
-    search(n, left - 1, y, turn, first, second, delay, rows, starts, after)
+    search(
+        n,
+        left - 1,
+        y,
+        turn,
+        first,
+        second,
+        delay,
+        rows,
+        starts,
+        after,
+    )
 }
 
 // The search from the empty beginning, with room for the constraints and starts of 32 blocks.

@@ -158,7 +158,7 @@ module _ {s : List ℕ} {c : ℕ} {t : List ℕ} {d len : ℕ} (b : SameBytes s 
     same-mosaic-strip m st e =
         let h = strip-stations len stations desks (due-at mosaicStripTag e) in
         let l : len ≡ lengthOf (mosaicStrip stations) =
-            sole-length mosaicStripTag len _ (mosaicStrip stations) (mosaic-strip-content stations desks (h .0) (h .1)) (due-at mosaicStripTag e) in
+        sole-length mosaicStripTag len _ (mosaicStrip stations) (mosaic-strip-content stations desks (h .0) (h .1)) (due-at mosaicStripTag e) in
         let k : len ≡ 2 * stations + 2 = l ∙ strip-length stations in
         rw (same-times (4 * m .strips) (m .stations) (m .station) (omega arith), same-number 2 (2 * m .stations) (omega arith))
 

@@ -291,7 +291,14 @@ fn next_sorting(s: &[u8], c: usize, tag: u8, t: SortingSection) -> SortingSectio
     t
 }
 
-fn next_flight(s: &[u8], c: usize, tag: u8, length: usize, at: usize, f: FlightSection) -> FlightSection
+fn next_flight(
+    s: &[u8],
+    c: usize,
+    tag: u8,
+    length: usize,
+    at: usize,
+    f: FlightSection,
+) -> FlightSection
     requires { ⌜ NextFlightPre c tag (f .blocks) ⌝ }
     ensures { λ r. ⌜ r ≡ nextFlight (now (s .entry)) c tag length at f ⌝ }
 {

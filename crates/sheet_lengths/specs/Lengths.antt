@@ -108,8 +108,14 @@ module _ (due : LengthDue) (len : ℕ) where
   unfolding lengthsGiven isAmong
   either-compared first second e h = rw (e, ne-eqb first len h) (last (eqb second len))
 
+  pub length-first-due : (first second : ℕ) → due ≡ Either first second → len ≡ first → eqb len first ≡ isAmong len (lengthsGiven due)
+  length-first-due first second e h = either-first len first ∙ either-first-due first second e (sym h)
+
+  pub length-second-compared : (first second : ℕ) → due ≡ Either first second → (first ≡ len → ⊥) → eqb len second ≡ isAmong len (lengthsGiven due)
+  length-second-compared first second e h = either-first len second ∙ either-compared first second e h
+
   pub none-compared : due ≡ None → false ≡ isAmong len (lengthsGiven due)
   unfolding lengthsGiven isAmong
   none-compared e = rw e
 
-pub ruleset compared = (bytes-compared, length-compared, either-first-due, either-compared, none-compared)
+pub ruleset compared = (bytes-compared, length-compared, either-first-due, either-compared, length-first-due, length-second-compared, none-compared)
