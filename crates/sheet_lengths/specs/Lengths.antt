@@ -111,8 +111,8 @@ module _ (due : LengthDue) (len : ℕ) where
   pub length-first-due : (first second : ℕ) → due ≡ Either first second → len ≡ first → eqb len first ≡ isAmong len (lengthsGiven due)
   length-first-due first second e h = either-first len first ∙ either-first-due first second e (sym h)
 
-  pub length-second-compared : (first second : ℕ) → due ≡ Either first second → (first ≡ len → ⊥) → eqb len second ≡ isAmong len (lengthsGiven due)
-  length-second-compared first second e h = either-first len second ∙ either-compared first second e h
+  pub length-second-compared : (first second : ℕ) → due ≡ Either first second → (len ≡ first → ⊥) → eqb len second ≡ isAmong len (lengthsGiven due)
+  length-second-compared first second e h = either-first len second ∙ either-compared first second e (λ q. h (sym q))
 
   pub none-compared : due ≡ None → false ≡ isAmong len (lengthsGiven due)
   unfolding lengthsGiven isAmong
