@@ -632,7 +632,7 @@ module _ (tag stations : ℕ) (due : LengthDue) (call : GivesLength tag stations
   no-length-of-another-tag = other-tag-none tag stations due call
 
 -- REQ 06. "The flight head may carry two bytes, the turn g, 0 to 600 seconds; an empty head means 0." The rows of the field table (sheet, FieldTable.antt) have
--- both heads, and `turnOf` (sheet, Decode.antt) the turn of each. What the turn asks is said in Flight.antt of crate rules (`clearAt`, `apart`); all that is said
+-- both heads, and `turnOf` (sheet, Decode.antt) the turn of each. What the turn asks is said in Flight.antt of crate rules (`clearAt`, `AllApart`); all that is said
 -- above of allowed plans, of least figures and of starts is said of these rules: "The leastness of figure and starts is read with g in the rules."
 module _ (sheet : List ℕ) (sound : readSheet sheet .number ≡ 0) where
   -- The turn of a sound sheet with a flight is the one that its flight head gives, and at most 600.
