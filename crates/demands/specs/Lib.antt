@@ -32,7 +32,7 @@ use Rattle.sheet.specs.Values.{count-exactly, too-large-exactly, zero-exactly}
 use Rattle.sheet.specs.Decode.{zeros}
 use Rattle.sheet.specs.Stores.{length-zeros}
 use Rattle.sheet.specs.Sound.{SheetSound}
-use Rattle.sheet.specs.FlightPlaces.{FieldRead, HeadRead, OrderRead, head-read, order-read}
+use Rattle.sheet.specs.FlightPlaces.{FieldRead, HeadRead, head-read, order-read}
 use Rattle.sheet.specs.WrittenZero.{withEmptyHead, withWrittenZero, movedPlace, written-zero}
 use Rattle.sheet.specs.declared.Reading.{Reading}
 use Rattle.sheet.specs.declared.FlightSection.{FlightSection}
@@ -56,7 +56,7 @@ use Rattle.rules.specs.declared.Passes.{Passes}
 use Rattle.rules.specs.Plan.{Plan, mosaicFields, sortingFields, flightFields, planBytes, PlanUnder, AllowedFor}
 use Rattle.plan_format.specs.Format.{sizeOf, flightHeadForm}
 use Rattle.plan_format.specs.ByteLaws.{AreBytes}
-use Rattle.plan_read.specs.PlanRead.{orderFrom, blocksFrom}
+use Rattle.plan_read.specs.PlanRead.{blocksFrom}
 use Rattle.rules_laws.specs.FlightRunning.{all-apart}
 use Rattle.rules_laws.specs.Turns.{NextApart, neighbours-apart, neighbours-enough}
 use Rattle.rules_laws.specs.Determined.{plan-most, plan-determined}

@@ -1,8 +1,8 @@
 -- The constraints of a flight in one pass order. The passes are numbered (crate order, Passes): the first pass of block i is pass i, its second pass is
 -- pass n + i.
 -- A delay may be anything from `least` to `most`, and `turn` passes between the end of a pass and the start of the next. The rules of 01 have an exact delay,
--- least = most; the turn is that of 02, Req 06. In the literature: coupled tasks on one machine, here with minimum and maximum time lags, in 01 with exact delays; a turn is a
--- minimum time lag between passes.
+-- least = most; the turn is that of 02, Req 06. In the literature: coupled tasks on one machine, here with minimum and maximum time lags, in 01 with exact
+-- delays; a turn is a minimum time lag between passes.
 use mathlib.Core.Bool.{Bool, cond}
 use mathlib.Core.List.{List}
 use Prim.Native.Nat.{ℕ, _+_, _-_, _*_}

@@ -1,5 +1,6 @@
 -- A schedule of the constraints is what the rules call a timetable that keeps the order, and conversely: by the constraints each pass ends, and
--- the turn is over, before the next in the order starts, which by the laws of the rules makes all pairs apart. The last pass of the order ends last, and so gives the figure.
+-- the turn is over, before the next in the order starts, which by the laws of the rules makes all pairs apart. The last pass of the order ends last, and so
+-- gives the figure.
 use mathlib.Core.Path.{_≡_, sym, ap, _∙_}
 use mathlib.Core.List.{List}
 use Prim.Native.Nat.{ℕ, _+_, _-_, _*_, _≤_, _<_}

@@ -63,52 +63,20 @@ fn search<'a>(
     if left == 0 {
         return try_order(n, x, turn, first, second, delay, rows, starts, best);
     }
+    let rest = left - 1;
     let at = 2 * n - left;
     let firsts = order::firsts_before(x, at as u64) as usize;
     let seconds = at - firsts;
     if n <= firsts {
         let y = order::append_second(x, at as u64);
-        return search(
-            n,
-            left - 1,
-            y,
-            turn,
-            first,
-            second,
-            delay,
-            rows,
-            starts,
-            best,
-        );
+        return search(n, rest, y, turn, first, second, delay, rows, starts, best);
     }
-    let after = search(
-        n,
-        left - 1,
-        x,
-        turn,
-        first,
-        second,
-        delay,
-        rows,
-        starts,
-        best,
-    );
+    let after = search(n, rest, x, turn, first, second, delay, rows, starts, best);
     if firsts <= seconds {
         return after;
     }
     let y = order::append_second(x, at as u64);
-    search(
-        n,
-        left - 1,
-        y,
-        turn,
-        first,
-        second,
-        delay,
-        rows,
-        starts,
-        after,
-    )
+    search(n, rest, y, turn, first, second, delay, rows, starts, after)
 }
 
 // The search from the empty beginning, with room for the constraints and starts of 32 blocks.

@@ -1,6 +1,6 @@
 -- The places that reading a sheet keeps have no part in the judging of a plan: of two sheets that are the same but for places, each plan gets the same verdict.
 use mathlib.Core.Path.{_≡_, refl, sym, ap, ap₂, _∙_}
-use mathlib.Core.Bool.{Bool, true, false, cond, _&&_}
+use mathlib.Core.Bool.{true, false, cond, _&&_}
 use mathlib.Core.List.{List}
 use Prim.Native.Nat.{ℕ, zero, suc, _+_}
 use lib.Dec.{leb, eqb}
@@ -10,7 +10,6 @@ use Rattle.sheet.specs.Refusals.{ruleBroken}
 use Rattle.sheet.specs.Read.{readSheet}
 use Rattle.sheet.specs.SameContent.{withPlace}
 use Rattle.sheet.specs.WrittenZero.{movedPlace, SameButPlaces}
-use Rattle.sheet.specs.declared.FlightSection.{FlightSection}
 use Rattle.sheet.specs.declared.Sheet.{Sheet}
 use Rattle.rules.specs.Flight.{passStart, passTime, passEnd, secondDue, clearAt, flightFigure}
 use Rattle.rules.specs.declared.Passes.{Passes}

@@ -1,6 +1,6 @@
 -- Two sheets that are the same but for places: what a call answers and writes for the one and for the other is the same but for the place.
 use Prim.Native.Nat.{ℕ}
-use mathlib.Core.Path.{_≡_, refl, sym, ap, ap₂, _∙_}
+use mathlib.Core.Path.{_≡_, refl, sym, ap, _∙_}
 use mathlib.Core.Bool.{Bool, true, false, cond}
 use mathlib.Core.List.{List, []}
 use native.Mathlib.Omega.{arith}
@@ -12,7 +12,6 @@ use Rattle.field.specs.Put.{holding}
 use Rattle.sheet.specs.Limits.{tableLength, planLength}
 use Rattle.sheet.specs.Refusals.{tableTooSmall, bufferTooSmall, orderImpossible}
 use Rattle.sheet.specs.Read.{readSheet}
-use Rattle.sheet.specs.SameContent.{withPlace}
 use Rattle.sheet.specs.WrittenZero.{movedPlace, SameButPlaces, stays}
 use Rattle.sheet.specs.declared.Sheet.{Sheet}
 use Rattle.rules.specs.Plan.{planBytes}

@@ -1,7 +1,7 @@
 -- What holds of the plan that the program takes for a sheet, for every row of bytes as a sheet: it is lawful, no plan that obeys the rules under any ceiling
 -- has a smaller figure, its sorting is the one that Req 03 takes, it starts as early as any, and the flight is called impossible exactly where no timetable
--- keeps the given order or, where none is given, a proper one. `readSheet` is what reading gives (crate sheet), `PlanUnder`, `PlanLawful`, `AllowedFor` and `SortingTaken` are of crate rules,
--- `chosenPlan` is Call.antt's. What that means for a call is said in crate demands.
+-- keeps the given order or, where none is given, a proper one. `readSheet` is what reading gives (crate sheet), `PlanUnder`, `PlanLawful`, `AllowedFor` and
+-- `SortingTaken` are of crate rules, `chosenPlan` is Call.antt's. What that means for a call is said in crate demands.
 use Prim.Native.Nat.{ℕ, _≤_, _<_}
 use mathlib.Core.Path.{_≡_, refl, sym, subst, _∙_}
 use mathlib.Core.Bool.{Bool, true, false, true≢false}
@@ -18,7 +18,7 @@ use Rattle.order.specs.Order.{Proper}
 use Rattle.rules.specs.Mosaic.{batchAt, mosaicFigure}
 use Rattle.rules.specs.Sorting.{jobAt, sortingFigure}
 use Rattle.rules.specs.ScannerList.{scannerList, SortingTaken}
-use Rattle.rules.specs.Flight.{passesAt, FlightLawful, Keeps, OrderAllowed, flightFigure}
+use Rattle.rules.specs.Flight.{passesAt, FlightLawful, Keeps, flightFigure}
 use Rattle.rules.specs.Plan.{Plan, PlanUnder, PlanLawful, AllowedFor}
 use Rattle.rules.specs.declared.Job.{Job}
 use Rattle.rules.specs.declared.Passes.{Passes}

@@ -11,14 +11,13 @@ use Rattle.field.specs.Bytes.{numberAt}
 use Rattle.field.specs.Field.{fieldAt}
 use Rattle.field.specs.declared.Field.the-variants.{Whole}
 use Rattle.sheet.specs.Tags.{mosaicHeadTag, mosaicStripTag, sortingHeadTag, sortingStripTag, flightHeadTag, flightBlockTag, flightOrderTag}
-use Rattle.sheet.specs.Sections.{noSection, inMosaic, inSorting, inFlight, afterOrder}
+use Rattle.sheet.specs.Sections.{inFlight, afterOrder}
 use Rattle.sheet.specs.Among.{Among}
 use Rattle.sheet.specs.FieldTable.{tableOf, lengthsDue}
 use Rattle.sheet.specs.Contents.{head-length}
 use Rattle.sheet.specs.Causes.{Permitted, fieldRows}
-use Rattle.sheet.specs.Checks.{endsSection}
 use Rattle.sheet.specs.Rows.{NoCause}
-use Rattle.sheet.specs.Table.{Reached, Complete}
+use Rattle.sheet.specs.Table.{Reached}
 use Rattle.sheet.specs.Table.Reached.{at-start, past-field}
 use Rattle.sheet.specs.Decode.{turnOf, withFlightHead, withBlock, withOrder, nextFlight, nextSection, nextReading, startReading}
 use Rattle.sheet.specs.Read.{readSheet, accepted, refused}

@@ -1,6 +1,7 @@
--- Two fields of the same tag and the same content, in two sheets or at two offsets, are checked and decoded alike: no check and no value looks beyond the content.
+-- Two fields of the same tag and the same content, in two sheets or at two offsets, are checked and decoded alike: no check and no value looks beyond the
+-- content.
 -- The idea: a field whose length is due has its values within it; one whose length is not due is refused for that before they are looked at.
-use Prim.Native.Nat.{ℕ, zero, suc, _+_, _-_, _*_, _≤_, _<_}
+use Prim.Native.Nat.{ℕ, zero, suc, _+_, _*_, _≤_, _<_}
 use mathlib.Core.Path.{_≡_, refl, sym, ap, ap₂, subst, _∙_}
 use mathlib.Core.Bool.{Bool, true, false, cond}
 use mathlib.Core.List.{List, [], _∷_}
@@ -18,7 +19,7 @@ use Rattle.sheet.specs.Sections.{stripsOfDesk}
 use Rattle.sheet.specs.Among.{Among, isAmong, true-among}
 use Rattle.sheet.specs.FieldTable.{Item, TableRow, mosaicHead, mosaicStrip, sortingHead, sortingStrip}
 use Rattle.sheet.specs.FieldTable.{flightBlock, flightOrder, fieldTable, tableOf}
-use Rattle.sheet.specs.FieldTable.{lengthOf, contentsOf, lengthsDue, ofLength, Value, numbersAt, valuesOf, contentValues, fieldValues}
+use Rattle.sheet.specs.FieldTable.{lengthOf, contentsOf, lengthsDue, ofLength, numbersAt, valuesOf, contentValues, fieldValues}
 use Rattle.sheet.specs.Contents.{mosaic-head-content, mosaic-strip-content, sorting-head-content, sorting-strip-content, flight-block-content}
 use Rattle.sheet.specs.Contents.{flight-order-content, head-length, sole-length, strip-length, strip-stations}
 use Rattle.sheet.specs.Rows.{firstFailure}

@@ -1,5 +1,5 @@
--- A written turn of 0 is an empty flight head (02, Req 06: "an empty head means 0"): with the one or the other, the same sheet is read with the same number and the
--- same sections, and the places of later fields are two higher.
+-- A written turn of 0 is an empty flight head (02, Req 06: "an empty head means 0"): with the one or the other, the same sheet is read with the same number and
+-- the same sections, and the places of later fields are two higher.
 -- The idea: up to the head the two sheets are the same; behind it their readings stand at the same fields, two bytes apart, and stay alike.
 use Prim.Native.Nat.{ℕ, zero, suc, _+_, _-_, _≤_, _<_}
 use mathlib.Core.Path.{_≡_, refl, sym, ap, ap₂, subst, _∙_}
@@ -8,10 +8,10 @@ use mathlib.Core.List.{List, [], _∷_, _++_}
 use mathlib.Core.Logic.{_⊎_, inl, inr}
 use native.Mathlib.Decide.{ℕ-discrete}
 use native.Mathlib.Omega.{arith}
-use lib.Dec.{leb, ltb, eqb}
+use lib.Dec.{leb, eqb}
 use lib.ListN.{length, getD, length-append, List·getD-append}
 use lib.Seq.{getD-append-add}
-use borrow.Author.Tests.{le-leb, lt-leb, leb-true, leb-false, le-ltb, lt-ltb, ltb-true, ltb-false}
+use borrow.Author.Tests.{le-leb, lt-leb, leb-true, leb-false, le-ltb}
 use Rattle.base.specs.Branch.{check}
 use Rattle.field.specs.Bytes.{numberAt, bytesOf}
 use Rattle.field.specs.Field.{fieldAt, fieldBytes}
@@ -24,11 +24,11 @@ use Rattle.sheet.specs.Sections.{inFlight}
 use Rattle.sheet.specs.Among.{Among, isAmong, false-not-among}
 use Rattle.sheet.specs.FieldTable.{tableOf, lengthsDue, turnFlightHead, valuesOf}
 use Rattle.sheet.specs.Contents.{head-lengths, flight-head-values}
-use Rattle.sheet.specs.Rows.{firstFailure, Fails, NoCause}
+use Rattle.sheet.specs.Rows.{firstFailure, NoCause}
 use Rattle.sheet.specs.RowLaws.{answer-passes, passes-answer, answer-fails}
-use Rattle.sheet.specs.Causes.{Permitted, fieldRows, endRows, rowsAt}
+use Rattle.sheet.specs.Causes.{Permitted, fieldRows, rowsAt}
 use Rattle.sheet.specs.Checks.{endsSection, sectionFilled, orderGiven, permitted, timeNumber, valueNumber, valueNumbers, rangeNumber, hasRoom, orderProper}
-use Rattle.sheet.specs.Table.{Reached, Complete}
+use Rattle.sheet.specs.Table.{Reached}
 use Rattle.sheet.specs.Table.Reached.{at-start, past-field}
 use Rattle.sheet.specs.Decode.{zeros, noFlight, turnOf, withFlightHead, nextMosaic, nextSorting, nextFlight, nextSection, nextMembers, nextHead, nextReading}
 use Rattle.sheet.specs.Decode.{startReading}

@@ -72,6 +72,18 @@ search-returns : (t : ℕ) → search-lts.Need-returns (
 ) (search-at t) search′.Post
 search-returns t c = search search-end
 
+search-sub-rest : (t : ℕ) → search-lts.Need-sub-rest (
+  try-order-reads.Asked,
+  try-order-reads.Learnt,
+  firsts-before-reads.Asked,
+  firsts-before-reads.Learnt,
+  append-second-reads.Asked,
+  append-second-reads.Learnt,
+  search-below t,
+  search′.Post,
+) (search-at t) search′.Post
+search-sub-rest t c = search needs
+
 search-mul-at : (t : ℕ) → search-lts.Need-mul-at (
   try-order-reads.Asked,
   try-order-reads.Learnt,
@@ -132,18 +144,6 @@ search-append-second-requires : (t : ℕ) → search-lts.Need-append-second-requ
 ) (search-at t) search′.Post
 search-append-second-requires t c κs = (search append-within, search append-short)
 
-search-sub-search : (t : ℕ) → search-lts.Need-sub-search (
-  try-order-reads.Asked,
-  try-order-reads.Learnt,
-  firsts-before-reads.Asked,
-  firsts-before-reads.Learnt,
-  append-second-reads.Asked,
-  append-second-reads.Learnt,
-  search-below t,
-  search′.Post,
-) (search-at t) search′.Post
-search-sub-search t c = search needs
-
 search-search-requires : (t : ℕ) → search-lts.Need-search-requires (
   try-order-reads.Asked,
   try-order-reads.Learnt,
@@ -191,18 +191,6 @@ search-returns-2 : (t : ℕ) → search-lts.Need-returns-2 (
   search′.Post,
 ) (search-at t) search′.Post
 search-returns-2 t c = search only-second
-
-search-sub-search-2 : (t : ℕ) → search-lts.Need-sub-search-2 (
-  try-order-reads.Asked,
-  try-order-reads.Learnt,
-  firsts-before-reads.Asked,
-  firsts-before-reads.Learnt,
-  append-second-reads.Asked,
-  append-second-reads.Learnt,
-  search-below t,
-  search′.Post,
-) (search-at t) search′.Post
-search-sub-search-2 t c = search needs
 
 search-search-requires-2 : (t : ℕ) → search-lts.Need-search-requires-2 (
   try-order-reads.Asked,
@@ -263,18 +251,6 @@ search-append-second-requires-2 : (t : ℕ) → search-lts.Need-append-second-re
   search′.Post,
 ) (search-at t) search′.Post
 search-append-second-requires-2 t c κs = (search append-within, search append-short)
-
-search-sub-search-3 : (t : ℕ) → search-lts.Need-sub-search-3 (
-  try-order-reads.Asked,
-  try-order-reads.Learnt,
-  firsts-before-reads.Asked,
-  firsts-before-reads.Learnt,
-  append-second-reads.Asked,
-  append-second-reads.Learnt,
-  search-below t,
-  search′.Post,
-) (search-at t) search′.Post
-search-sub-search-3 t c = search needs
 
 search-search-requires-3 : (t : ℕ) → search-lts.Need-search-requires-3 (
   try-order-reads.Asked,
@@ -341,23 +317,21 @@ pub +search-spec : {M : Type 1} → statement M
     (search-same-length t)
     (search-same-length-2 t)
     (search-returns t)
+    (search-sub-rest t)
     (search-mul-at t)
     (search-sub-at t)
     (search-firsts-before-requires t)
     (search-sub-seconds t)
     (search-append-second-requires t)
-    (search-sub-search t)
     (search-search-requires t)
     (search-same-length-3 t)
     (search-same-length-4 t)
     (search-returns-2 t)
-    (search-sub-search-2 t)
     (search-search-requires-2 t)
     (search-same-length-5 t)
     (search-same-length-6 t)
     (search-returns-3 t)
     (search-append-second-requires-2 t)
-    (search-sub-search-3 t)
     (search-search-requires-3 t)
     (search-same-length-7 t)
     (search-same-length-8 t)

@@ -1,4 +1,5 @@
--- `passes_in_order` meets its contract. Invariant: the passes at positions up to k come one after another in the order, none before the turn after the one before is over.
+-- `passes_in_order` meets its contract. Invariant: the passes at positions up to k come one after another in the order, none before the turn after the one
+-- before is over.
 use Prim.Native.Nat.{_-_, _*_}
 use mathlib.Core.Path.{_≡_, refl}
 use borrow.Author.Needs.{needs}
