@@ -7,6 +7,7 @@ gives what crates/NAME/stdout has.
     program_cases.py FOLDER        the programs are in FOLDER
 """
 import errno
+import fcntl
 import os
 import pathlib
 import resource
@@ -27,6 +28,7 @@ USAGE = {
 READERS = ["plan_sheet", "sheet_cases", "judge_cases"]  # of standard input
 OF_FILES = ["judge_plan", "print_page"]  # programs that take the names of a sheet and a plan
 NOBODY = 65534
+PIPE_SIZE = 1 << 18  # room for the longest input in packets of 4,096 bytes and less
 
 tried = wrong = 0
 
@@ -57,6 +59,7 @@ def run(command, redirect="", stdin=subprocess.DEVNULL, stdout=subprocess.PIPE, 
 def pieces(data):
     """A pipe that delivers its bytes in pieces: in packet mode one read takes what one write gave."""
     read_end, write_end = os.pipe2(os.O_DIRECT)
+    fcntl.fcntl(write_end, fcntl.F_SETPIPE_SZ, PIPE_SIZE)
     cuts = [0, 7, 99, *range(4096, len(data), 4096), len(data)]
     for start, end in zip(cuts, cuts[1:]):
         os.write(write_end, data[start:end])
