@@ -81,7 +81,7 @@ use Rattle.planner.specs.Outcomes.{Large, Accepted, call-accepted, call-refused
 use Rattle.planner.specs.TurnedBack.{TurnedBack, turned-back, turned-back-only, eleven-only, sheet-only, else-accepted}
 use Rattle.planner.specs.Theorems.{figureOfMosaic, figureOfSorting, figureOfFlight, Least, Impossible, plan-lawful, plan-least-mosaic, plan-least-sorting}
 use Rattle.planner.specs.OtherPlace.{movedAnswer, same-answer, same-buffer, same-table}
-use Rattle.planner.specs.Theorems.{NoTimetable, NoOrder, free-impossible-exactly, plan-least-flight, plan-early-mosaic, plan-early-sorting, plan-early-flight, plan-earliest, plan-taken, taken-determined}
+use Rattle.planner.specs.Theorems.{NoTimetable, NoProperOrder, free-impossible-exactly, plan-least-flight, plan-early-mosaic, plan-early-sorting, plan-early-flight, plan-earliest, plan-taken, taken-determined}
 use Rattle.viewer.specs.Viewed.{Viewed}
 use Rattle.page.specs.Page.{pageLines, pageBytes}
 use Rattle.page.specs.Call.{pageOf, Paged}
@@ -731,7 +731,7 @@ module _ (sheet plan table planAfter tableEnd : List ℕ) (r : Answer) (call : C
   pub record ElevenAtHead : Type 0 where
     pub large : Large plan table
     pub sound : readSheet sheet .number ≡ 0
-    pub none : NoOrder (readSheet sheet .flight)
+    pub none : NoProperOrder (readSheet sheet .flight)
     pub length : ℕ
     pub head : FieldRead sheet flightHeadTag length (r .place)
 
@@ -748,7 +748,7 @@ module _ (sheet plan table planAfter tableEnd : List ℕ) (r : Answer) (call : C
 
   pub eleven-at-the-flight-head : readSheet sheet .flight .ordered ≡ false
       → (r .number ≡ orderImpossible → ElevenAtHead)
-      × (Large plan table → readSheet sheet .number ≡ 0 → NoOrder (readSheet sheet .flight) → r ≡ answer orderImpossible (readSheet sheet .flight .place) 0)
+      × (Large plan table → readSheet sheet .number ≡ 0 → NoProperOrder (readSheet sheet .flight) → r ≡ answer orderImpossible (readSheet sheet .flight .place) 0)
   eleven-at-the-flight-head free = (
     λ e. let p = eleven-only-then sheet plan table planAfter tableEnd r call e in given (p .0) (p .1) (p .2),
     λ large sound none. eleven-always-then sheet plan table planAfter tableEnd r call large sound (Impossible.no-order-given free none),

@@ -48,13 +48,13 @@ Least figure s q = (c : ℕ) (other : Plan) → PlanUnder c s other → figure s
 abbrev pub NoTimetable : FlightSection → ℕ → Type 0
 NoTimetable f w = (ps : List Passes) → FlightLawful f ps → Keeps f w ps → ⊥
 
-abbrev pub NoOrder : FlightSection → Type 0
-NoOrder f = (w : ℕ) → Proper (f .blocks) w → NoTimetable f w
+abbrev pub NoProperOrder : FlightSection → Type 0
+NoProperOrder f = (w : ℕ) → Proper (f .blocks) w → NoTimetable f w
 
 -- 11: "no timetable keeps the given order". 02, Req 06: "A flight without an order can now be impossible as well: .. no proper order has a timetable."
 pub data Impossible (s : Sheet) : Type 0 where
   order-given : s .flight .ordered ≡ true → NoTimetable (s .flight) (s .flight .order) → Impossible s
-  no-order-given : s .flight .ordered ≡ false → NoOrder (s .flight) → Impossible s
+  no-order-given : s .flight .ordered ≡ false → NoProperOrder (s .flight) → Impossible s
 
 module _ (sheet : List ℕ) (sound : readSheet sheet .number ≡ 0) where
   whole : SheetSound (readSheet sheet)
