@@ -1,4 +1,4 @@
--- The delays compared with the turn one by one, and the order of the blocks one after the other made second pass by second pass.
+-- The longest delays compared with the turn one by one, and the order of the blocks one after the other made second pass by second pass.
 use mathlib.Core.Path.{_≡_, refl, sym, ap, _∙_}
 use mathlib.Core.Bool.{true, false, _&&_}
 use mathlib.Core.List.{List}
@@ -14,18 +14,18 @@ use Rattle.sheet.specs.declared.FlightSection.{FlightSection}
 use Rattle.flight.specs.Choice.{delaysFit, oneByOne}
 use Rattle.flight.specs.OneByOne.{low-more}
 
--- the first i delays are at least the turn
-pub record FitSoFar (f : FlightSection) (n : ℕ) (delay : List ℕ) (i : ℕ) : Type 0 where
+-- the first i longest delays are at least the turn
+pub record FitSoFar (f : FlightSection) (n : ℕ) (longest : List ℕ) (i : ℕ) : Type 0 where
   pub blocks : n ≡ f .blocks
-  pub delays : delay ≡ f .delay
+  pub delays : longest ≡ f .longest
   pub within : i ≤ f .blocks
   pub so-far : delaysFit f i ≡ true
 
-pub fit-none : (f : FlightSection) → FitSoFar f (f .blocks) (f .delay) 0
+pub fit-none : (f : FlightSection) → FitSoFar f (f .blocks) (f .longest) 0
 unfolding delaysFit
 fit-none f = record { blocks = refl; delays = refl; within = omega arith; so-far = refl }
 
-fit-suc : (f : FlightSection) (i : ℕ) → delaysFit f (suc i) ≡ (delaysFit f i && leb (f .turn) (getD (f .delay) i 0))
+fit-suc : (f : FlightSection) (i : ℕ) → delaysFit f (suc i) ≡ (delaysFit f i && leb (f .turn) (getD (f .longest) i 0))
 unfolding delaysFit
 fit-suc f i = refl
 
@@ -36,26 +36,26 @@ fit-stays f i (suc k) e = ap (delaysFit f) next ∙ fit-suc f (i + k) ∙ rw (fi
     next : i + suc k ≡ suc (i + k)
     next = omega arith
 
-module _ (f : FlightSection) (n : ℕ) (delay : List ℕ) (i : ℕ) (t : FitSoFar f n delay i) where
+module _ (f : FlightSection) (n : ℕ) (longest : List ℕ) (i : ℕ) (t : FitSoFar f n longest i) where
   pub delay-known : FlightSound f → i < n → i < 32
   delay-known sound l = omega (arith, sound .most-blocks, t .blocks)
 
-  pub fit-more : i < n → f .turn ≤ getD delay i 0 → FitSoFar f n delay (i + 1)
+  pub fit-more : i < n → f .turn ≤ getD longest i 0 → FitSoFar f n longest (i + 1)
   fit-more l h = record {
     blocks = t .blocks;
     delays = t .delays;
     within = omega (arith, t .blocks);
-    so-far = ap (delaysFit f) (add-one i) ∙ fit-suc f i ∙ rw (t .so-far, le-leb (f .turn) (getD (f .delay) i 0) (rw (t .delays) at h));
+    so-far = ap (delaysFit f) (add-one i) ∙ fit-suc f i ∙ rw (t .so-far, le-leb (f .turn) (getD (f .longest) i 0) (rw (t .delays) at h));
   }
 
-  pub fit-wrong : i < n → getD delay i 0 < f .turn → false ≡ delaysFit f (f .blocks)
+  pub fit-wrong : i < n → getD longest i 0 < f .turn → false ≡ delaysFit f (f .blocks)
   fit-wrong l h = sym (ap (delaysFit f) all ∙ fit-stays f (suc i) (f .blocks - suc i) here)
     where
       all : f .blocks ≡ suc i + (f .blocks - suc i)
       all = omega (arith, t .blocks)
 
       here : delaysFit f (suc i) ≡ false
-      here = fit-suc f i ∙ rw (t .so-far, lt-leb (f .turn) (getD (f .delay) i 0) (rw (t .delays) at h))
+      here = fit-suc f i ∙ rw (t .so-far, lt-leb (f .turn) (getD (f .longest) i 0) (rw (t .delays) at h))
 
   pub fit-all : n ≤ i → true ≡ delaysFit f (f .blocks)
   fit-all l = sym (ap (delaysFit f) all ∙ t .so-far)

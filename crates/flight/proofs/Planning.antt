@@ -31,20 +31,20 @@ use Rattle.flight_search.specs.declared.Incumbent.{Incumbent}
 use Rattle.flight.specs.declared.FlightPlan.{FlightPlan}
 
 module _ (f : FlightSection) (w : ℕ) {rows₀ starts₀ : List ℕ} (pre : PlanInOrderPre f w rows₀ starts₀) where
-  pub least-starts-pre : LeastStartsPre (orderedFlight (f .blocks) w (f .turn) (f .first) (f .second) (f .delay) (f .delay)) rows₀ starts₀
+  pub least-starts-pre : LeastStartsPre (orderedFlight (f .blocks) w (f .turn) (f .first) (f .second) (f .shortest) (f .longest)) rows₀ starts₀
   least-starts-pre = record {
     room = record { good = sound-good f w (pre .plan .blocks .sound) (pre .plan .blocks .some) (pre .proper); rows-length = pre .plan .rows-length };
     starts-length = pre .plan .starts-length;
   }
 
   module _ {rows starts : List ℕ} {found : Bool}
-      (least : Least (orderedFlight (f .blocks) w (f .turn) (f .first) (f .second) (f .delay) (f .delay)) rows starts found) where
+      (least : Least (orderedFlight (f .blocks) w (f .turn) (f .first) (f .second) (f .shortest) (f .longest)) rows starts found) where
     pub plan-figure-fits : getD starts (2 * f .blocks - 1) 0 + getD (f .second) (f .blocks - 1) 0 < 2 ^ 64
     plan-figure-fits =
         rw (least .starts)
         (omega (
           arith,
-          least-low (orderedFlight (f .blocks) w (f .turn) (f .first) (f .second) (f .delay) (f .delay)) (least-starts-pre .room .good) (2 * f .blocks - 1),
+          least-low (orderedFlight (f .blocks) w (f .turn) (f .first) (f .second) (f .shortest) (f .longest)) (least-starts-pre .room .good) (2 * f .blocks - 1),
           pre .plan .blocks .sound .most-second (f .blocks - 1),
         ))
 
@@ -78,7 +78,7 @@ module _ (f : FlightSection) where
 
   module _ (fits : Bool) (d : fits ≡ delaysFit f (f .blocks)) (e : f .ordered ≡ false) where
     pub searched-order : (best : Incumbent) → not fits ≡ false
-        → best ≡ searched (ordersOf (freeSection (f .blocks) (f .turn) (f .first) (f .second) (f .delay))) (2 * f .blocks) 0 noIncumbent
+        → best ≡ searched (ordersOf (freeSection (f .blocks) (f .turn) (f .first) (f .second) (f .shortest) (f .longest))) (2 * f .blocks) 0 noIncumbent
         → best .order ≡ chosenOrder f
     unfolding ordersOf possibleIn orderFigure leastStarts
     searched-order best h q = ap (λ (b : Incumbent). b .order) q ∙ sym (chosen-free f e (sym d ∙ not-false fits h))
@@ -86,17 +86,19 @@ module _ (f : FlightSection) where
     pub order-unsearched : (w : ℕ) → not fits ≡ true → w ≡ oneByOne (f .blocks) → w ≡ chosenOrder f
     order-unsearched w h q = q ∙ sym (chosen-none f e (sym d ∙ not-true fits h))
 
-  pub block-times : SomeBlocks f → BlockTimes (f .blocks) (f .turn) (f .first) (f .second) (f .delay)
+  pub block-times : SomeBlocks f → BlockTimes (f .blocks) (f .turn) (f .first) (f .second) (f .shortest) (f .longest)
   block-times pre = record {
     some = pre .some;
     few = pre .sound .most-blocks;
     turn-low = pre .sound .most-turn;
     first-long = omega (arith, pre .sound .first-length, pre .sound .most-blocks);
     second-long = omega (arith, pre .sound .second-length, pre .sound .most-blocks);
-    delay-long = omega (arith, pre .sound .delay-length, pre .sound .most-blocks);
+    shortest-long = omega (arith, pre .sound .shortest-length, pre .sound .most-blocks);
+    longest-long = omega (arith, pre .sound .longest-length, pre .sound .most-blocks);
     first-low = λ i. omega (arith, pre .sound .most-first i);
     second-low = λ i. omega (arith, pre .sound .most-second i);
-    delay-low = λ i. omega (arith, pre .sound .most-delay i);
+    shortest-low = λ i. omega (arith, pre .sound .window i, pre .sound .most-delay i);
+    longest-low = λ i. omega (arith, pre .sound .most-delay i);
   }
 
 -- The plan in the chosen order is the plan.

@@ -15,17 +15,17 @@ use Rattle.flight_search.specs.Search.{noIncumbent, searched}
 use Rattle.flight_search.specs.Orders.{ordersOf}
 use Rattle.flight.specs.declared.FlightPlan.{FlightPlan}
 
--- the delays of the first k blocks are no shorter than the turn
+-- the longest delays of the first k blocks are no shorter than the turn
 unfoldable pub delaysFit : FlightSection → ℕ → Bool
 delaysFit f zero = true
-delaysFit f (suc k) = delaysFit f k && leb (f .turn) (getD (f .delay) k 0)
+delaysFit f (suc k) = delaysFit f k && leb (f .turn) (getD (f .longest) k 0)
 
 -- the order of i blocks one after the other
 unfoldable pub oneByOne : ℕ → ℕ
 oneByOne zero = 0
 oneByOne (suc i) = oneByOne i + 2 ^ (2 * i + 1)
 
--- The order of a flight without a given one. Where a delay is shorter than the turn no order is possible (`flight-free` of Theorems.antt): then none is searched
+-- The order of a flight without a given one. Where a longest delay is shorter than the turn no order is possible (`flight-free` of Theorems.antt): then none is searched
 -- for, and that of the blocks one after the other is taken, which like every order is impossible.
 unfoldable pub freeOrder : FlightSection → ℕ
 freeOrder f =

@@ -1,5 +1,5 @@
--- The chosen order is proper and as given. Where none is given it is possible exactly where every delay is at least the turn, and then no proper order that is
--- possible has a smaller figure. The idea: a block's own two passes are the turn apart in any timetable, so its delay is at least the turn.
+-- The chosen order is proper and as given. Where none is given it is possible exactly where every longest delay is at least the turn, and then no proper order
+-- that is possible has a smaller figure. The idea: a block's own two passes are the turn apart in any timetable, so its longest delay is at least the turn.
 use mathlib.Core.Path.{_≡_, refl, sym, ap, _∙_}
 use mathlib.Core.Bool.{Bool, true, false, _&&_, true≢false}
 use mathlib.Core.List.{List}
@@ -14,7 +14,7 @@ use Rattle.base.specs.Branch.{both}
 use Rattle.order.specs.Order.{Proper}
 use Rattle.sheet.specs.Sound.{FlightSound}
 use Rattle.sheet.specs.declared.FlightSection.{FlightSection}
-use Rattle.rules.specs.Flight.{passesAt, passStart, secondDue, FlightUnder, OrderAllowed}
+use Rattle.rules.specs.Flight.{passesAt, passStart, secondDue, DelayKept, FlightUnder, OrderAllowed}
 use Rattle.rules.specs.declared.Passes.{Passes}
 use Rattle.rules_laws.specs.FlightRunning.{start-first, second-start, time-first, end-is, clear-end}
 use Rattle.flight_order.specs.Constraints.{possibleIn, orderFigure}
@@ -28,30 +28,30 @@ use Rattle.flight.specs.Choice.{delaysFit, oneByOne, freeOrder, chosenOr
 use Rattle.flight.specs.OneByOne.{one-by-one-proper, one-by-one-possible}
 
 -- The test of the delays decides it, one way and the other.
-pub delays-long : (f : FlightSection) (k : ℕ) → delaysFit f k ≡ true → (i : ℕ) → i < k → f .turn ≤ getD (f .delay) i 0
+pub delays-long : (f : FlightSection) (k : ℕ) → delaysFit f k ≡ true → (i : ℕ) → i < k → f .turn ≤ getD (f .longest) i 0
 unfolding delaysFit
 delays-long f zero e i l = absurd (omega arith)
-delays-long f (suc k) e i l = go (ℕ-discrete i k) (both (delaysFit f k) (leb (f .turn) (getD (f .delay) k 0)) e) (delays-long f k)
+delays-long f (suc k) e i l = go (ℕ-discrete i k) (both (delaysFit f k) (leb (f .turn) (getD (f .longest) k 0)) e) (delays-long f k)
   where
-    go : Dec (i ≡ k) → (delaysFit f k ≡ true) × (leb (f .turn) (getD (f .delay) k 0) ≡ true)
-        → (delaysFit f k ≡ true → (i : ℕ) → i < k → f .turn ≤ getD (f .delay) i 0) → f .turn ≤ getD (f .delay) i 0
+    go : Dec (i ≡ k) → (delaysFit f k ≡ true) × (leb (f .turn) (getD (f .longest) k 0) ≡ true)
+        → (delaysFit f k ≡ true → (i : ℕ) → i < k → f .turn ≤ getD (f .longest) i 0) → f .turn ≤ getD (f .longest) i 0
     go (yes q) p before = rw q (leb-true _ _ (p .1))
     go (no q) p before = before (p .0) i (omega arith)
 
--- a block whose delay is shorter than the turn
+-- a block whose longest delay is shorter than the turn
 pub record ShortDelay (f : FlightSection) : Type 0 where
   pub block : ℕ
   pub known : block < f .blocks
-  pub short : getD (f .delay) block 0 < f .turn
+  pub short : getD (f .longest) block 0 < f .turn
 
 pub delay-short : (f : FlightSection) (k : ℕ) → k ≤ f .blocks → delaysFit f k ≡ false → ShortDelay f
 unfolding delaysFit
 delay-short f zero l e = absurd (true≢false e)
 delay-short f (suc k) l e = go (delaysFit f k) refl e (delay-short f k (omega arith))
   where
-    go : (b : Bool) → delaysFit f k ≡ b → b && leb (f .turn) (getD (f .delay) k 0) ≡ false → (delaysFit f k ≡ false → ShortDelay f) → ShortDelay f
+    go : (b : Bool) → delaysFit f k ≡ b → b && leb (f .turn) (getD (f .longest) k 0) ≡ false → (delaysFit f k ≡ false → ShortDelay f) → ShortDelay f
     go false q e before = before q
-    go true q e before = record { block = k; known = omega arith; short = omega (arith, leb-false (f .turn) (getD (f .delay) k 0) e) }
+    go true q e before = record { block = k; known = omega arith; short = omega (arith, leb-false (f .turn) (getD (f .longest) k 0) e) }
 
 pub short-unfit : (f : FlightSection) → ShortDelay f → delaysFit f (f .blocks) ≡ false
 short-unfit f s = go (delaysFit f (f .blocks)) refl
@@ -62,15 +62,15 @@ short-unfit f s = go (delaysFit f (f .blocks)) refl
 
 -- In any timetable a block's own passes are the turn apart.
 pub own-apart : {c : ℕ} (f : FlightSection) → FlightSound f → (ps : List Passes) → FlightUnder c f ps → (i : ℕ) → i < f .blocks
-    → f .turn ≤ getD (f .delay) i 0
+    → f .turn ≤ getD (f .longest) i 0
 unfolding secondDue
 own-apart f sound ps law i l =
-    ⊎-elim (λ h. omega (arith, h, delay, first, second, clear-end f ps i, end-is f ps i, time-first f i l))
-    (λ h. absurd (omega (arith, h, delay, first, second, clear-end f ps (f .blocks + i), end-is f ps (f .blocks + i), sound .least-first i l)))
+    ⊎-elim (λ h. omega (arith, h, kept .at-most, first, second, clear-end f ps i, end-is f ps i, time-first f i l))
+    (λ h. absurd (omega (arith, h, kept .at-least, first, second, clear-end f ps (f .blocks + i), end-is f ps (f .blocks + i), sound .least-first i l)))
     (law .apart i (f .blocks + i) (omega arith) (omega arith) (λ e. omega arith))
   where
-    delay : passesAt ps i .second ≡ passesAt ps i .first + getD (f .first) i 0 + getD (f .delay) i 0
-    delay = law .delay-kept i l .exact
+    kept : DelayKept f i (passesAt ps i)
+    kept = law .delay-kept i l
 
     first : passStart f ps i ≡ passesAt ps i .first
     first = start-first f ps i l
@@ -110,8 +110,8 @@ module _ (f : FlightSection) where
   as-good w proper possible = search-least (ordersOf f) w proper possible
 
   module _ (sound : FlightSound f) where
-    -- Where an order is possible every delay is at least the turn ..
-    possible-long : (w : ℕ) → Proper (f .blocks) w → possibleIn f w ≡ true → (i : ℕ) → i < f .blocks → f .turn ≤ getD (f .delay) i 0
+    -- Where an order is possible every longest delay is at least the turn ..
+    possible-long : (w : ℕ) → Proper (f .blocks) w → possibleIn f w ≡ true → (i : ℕ) → i < f .blocks → f .turn ≤ getD (f .longest) i 0
     possible-long w proper possible = own-apart f sound (leastPasses f w) (possible-lawful f w sound proper possible)
 
     possible-fits : (w : ℕ) → Proper (f .blocks) w → possibleIn f w ≡ true → delaysFit f (f .blocks) ≡ true
@@ -158,7 +158,7 @@ module _ (f : FlightSection) where
         go true e = ap (possibleIn f) (chosen-given e ∙ sym (allowed .as-given e)) ∙ possible
         go false e = free-possible e (possible-fits w (allowed .proper) possible)
 
-    -- So a flight without an order is possible exactly where no delay is shorter than the turn.
+    -- So a flight without an order is possible exactly where no longest delay is shorter than the turn.
     pub impossible-short : f .ordered ≡ false → isPossible f ≡ false → ShortDelay f
     impossible-short e none = go (delaysFit f (f .blocks)) refl
       where

@@ -1,5 +1,5 @@
--- Where every delay is at least the turn, some order is possible: each block's two passes one after the other, 1010 .. 10. Its beginnings of 2 i passes are
--- those of i blocks, and block i starts when all blocks before it have taken their passes and delays, and a turn is over behind each.
+-- Where every longest delay is at least the turn, some order is possible: each block's two passes one after the other, 1010 .. 10. Its beginnings of 2 i passes
+-- are those of i blocks, and block i starts when all blocks before it have taken their passes and longest delays, and a turn is over behind each.
 use mathlib.Core.Path.{_≡_, sym, _∙_}
 use mathlib.Core.Bool.{true, cond}
 use Prim.Native.Nat.{ℕ, zero, suc, _+_, _-_, _*_, _/_, _%_, _^_, _≤_, _<_}
@@ -19,7 +19,7 @@ use Rattle.order.specs.PassLaws.{pass-first, pass-second}
 use Rattle.sheet.specs.Sound.{FlightSound}
 use Rattle.sheet.specs.declared.FlightSection.{FlightSection}
 use Rattle.base.specs.Sums.{sumOver}
-use Rattle.flight_order.specs.Constraints.{exactFlight, possibleIn}
+use Rattle.flight_order.specs.Constraints.{flightIn, possibleIn}
 use Rattle.flight_order.specs.Schedule.{Schedule}
 use Rattle.flight_order.specs.Timetable.{time-is}
 use Rattle.rules_laws.specs.FlightRunning.{time-first, second-time}
@@ -126,25 +126,25 @@ module _ (n : ℕ) where
 module _ (f : FlightSection) where
   -- The time from block i's first start to the first start of the next block, and the start of pass p.
   whole : ℕ → ℕ
-  whole i = getD (f .first) i 0 + getD (f .delay) i 0 + getD (f .second) i 0 + f .turn
+  whole i = getD (f .first) i 0 + getD (f .longest) i 0 + getD (f .second) i 0 + f .turn
 
   starts : ℕ → ℕ
   starts p =
       cond (ltb p (f .blocks)) (sumOver p whole)
-      (sumOver (p - f .blocks) whole + getD (f .first) (p - f .blocks) 0 + getD (f .delay) (p - f .blocks) 0)
+      (sumOver (p - f .blocks) whole + getD (f .first) (p - f .blocks) 0 + getD (f .longest) (p - f .blocks) 0)
 
   starts-first : (i : ℕ) → i < f .blocks → starts i ≡ sumOver i whole
   unfolding starts
   starts-first i l = rw (lt-ltb i (f .blocks) l)
 
-  starts-second : (i : ℕ) → starts (f .blocks + i) ≡ sumOver i whole + getD (f .first) i 0 + getD (f .delay) i 0
+  starts-second : (i : ℕ) → starts (f .blocks + i) ≡ sumOver i whole + getD (f .first) i 0 + getD (f .longest) i 0
   unfolding starts
   starts-second i = rw (le-ltb (f .blocks + i) (f .blocks) (omega arith), back)
     where
       back : f .blocks + i - f .blocks ≡ i
       back = omega arith
 
-  sum-more : (i : ℕ) → sumOver (i + 1) whole ≡ sumOver i whole + (getD (f .first) i 0 + getD (f .delay) i 0 + getD (f .second) i 0 + f .turn)
+  sum-more : (i : ℕ) → sumOver (i + 1) whole ≡ sumOver i whole + (getD (f .first) i 0 + getD (f .longest) i 0 + getD (f .second) i 0 + f .turn)
   unfolding sumOver whole
   sum-more i = rw (add-one i)
 
@@ -154,7 +154,7 @@ module _ (f : FlightSection) where
   time-after : (i : ℕ) → timeOf (f .blocks) (f .first) (f .second) (f .blocks + i) ≡ getD (f .second) i 0
   time-after i = sym (time-is f (f .blocks + i)) ∙ second-time f i
 
-  order-step : ((i : ℕ) → i < f .blocks → f .turn ≤ getD (f .delay) i 0) → (j : ℕ) → j + 1 < 2 * f .blocks
+  order-step : ((i : ℕ) → i < f .blocks → f .turn ≤ getD (f .longest) i 0) → (j : ℕ) → j + 1 < 2 * f .blocks
       → starts (passAt (f .blocks) (oneByOne (f .blocks)) j)
       + (timeOf (f .blocks) (f .first) (f .second) (passAt (f .blocks) (oneByOne (f .blocks)) j) + f .turn)
       ≤ starts (passAt (f .blocks) (oneByOne (f .blocks)) (j + 1))
@@ -200,16 +200,16 @@ module _ (f : FlightSection) where
           back : j ≡ 2 * (j / 2) + 1
           back = omega arith
 
-  one-by-one-schedule : ((i : ℕ) → i < f .blocks → f .turn ≤ getD (f .delay) i 0) → Schedule (exactFlight f (oneByOne (f .blocks))) starts
-  one-by-one-schedule long = record {
-    at-least = λ i l. omega (arith, starts-first i l, starts-second i);
+  one-by-one-schedule : FlightSound f → ((i : ℕ) → i < f .blocks → f .turn ≤ getD (f .longest) i 0) → Schedule (flightIn f (oneByOne (f .blocks))) starts
+  one-by-one-schedule sound long = record {
+    at-least = λ i l. omega (arith, starts-first i l, starts-second i, sound .window i);
     at-most = λ i l. omega (arith, starts-first i l, starts-second i);
     in-order = order-step long;
   }
 
-  pub one-by-one-possible : FlightSound f → ((i : ℕ) → i < f .blocks → f .turn ≤ getD (f .delay) i 0) → possibleIn f (oneByOne (f .blocks)) ≡ true
+  pub one-by-one-possible : FlightSound f → ((i : ℕ) → i < f .blocks → f .turn ≤ getD (f .longest) i 0) → possibleIn f (oneByOne (f .blocks)) ≡ true
   one-by-one-possible sound long = go (decLt 0 (f .blocks))
     where
       go : Dec (0 < f .blocks) → possibleIn f (oneByOne (f .blocks)) ≡ true
-      go (yes some) = schedule-possible f (oneByOne (f .blocks)) sound (one-by-one-proper (f .blocks)) some starts (one-by-one-schedule long)
+      go (yes some) = schedule-possible f (oneByOne (f .blocks)) sound (one-by-one-proper (f .blocks)) some starts (one-by-one-schedule sound long)
       go (no none) = empty-possible f (oneByOne (f .blocks)) sound (one-by-one-proper (f .blocks)) none

@@ -19,7 +19,7 @@ module _ (place : ℕ) (f : FlightSection) where
   fit-placed : (k : ℕ) → delaysFit (withPlace place f) k ≡ delaysFit f k
   unfolding delaysFit
   fit-placed zero = refl
-  fit-placed (suc k) = ap (λ b. b && leb (f .turn) (getD (f .delay) k 0)) (fit-placed k)
+  fit-placed (suc k) = ap (λ b. b && leb (f .turn) (getD (f .longest) k 0)) (fit-placed k)
 
   pub order-placed : chosenOrder (withPlace place f) ≡ chosenOrder f
   unfolding ordersOf possibleIn orderFigure leastStarts

@@ -78,7 +78,7 @@ module _ (f : FlightSection) (sound : FlightSound f) where
       go none true e = let h = flight-lawful e in absurd (none (chosenOrder f) (chosenPasses f) (h .0) (h .1) (h .2))
       go none false e = refl
 
-  -- 02, Req 06. Where no order is given, the plan is not possible exactly where some block's delay is shorter than the turn ..
+  -- 02, Req 06. Where no order is given, the plan is not possible exactly where some block's longest delay is shorter than the turn ..
   pub flight-free : f .ordered ≡ false → (isPossible f ≡ false → ShortDelay f) × (ShortDelay f → isPossible f ≡ false)
   flight-free e = (impossible-short f sound e, short-impossible f sound)
 
@@ -86,7 +86,7 @@ module _ (f : FlightSection) (sound : FlightSound f) where
   pub flight-unsearched : f .ordered ≡ false → ShortDelay f → chosenOrder f ≡ oneByOne (f .blocks)
   flight-unsearched e short = chosen-none f e (short-unfit f short)
 
-  -- The ceiling is never met: every pass of the plan ends by `latestEnd`, 32 times both passes and the delay of a block, and 63 turns.
+  -- The ceiling is never met: every pass of the plan ends by `latestEnd`, 32 times both passes and the longest delay of a block, and 63 turns.
   pub flight-ends : isPossible f ≡ true → (p : ℕ) → p < 2 * f .blocks → passEnd f (chosenPasses f) p ≤ latestEnd
   unfolding isPossible chosenPasses
   flight-ends e p l = least-ends f (chosenOrder f) sound (chosen-proper f sound) e p l

@@ -1,5 +1,5 @@
-// The flight planner: the given order or the best of all proper orders, and the least start of every pass in it. In the literature: coupled tasks with exact
-// delays on one machine, for the least makespan.
+// The flight planner: the given order or the best of all proper orders, and the least start of every pass in it. In the literature: coupled tasks with
+// time lags on one machine, for the least makespan.
 ghost use mathlib.Core.Path.{_≡_};
 ghost use Prim.Native.Nat.{_≤_};
 ghost use Rattle.sheet.specs.Limits.{mostBlocks};
@@ -39,15 +39,16 @@ fn plan_in_order(f: FlightSection, order: u64, rows: &mut [u64], starts: &mut [u
     let n = f.blocks;
     let first = f.first;
     let second = f.second;
-    let delay = f.delay;
+    let shortest = f.shortest;
+    let longest = f.longest;
     let possible = flight_order::least_starts(
         n,
         order,
         f.turn,
         &first,
         &second,
-        &delay,
-        &delay,
+        &shortest,
+        &longest,
         rows,
         starts,
     );
@@ -65,16 +66,16 @@ fn plan_in_order(f: FlightSection, order: u64, rows: &mut [u64], starts: &mut [u
     }
 }
 
-// Whether every delay is at least the turn.
+// Whether every longest delay is at least the turn.
 fn delays_fit(f: FlightSection) -> bool
     requires { ⌜ FlightSound f ⌝ }
     ensures { λ r. ⌜ r ≡ delaysFit f (f .blocks) ⌝ }
 {
     let n = f.blocks;
-    let delay = f.delay;
+    let longest = f.longest;
     let mut i: usize = 0;
     while i < n {
-        if delay[i] < f.turn {
+        if longest[i] < f.turn {
             return false;
         }
         i += 1;
@@ -96,7 +97,8 @@ fn one_by_one(n: usize) -> u64
     order
 }
 
-// The given order, or the one that the search takes. Where a delay is shorter than the turn no order is possible, and none is searched for.
+// The given order, or the one that the search takes. Where a longest delay is shorter than the turn no order is possible, and none is
+// searched for.
 fn choose_order(f: FlightSection) -> u64
     requires { ⌜ SomeBlocks f ⌝ }
     ensures { λ r. ⌜ r ≡ chosenOrder f ⌝ }
@@ -110,8 +112,9 @@ fn choose_order(f: FlightSection) -> u64
     }
     let first = f.first;
     let second = f.second;
-    let delay = f.delay;
-    let best = flight_search::best_order(n, f.turn, &first, &second, &delay);
+    let shortest = f.shortest;
+    let longest = f.longest;
+    let best = flight_search::best_order(n, f.turn, &first, &second, &shortest, &longest);
     best.order
 }
 

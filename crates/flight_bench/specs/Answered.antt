@@ -7,9 +7,19 @@ use Rattle.sheet.specs.declared.FlightSection.{FlightSection}
 use Rattle.flight.specs.Choice.{isPossible, leastFigure, chosenOrder}
 use Rattle.flight_bench.specs.declared.FlightAnswer.{FlightAnswer}
 
-abbrev pub sectionOf : ℕ → ℕ → List ℕ → List ℕ → List ℕ → Bool → ℕ → FlightSection
-sectionOf n turn first delay second ordered order =
-    record { blocks = n; turn = turn; first = first; delay = delay; second = second; ordered = ordered; order = order; place = 0 }
+abbrev pub sectionOf : ℕ → ℕ → List ℕ → List ℕ → List ℕ → List ℕ → Bool → ℕ → FlightSection
+sectionOf n turn first shortest longest second ordered order =
+    record {
+      blocks = n;
+      turn = turn;
+      first = first;
+      shortest = shortest;
+      longest = longest;
+      second = second;
+      ordered = ordered;
+      order = order;
+      place = 0;
+    }
 
 pub record Answered (f : FlightSection) (r : FlightAnswer) : Type 0 where
   pub possible : r .possible ≡ isPossible f

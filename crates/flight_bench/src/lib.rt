@@ -16,22 +16,25 @@ pub extern "C" fn flight_best(
     blocks: usize,
     turn: u64,
     first: &[u64; 32],
-    delay: &[u64; 32],
+    shortest: &[u64; 32],
+    longest: &[u64; 32],
     second: &[u64; 32],
     ordered: bool,
     order: u64,
 ) -> FlightAnswer
-    requires { ⌜ FlightSound (sectionOf blocks turn (now first) (now delay) (now second) ordered order) ⌝ }
-    ensures { λ r. ⌜ Answered (sectionOf blocks turn (now (first .entry)) (now (delay .entry)) (now (second .entry)) ordered order) r ⌝ }
+    requires { ⌜ FlightSound (sectionOf blocks turn (now first) (now shortest) (now longest) (now second) ordered order) ⌝ }
+    ensures { λ r. ⌜ Answered (sectionOf blocks turn (now (first .entry)) (now (shortest .entry)) (now (longest .entry)) (now (second .entry)) ordered order) r ⌝ }
 {
     let a = *first;
-    let l = *delay;
+    let l = *shortest;
+    let m = *longest;
     let b = *second;
     let f = FlightSection {
         blocks: blocks,
         turn: turn,
         first: a,
-        delay: l,
+        shortest: l,
+        longest: m,
         second: b,
         ordered: ordered,
         order: order,

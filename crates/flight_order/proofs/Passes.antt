@@ -8,7 +8,7 @@ use Rattle.order.specs.Passes.{passAt, timeOf}
 use Rattle.order.specs.PassLaws.{pass-known}
 use Rattle.sheet.specs.Limits.{mostTime}
 use Rattle.flight_order.specs.Constraints.{orderedFlight, constraintOf}
-use Rattle.flight_order.specs.Schedule.{constraint-least, constraint-most, constraint-order}
+use Rattle.flight_order.specs.Schedule.{constraint-shortest, constraint-longest, constraint-order}
 use Rattle.flight_order.specs.Good.{Good, time-low}
 use Rattle.flight_order.specs.declared.Constraint.{Constraint}
 
@@ -16,31 +16,31 @@ use Rattle.flight_order.specs.declared.Constraint.{Constraint}
 pub times-fit : (s t : List ℕ) (i : ℕ) → ((k : ℕ) → getD s k 0 ≤ mostTime) → ((k : ℕ) → getD t k 0 ≤ mostTime) → getD s i 0 + getD t i 0 < 2 ^ 64
 times-fit s t i a b = omega (arith, a i, b i)
 
-module _ (n w turn : ℕ) (first second least most : List ℕ) (good : Good (orderedFlight n w turn first second least most)) where
+module _ (n w turn : ℕ) (first second shortest longest : List ℕ) (good : Good (orderedFlight n w turn first second shortest longest)) where
   pub pass-below : (k p : ℕ) → 2 * n ≤ k → k < 4 * n - 1 → p ≡ passAt n w (k - 2 * n)
       → p < 2 * n
   pass-below k p g l e = rw e (pass-known (good .proper) (k - 2 * n) (omega arith))
 
   pub up-fits : (p time more : ℕ) → time ≡ timeOf n first second p → more ≤ mostTime → time + more < 2 ^ 64
-  up-fits p time more e l = omega (arith, time-low (orderedFlight n w turn first second least most) good p)
+  up-fits p time more e l = omega (arith, time-low (orderedFlight n w turn first second shortest longest) good p)
 
   pub made-order : (k p q time : ℕ) → 2 * n ≤ k → p ≡ passAt n w (k - 2 * n) → q ≡ passAt n w (k - 2 * n + 1) → time ≡ timeOf n first second p
-      → _≡_ {A = Constraint} (record { from = p; to = q; up = time + turn; down = 0 }) (constraintOf (orderedFlight n w turn first second least most) k)
+      → _≡_ {A = Constraint} (record { from = p; to = q; up = time + turn; down = 0 }) (constraintOf (orderedFlight n w turn first second shortest longest) k)
   made-order k p q time g e d t =
-      rw (constraint-order (orderedFlight n w turn first second least most) k g, t, e, d)
+      rw (constraint-order (orderedFlight n w turn first second shortest longest) k g, t, e, d)
 
-module _ (n w turn : ℕ) (first second least most : List ℕ) (k : ℕ) where
-  pub made-least : k < n
-      → _≡_ {A = Constraint} (record { from = k; to = n + k; up = getD first k 0 + getD least k 0; down = 0 })
-      (constraintOf (orderedFlight n w turn first second least most) k)
-  made-least l = sym (constraint-least (orderedFlight n w turn first second least most) k l)
+module _ (n w turn : ℕ) (first second shortest longest : List ℕ) (k : ℕ) where
+  pub made-shortest : k < n
+      → _≡_ {A = Constraint} (record { from = k; to = n + k; up = getD first k 0 + getD shortest k 0; down = 0 })
+      (constraintOf (orderedFlight n w turn first second shortest longest) k)
+  made-shortest l = sym (constraint-shortest (orderedFlight n w turn first second shortest longest) k l)
 
-  pub made-most : n ≤ k → k < 2 * n
-      → _≡_ {A = Constraint} (record { from = n + (k - n); to = k - n; up = 0; down = getD first (k - n) 0 + getD most (k - n) 0 })
-      (constraintOf (orderedFlight n w turn first second least most) k)
-  made-most g l =
-      ap (λ (p : ℕ). record { from = p; to = k - n; up = 0; down = getD first (k - n) 0 + getD most (k - n) 0 }) back
-      ∙ sym (constraint-most (orderedFlight n w turn first second least most) k g l)
+  pub made-longest : n ≤ k → k < 2 * n
+      → _≡_ {A = Constraint} (record { from = n + (k - n); to = k - n; up = 0; down = getD first (k - n) 0 + getD longest (k - n) 0 })
+      (constraintOf (orderedFlight n w turn first second shortest longest) k)
+  made-longest g l =
+      ap (λ (p : ℕ). record { from = p; to = k - n; up = 0; down = getD first (k - n) 0 + getD longest (k - n) 0 }) back
+      ∙ sym (constraint-longest (orderedFlight n w turn first second shortest longest) k g l)
     where
       back : n + (k - n) ≡ k
       back = omega arith

@@ -20,38 +20,38 @@ use Rattle.sheet.specs.Sound.{FlightSound}
 use Rattle.sheet.specs.declared.FlightSection.{FlightSection}
 use Rattle.rules.specs.Flight.{passTime}
 use Rattle.rules_laws.specs.FlightRunning.{time-first, time-second}
-use Rattle.flight_order.specs.Constraints.{constraintOf, systemFor, exactFlight, leastStarts, possibleIn}
-use Rattle.flight_order.specs.Schedule.{constraint-least, constraint-most, constraint-order}
+use Rattle.flight_order.specs.Constraints.{constraintOf, systemFor, flightIn, leastStarts, possibleIn}
+use Rattle.flight_order.specs.Schedule.{constraint-shortest, constraint-longest, constraint-order}
 use Rattle.flight_order.specs.Good.{Good, inside}
 use Rattle.flight_order.specs.Timetable.{time-is}
 
 -- A sound flight is what the code asks for.
-pub sound-good : (f : FlightSection) (w : ℕ) → FlightSound f → 0 < f .blocks → Proper (f .blocks) w → Good (exactFlight f w)
+pub sound-good : (f : FlightSection) (w : ℕ) → FlightSound f → 0 < f .blocks → Proper (f .blocks) w → Good (flightIn f w)
 sound-good f w s some proper = record {
   some = some;
   few = s .most-blocks;
   proper = proper;
   first-long = omega (arith, s .most-blocks, s .first-length);
   second-long = omega (arith, s .most-blocks, s .second-length);
-  least-long = omega (arith, s .most-blocks, s .delay-length);
-  most-long = omega (arith, s .most-blocks, s .delay-length);
+  shortest-long = omega (arith, s .most-blocks, s .shortest-length);
+  longest-long = omega (arith, s .most-blocks, s .longest-length);
   turn-low = omega (arith, s .most-turn);
   first-low = λ i. omega (arith, s .most-first i);
   second-low = λ i. omega (arith, s .most-second i);
-  least-low = λ i. omega (arith, s .most-delay i);
-  most-low = λ i. omega (arith, s .most-delay i);
+  shortest-low = λ i. omega (arith, s .window i, s .most-delay i);
+  longest-low = λ i. omega (arith, s .most-delay i);
 }
 
--- No least pass ends later: both passes and the delay of every block, and the turns between them.
+-- No least pass ends later: both passes and the longest delay of every block, and the turns between them.
 abbrev pub latestEnd : ℕ
 latestEnd = mostBlocks * (3 * mostTime) + (2 * mostBlocks - 1) * mostTurn
 
--- What a pass may hold up: a turn behind it, and a first pass its delay too.
+-- What a pass may hold up: a turn behind it, and a first pass its shortest delay too.
 reach : FlightSection → ℕ → ℕ
-reach f p = cond (ltb p (f .blocks)) (getD (f .first) p 0 + getD (f .delay) p 0) (getD (f .second) (p - f .blocks) 0) + f .turn
+reach f p = cond (ltb p (f .blocks)) (getD (f .first) p 0 + getD (f .shortest) p 0) (getD (f .second) (p - f .blocks) 0) + f .turn
 
 module _ (f : FlightSection) where
-  reach-first : (p : ℕ) → p < f .blocks → reach f p ≡ getD (f .first) p 0 + getD (f .delay) p 0 + f .turn
+  reach-first : (p : ℕ) → p < f .blocks → reach f p ≡ getD (f .first) p 0 + getD (f .shortest) p 0 + f .turn
   unfolding reach
   reach-first p l = rw (lt-ltb p (f .blocks) l)
 
@@ -66,13 +66,13 @@ module _ (f : FlightSection) where
       go (yes l) = omega (arith, time-first f p l, reach-first p l)
       go (no l) = omega (arith, time-second f p (omega arith), reach-second p (omega arith))
 
-  up-reach : (w k : ℕ) → k < 4 * f .blocks - 1 → constraintOf (exactFlight f w) k .up ≤ reach f (constraintOf (exactFlight f w) k .from)
+  up-reach : (w k : ℕ) → k < 4 * f .blocks - 1 → constraintOf (flightIn f w) k .up ≤ reach f (constraintOf (flightIn f w) k .from)
   up-reach w k l = go (decLt k (f .blocks)) (decLt k (2 * f .blocks))
     where
-      go : Dec (k < f .blocks) → Dec (k < 2 * f .blocks) → constraintOf (exactFlight f w) k .up ≤ reach f (constraintOf (exactFlight f w) k .from)
-      go (yes q) e = rw (constraint-least (exactFlight f w) k q) (omega (arith, reach-first k q))
-      go (no g) (yes q) = rw (constraint-most (exactFlight f w) k (omega arith) q) (omega arith)
-      go (no g) (no h) = rw (constraint-order (exactFlight f w) k (omega arith)) (omega (arith, time-is f p, time-reach p))
+      go : Dec (k < f .blocks) → Dec (k < 2 * f .blocks) → constraintOf (flightIn f w) k .up ≤ reach f (constraintOf (flightIn f w) k .from)
+      go (yes q) e = rw (constraint-shortest (flightIn f w) k q) (omega (arith, reach-first k q))
+      go (no g) (yes q) = rw (constraint-longest (flightIn f w) k (omega arith) q) (omega arith)
+      go (no g) (no h) = rw (constraint-order (flightIn f w) k (omega arith)) (omega (arith, time-is f p, time-reach p))
         where
           p : ℕ
           p = passAt (f .blocks) w (k - 2 * f .blocks)
@@ -82,7 +82,7 @@ module _ (f : FlightSection) where
     unfolding sumOver
     firsts-sum zero l = omega arith
     firsts-sum (suc m) l =
-        omega (arith, firsts-sum m (omega arith), reach-first m l, s .most-first m, s .most-delay m, mul-suc (f .turn) m)
+        omega (arith, firsts-sum m (omega arith), reach-first m l, s .most-first m, s .window m, s .most-delay m, mul-suc (f .turn) m)
 
     all-sum : (m : ℕ) → sumOver (f .blocks + m) (reach f) ≤ f .blocks * (2 * mostTime) + m * mostTime + f .turn * (f .blocks + m)
     unfolding sumOver
@@ -121,9 +121,9 @@ module _ (f : FlightSection) where
     least-end w some proper e p l =
         omega (
           arith,
-          span (systemFor (exactFlight f w)) (inside (exactFlight f w) good) (value (leastStarts f w)) (reach f)
-              (solvable-solves (systemFor (exactFlight f w)) (inside (exactFlight f w) good) e)
-              (λ y h j q. least-below (systemFor (exactFlight f w)) (inside (exactFlight f w) good) y h j)
+          span (systemFor (flightIn f w)) (inside (flightIn f w) good) (value (leastStarts f w)) (reach f)
+              (solvable-solves (systemFor (flightIn f w)) (inside (flightIn f w) good) e)
+              (λ y h j q. least-below (systemFor (flightIn f w)) (inside (flightIn f w) good) y h j)
               (up-reach w)
               p
               l,
@@ -131,5 +131,5 @@ module _ (f : FlightSection) where
           reach-sum some,
         )
       where
-        good : Good (exactFlight f w)
+        good : Good (flightIn f w)
         good = sound-good f w s some proper

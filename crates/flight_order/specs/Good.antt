@@ -11,7 +11,7 @@ use Rattle.difference.specs.Caps.{mostNumber, valueCap}
 use Rattle.difference.specs.Round.{rounds-bound}
 use Rattle.sheet.specs.Limits.{mostTime, mostBlocks}
 use Rattle.flight_order.specs.Constraints.{OrderedFlight, constraintOf, systemFor}
-use Rattle.flight_order.specs.Schedule.{constraint-least, constraint-most, constraint-order}
+use Rattle.flight_order.specs.Schedule.{constraint-shortest, constraint-longest, constraint-order}
 use Rattle.flight_order.specs.declared.Constraint.{Constraint}
 
 pub record Good (F : OrderedFlight) : Type 0 where
@@ -20,13 +20,13 @@ pub record Good (F : OrderedFlight) : Type 0 where
   pub proper : Proper (F .blocks) (F .order)
   pub first-long : F .blocks ≤ length (F .first)
   pub second-long : F .blocks ≤ length (F .second)
-  pub least-long : F .blocks ≤ length (F .least)
-  pub most-long : F .blocks ≤ length (F .most)
+  pub shortest-long : F .blocks ≤ length (F .shortest)
+  pub longest-long : F .blocks ≤ length (F .longest)
   pub turn-low : F .turn ≤ mostTime
   pub first-low : (i : ℕ) → getD (F .first) i 0 ≤ mostTime
   pub second-low : (i : ℕ) → getD (F .second) i 0 ≤ mostTime
-  pub least-low : (i : ℕ) → getD (F .least) i 0 ≤ mostTime
-  pub most-low : (i : ℕ) → getD (F .most) i 0 ≤ mostTime
+  pub shortest-low : (i : ℕ) → getD (F .shortest) i 0 ≤ mostTime
+  pub longest-low : (i : ℕ) → getD (F .longest) i 0 ≤ mostTime
 
 pub record Small (n : ℕ) (c : Constraint) : Type 0 where
   pub from-in : c .from < 2 * n
@@ -46,17 +46,17 @@ module _ (F : OrderedFlight) (good : Good F) where
   constraint-small k l = go (decLt k (F .blocks)) (decLt k (2 * F .blocks))
     where
       go : Dec (k < F .blocks) → Dec (k < 2 * F .blocks) → Small (F .blocks) (constraintOf F k)
-      go (yes q) e = rw (constraint-least F k q) record {
+      go (yes q) e = rw (constraint-shortest F k q) record {
         from-in = omega arith;
         to-in = omega arith;
-        up-low = omega (arith, good .first-low k, good .least-low k);
+        up-low = omega (arith, good .first-low k, good .shortest-low k);
         down-low = omega arith;
       }
-      go (no g) (yes q) = rw (constraint-most F k (omega arith) q) record {
+      go (no g) (yes q) = rw (constraint-longest F k (omega arith) q) record {
         from-in = q;
         to-in = omega arith;
         up-low = omega arith;
-        down-low = omega (arith, good .first-low (k - F .blocks), good .most-low (k - F .blocks));
+        down-low = omega (arith, good .first-low (k - F .blocks), good .longest-low (k - F .blocks));
       }
       go (no g) (no h) = rw (constraint-order F k (omega arith)) record {
         from-in = pass-known (good .proper) (k - 2 * F .blocks) (omega arith);

@@ -16,20 +16,20 @@ use Rattle.rules.specs.Flight.{passStart, passTime, passEnd, secondDue, clearAt
 use Rattle.rules.specs.declared.Passes.{Passes}
 use Rattle.base.specs.SumLaws.{greatest-most, greatest-part}
 use Rattle.rules_laws.specs.FlightRunning.{start-first, second-start, end-is, clear-end, next-apart, before-later, all-apart, order-kept}
-use Rattle.flight_order.specs.Constraints.{exactFlight}
+use Rattle.flight_order.specs.Constraints.{flightIn}
 use Rattle.flight_order.specs.Schedule.{Schedule}
 use Rattle.flight_order.specs.Timetable.{passesWithStarts, passes-length, passes-first, passes-second, start-from, time-is}
 
 module _ (f : FlightSection) (w : ℕ) (proper : Proper (f .blocks) w) where
   -- From the rules to the constraints.
-  pub lawful-schedule : {c : ℕ} (ps : List Passes) → FlightUnder c f ps → Keeps f w ps → Schedule (exactFlight f w) (passStart f ps)
+  pub lawful-schedule : {c : ℕ} (ps : List Passes) → FlightUnder c f ps → Keeps f w ps → Schedule (flightIn f w) (passStart f ps)
   unfolding passEnd clearAt secondDue
-  lawful-schedule ps law keeps = record { at-least = λ i l. omega (arith, delay i l); at-most = λ i l. omega (arith, delay i l); in-order = order }
+  lawful-schedule ps law keeps = record {
+    at-least = λ i l. omega (arith, law .delay-kept i l .at-least, start-first f ps i l, second-start f ps i);
+    at-most = λ i l. omega (arith, law .delay-kept i l .at-most, start-first f ps i l, second-start f ps i);
+    in-order = order;
+  }
     where
-      delay : (i : ℕ) → i < f .blocks → passStart f ps (f .blocks + i) ≡ passStart f ps i + (getD (f .first) i 0 + getD (f .delay) i 0)
-      delay i l =
-          second-start f ps i ∙ omega (arith, law .delay-kept i l .exact, start-first f ps i l)
-
       order : (j : ℕ) → j + 1 < 2 * f .blocks
           → passStart f ps (passAt (f .blocks) w j) + (timeOf (f .blocks) (f .first) (f .second) (passAt (f .blocks) w j) + f .turn)
           ≤ passStart f ps (passAt (f .blocks) w (j + 1))
@@ -41,7 +41,7 @@ module _ (f : FlightSection) (w : ℕ) (proper : Proper (f .blocks) w) where
           )
 
   -- From the constraints to the rules.
-  module _ (y : ℕ → ℕ) (schedule : Schedule (exactFlight f w) y) where
+  module _ (y : ℕ → ℕ) (schedule : Schedule (flightIn f w) y) where
     next : (k : ℕ) → k + 1 < 2 * f .blocks
         → Clear f (passesWithStarts (f .blocks) y) (passAt (f .blocks) w k) (passAt (f .blocks) w (k + 1))
     unfolding passEnd clearAt
@@ -60,7 +60,8 @@ module _ (f : FlightSection) (w : ℕ) (proper : Proper (f .blocks) w) where
     schedule-lawful low = record {
       every-block = passes-length (f .blocks) y;
       delay-kept = λ i l. record {
-        exact = rw (passes-first (f .blocks) y i l, passes-second (f .blocks) y i l) (omega (arith, schedule .at-least i l, schedule .at-most i l));
+        at-least = rw (passes-first (f .blocks) y i l, passes-second (f .blocks) y i l) (omega (arith, schedule .at-least i l));
+        at-most = rw (passes-first (f .blocks) y i l, passes-second (f .blocks) y i l) (omega (arith, schedule .at-most i l));
       };
       apart = all-apart f (passesWithStarts (f .blocks) y) w proper next;
       within = λ p l. rw (start-from f y p l) (low p l);

@@ -17,7 +17,7 @@ use Rattle.rules.specs.Flight.{passStart, passTime, passEnd, FlightUnder, Fligh
 use Rattle.rules.specs.declared.Passes.{Passes}
 use Rattle.base.specs.SumLaws.{greatest-most}
 use Rattle.rules_laws.specs.FlightRunning.{time-second}
-use Rattle.flight_order.specs.Constraints.{exactFlight, systemFor, leastStarts, possibleIn, orderFigure}
+use Rattle.flight_order.specs.Constraints.{flightIn, systemFor, leastStarts, possibleIn, orderFigure}
 use Rattle.flight_order.specs.Schedule.{Schedule, schedule-solves, solves-schedule}
 use Rattle.flight_order.specs.Good.{inside}
 use Rattle.flight_order.specs.Timetable.{passesWithStarts, leastPasses, passes-length, start-from}
@@ -26,14 +26,14 @@ use Rattle.flight_order.specs.Ceiling.{latestEnd, sound-good, least-end}
 
 module _ (f : FlightSection) (w : ℕ) (sound : FlightSound f) (proper : Proper (f .blocks) w) where
   -- A schedule shows that the order is possible.
-  pub schedule-possible : 0 < f .blocks → (y : ℕ → ℕ) → Schedule (exactFlight f w) y → possibleIn f w ≡ true
+  pub schedule-possible : 0 < f .blocks → (y : ℕ → ℕ) → Schedule (flightIn f w) y → possibleIn f w ≡ true
   unfolding possibleIn
   schedule-possible some y s =
-      solution-solvable (systemFor (exactFlight f w)) (inside (exactFlight f w) (sound-good f w sound some proper)) y (schedule-solves (exactFlight f w) y s)
+      solution-solvable (systemFor (flightIn f w)) (inside (flightIn f w) (sound-good f w sound some proper)) y (schedule-solves (flightIn f w) y s)
 
   pub empty-possible : (0 < f .blocks → ⊥) → possibleIn f w ≡ true
   unfolding possibleIn solvable holds
-  empty-possible none = ap (λ (m : ℕ). holds (systemFor (exactFlight f w)) m (leastValues (systemFor (exactFlight f w)))) e
+  empty-possible none = ap (λ (m : ℕ). holds (systemFor (flightIn f w)) m (leastValues (systemFor (flightIn f w)))) e
     where
       e : 4 * f .blocks - 1 ≡ 0
       e = omega (arith, none)
@@ -49,11 +49,11 @@ module _ (f : FlightSection) (w : ℕ) (sound : FlightSound f) (proper : Proper 
   unfolding leastPasses
   start-least p l = start-from f (value (leastStarts f w)) p l
 
-  least-schedule : 0 < f .blocks → possibleIn f w ≡ true → Schedule (exactFlight f w) (value (leastStarts f w))
+  least-schedule : 0 < f .blocks → possibleIn f w ≡ true → Schedule (flightIn f w) (value (leastStarts f w))
   unfolding possibleIn leastStarts
   least-schedule some e =
-      solves-schedule (exactFlight f w) (value (leastStarts f w))
-      (solvable-solves (systemFor (exactFlight f w)) (inside (exactFlight f w) (sound-good f w sound some proper)) e)
+      solves-schedule (flightIn f w) (value (leastStarts f w))
+      (solvable-solves (systemFor (flightIn f w)) (inside (flightIn f w) (sound-good f w sound some proper)) e)
 
   pub possible-keeps : possibleIn f w ≡ true → Keeps f w (leastPasses f w)
   unfolding leastPasses
@@ -81,8 +81,8 @@ module _ (f : FlightSection) (w : ℕ) (sound : FlightSound f) (proper : Proper 
   starts-below : {c : ℕ} → 0 < f .blocks → (ps : List Passes) → FlightUnder c f ps → Keeps f w ps → (p : ℕ) → value (leastStarts f w) p ≤ passStart f ps p
   unfolding leastStarts
   starts-below some ps law keeps p =
-      least-below (systemFor (exactFlight f w)) (inside (exactFlight f w) (sound-good f w sound some proper)) (passStart f ps)
-      (schedule-solves (exactFlight f w) (passStart f ps) (lawful-schedule f w proper ps law keeps)) p
+      least-below (systemFor (flightIn f w)) (inside (flightIn f w) (sound-good f w sound some proper)) (passStart f ps)
+      (schedule-solves (flightIn f w) (passStart f ps) (lawful-schedule f w proper ps law keeps)) p
 
   -- No pass starts earlier in any timetable that keeps the order.
   pub least-earliest : {c : ℕ} (ps : List Passes) → FlightUnder c f ps → Keeps f w ps → (p : ℕ) → p < 2 * f .blocks

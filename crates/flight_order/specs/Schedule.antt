@@ -11,22 +11,22 @@ use Rattle.flight_order.specs.Constraints.{OrderedFlight, constraintOf, 
 
 -- y p is the start of pass p.
 pub record Schedule (F : OrderedFlight) (y : ℕ → ℕ) : Type 0 where
-  pub at-least : (i : ℕ) → i < F .blocks → y i + (getD (F .first) i 0 + getD (F .least) i 0) ≤ y (F .blocks + i)
-  pub at-most : (i : ℕ) → i < F .blocks → y (F .blocks + i) ≤ y i + (getD (F .first) i 0 + getD (F .most) i 0)
+  pub at-least : (i : ℕ) → i < F .blocks → y i + (getD (F .first) i 0 + getD (F .shortest) i 0) ≤ y (F .blocks + i)
+  pub at-most : (i : ℕ) → i < F .blocks → y (F .blocks + i) ≤ y i + (getD (F .first) i 0 + getD (F .longest) i 0)
   pub in-order : (j : ℕ) → j + 1 < 2 * F .blocks
       → y (passAt (F .blocks) (F .order) j) + (timeOf (F .blocks) (F .first) (F .second) (passAt (F .blocks) (F .order) j) + F .turn)
       ≤ y (passAt (F .blocks) (F .order) (j + 1))
 
 module _ (F : OrderedFlight) (k : ℕ) where
-  pub constraint-least : k < F .blocks
-      → constraintOf F k ≡ record { from = k; to = F .blocks + k; up = getD (F .first) k 0 + getD (F .least) k 0; down = 0 }
+  pub constraint-shortest : k < F .blocks
+      → constraintOf F k ≡ record { from = k; to = F .blocks + k; up = getD (F .first) k 0 + getD (F .shortest) k 0; down = 0 }
   unfolding constraintOf
-  constraint-least l = rw (lt-ltb k (F .blocks) l)
+  constraint-shortest l = rw (lt-ltb k (F .blocks) l)
 
-  pub constraint-most : F .blocks ≤ k → k < 2 * F .blocks
-      → constraintOf F k ≡ record { from = k; to = k - F .blocks; up = 0; down = getD (F .first) (k - F .blocks) 0 + getD (F .most) (k - F .blocks) 0 }
+  pub constraint-longest : F .blocks ≤ k → k < 2 * F .blocks
+      → constraintOf F k ≡ record { from = k; to = k - F .blocks; up = 0; down = getD (F .first) (k - F .blocks) 0 + getD (F .longest) (k - F .blocks) 0 }
   unfolding constraintOf
-  constraint-most g l = rw (le-ltb k (F .blocks) g, lt-ltb k (2 * F .blocks) l)
+  constraint-longest g l = rw (le-ltb k (F .blocks) g, lt-ltb k (2 * F .blocks) l)
 
   pub constraint-order : 2 * F .blocks ≤ k
       → constraintOf F k
@@ -44,8 +44,8 @@ module _ (F : OrderedFlight) (y : ℕ → ℕ) where
   schedule-solves s k l = go (decLt k (F .blocks)) (decLt k (2 * F .blocks))
     where
       go : Dec (k < F .blocks) → Dec (k < 2 * F .blocks) → y (constraintOf F k .from) + constraintOf F k .up ≤ y (constraintOf F k .to) + constraintOf F k .down
-      go (yes q) e = rw (constraint-least F k q) (omega (arith, s .at-least k q))
-      go (no g) (yes q) = rw (constraint-most F k (omega arith) q) (omega (arith, rw back at (s .at-most (k - F .blocks) (omega arith))))
+      go (yes q) e = rw (constraint-shortest F k q) (omega (arith, s .at-least k q))
+      go (no g) (yes q) = rw (constraint-longest F k (omega arith) q) (omega (arith, rw back at (s .at-most (k - F .blocks) (omega arith))))
         where
           back : F .blocks + (k - F .blocks) ≡ k
           back = omega arith
@@ -54,11 +54,11 @@ module _ (F : OrderedFlight) (y : ℕ → ℕ) where
   pub solves-schedule : Solves (systemFor F) y → Schedule F y
   solves-schedule s = record { at-least = least; at-most = most; in-order = order }
     where
-      least : (i : ℕ) → i < F .blocks → y i + (getD (F .first) i 0 + getD (F .least) i 0) ≤ y (F .blocks + i)
-      least i l = omega (arith, rw (constraint-least F i l) at (s i (omega arith)))
+      least : (i : ℕ) → i < F .blocks → y i + (getD (F .first) i 0 + getD (F .shortest) i 0) ≤ y (F .blocks + i)
+      least i l = omega (arith, rw (constraint-shortest F i l) at (s i (omega arith)))
 
-      most : (i : ℕ) → i < F .blocks → y (F .blocks + i) ≤ y i + (getD (F .first) i 0 + getD (F .most) i 0)
-      most i l = omega (arith, rw (constraint-most F (F .blocks + i) (omega arith) (omega arith), back) at (s (F .blocks + i) (omega arith)))
+      most : (i : ℕ) → i < F .blocks → y (F .blocks + i) ≤ y i + (getD (F .first) i 0 + getD (F .longest) i 0)
+      most i l = omega (arith, rw (constraint-longest F (F .blocks + i) (omega arith) (omega arith), back) at (s (F .blocks + i) (omega arith)))
         where
           back : F .blocks + i - F .blocks ≡ i
           back = omega arith

@@ -21,26 +21,26 @@ pub struct Constraint {
     pub down: u64,
 }
 
-// Constraint k: the least delay of a block, the greatest delay of a block, or the next pass after a pass and the turn.
+// Constraint k: the shortest delay of a block, the longest delay of a block, or the next pass after a pass and the turn.
 fn constraint_at<'a>(
     n: usize,
     order: u64,
     turn: u64,
     first: &'a [u64],
     second: &'a [u64],
-    least: &'a [u64],
-    most: &'a [u64],
+    shortest: &'a [u64],
+    longest: &'a [u64],
     k: usize,
 ) -> Constraint
-    requires { ⌜ Good (orderedFlight n order turn (now first) (now second) (now least) (now most)) ⌝ }
+    requires { ⌜ Good (orderedFlight n order turn (now first) (now second) (now shortest) (now longest)) ⌝ }
     requires { ⌜ k < 4 * n - 1 ⌝ }
-    ensures { λ r. ⌜ r ≡ constraintOf (orderedFlight n order turn (now (first .entry)) (now (second .entry)) (now (least .entry)) (now (most .entry))) k ⌝ }
+    ensures { λ r. ⌜ r ≡ constraintOf (orderedFlight n order turn (now (first .entry)) (now (second .entry)) (now (shortest .entry)) (now (longest .entry))) k ⌝ }
 {
     if k < n {
         return Constraint {
             from: k,
             to: n + k,
-            up: first[k] + least[k],
+            up: first[k] + shortest[k],
             down: 0,
         };
     }
@@ -50,7 +50,7 @@ fn constraint_at<'a>(
             from: n + i,
             to: i,
             up: 0,
-            down: first[i] + most[i],
+            down: first[i] + longest[i],
         };
     }
     let j = k - 2 * n;
@@ -72,18 +72,18 @@ fn write_constraints<'a>(
     turn: u64,
     first: &'a [u64],
     second: &'a [u64],
-    least: &'a [u64],
-    most: &'a [u64],
+    shortest: &'a [u64],
+    longest: &'a [u64],
     rows: &mut [u64],
 )
-    requires { ⌜ WriteConstraintsPre (orderedFlight n order turn (now first) (now second) (now least) (now most)) (now rows) ⌝ }
-    ensures { λ _. ⌜ Rows (orderedFlight n order turn (now (first .entry)) (now (second .entry)) (now (least .entry)) (now (most .entry)))
+    requires { ⌜ WriteConstraintsPre (orderedFlight n order turn (now first) (now second) (now shortest) (now longest)) (now rows) ⌝ }
+    ensures { λ _. ⌜ Rows (orderedFlight n order turn (now (first .entry)) (now (second .entry)) (now (shortest .entry)) (now (longest .entry)))
         (now (rows .exit)) (4 * n - 1) ⌝ }
 {
     let count = 4 * n - 1;
     let mut k = 0;
     while k < count {
-        let c = constraint_at(n, order, turn, first, second, least, most, k);
+        let c = constraint_at(n, order, turn, first, second, shortest, longest, k);
         let at = difference::ROW * k;
         rows[at] = c.from as u64;
         rows[at + 1] = c.to as u64;
@@ -100,15 +100,15 @@ pub fn least_starts<'a>(
     turn: u64,
     first: &'a [u64],
     second: &'a [u64],
-    least: &'a [u64],
-    most: &'a [u64],
+    shortest: &'a [u64],
+    longest: &'a [u64],
     rows: &mut [u64],
     starts: &mut [u64],
 ) -> bool
-    requires { ⌜ LeastStartsPre (orderedFlight n order turn (now first) (now second) (now least) (now most)) (now rows) (now starts) ⌝ }
-    ensures { λ r. ⌜ Least (orderedFlight n order turn (now (first .entry)) (now (second .entry)) (now (least .entry)) (now (most .entry)))
+    requires { ⌜ LeastStartsPre (orderedFlight n order turn (now first) (now second) (now shortest) (now longest)) (now rows) (now starts) ⌝ }
+    ensures { λ r. ⌜ Least (orderedFlight n order turn (now (first .entry)) (now (second .entry)) (now (shortest .entry)) (now (longest .entry)))
         (now (rows .exit)) (now (starts .exit)) r ⌝ }
 {
-    write_constraints(n, order, turn, first, second, least, most, rows);
+    write_constraints(n, order, turn, first, second, shortest, longest, rows);
     difference::solve(rows, starts)
 }

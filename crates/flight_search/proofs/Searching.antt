@@ -14,8 +14,8 @@ use Rattle.flight_search.specs.Searched.{searched-end, searched-both, se
 use Rattle.flight_search.specs.Contracts.{SearchRoom, TryOrderPre, SearchPre}
 use Rattle.flight_search.specs.declared.Incumbent.{Incumbent}
 
-room-again : {n turn : ℕ} {first second delay rows₀ starts₀ rows starts : List ℕ} → SearchRoom n turn first second delay rows₀ starts₀
-    → length rows ≡ length rows₀ → length starts ≡ length starts₀ → SearchRoom n turn first second delay rows starts
+room-again : {n turn : ℕ} {first second shortest longest rows₀ starts₀ rows starts : List ℕ} → SearchRoom n turn first second shortest longest rows₀ starts₀
+    → length rows ≡ length rows₀ → length starts ≡ length starts₀ → SearchRoom n turn first second shortest longest rows starts
 room-again r e d = record { times = r .times; rows-length = e ∙ r .rows-length; starts-length = d ∙ r .starts-length }
 
 -- What are not first passes are second passes.
@@ -29,8 +29,8 @@ firsts-few n left x a e = omega (arith, firsts-seconds x (2 * n - left))
 second-left : (n left x : ℕ) → (left ≡ 0 → ⊥) → left ≤ 2 * n → n ≤ firsts x (2 * n - left) → seconds x (2 * n - left) < firsts x (2 * n - left)
 second-left n left x more within l = omega (arith, more, firsts-seconds x (2 * n - left))
 
-module _ {n left x turn : ℕ} {first second delay rows₀ starts₀ : List ℕ} (pre : SearchPre n left x turn first second delay rows₀ starts₀) where
-  pub try-order-pre : left ≡ 0 → TryOrderPre n x turn first second delay rows₀ starts₀
+module _ {n left x turn : ℕ} {first second shortest longest rows₀ starts₀ : List ℕ} (pre : SearchPre n left x turn first second shortest longest rows₀ starts₀) where
+  pub try-order-pre : left ≡ 0 → TryOrderPre n x turn first second shortest longest rows₀ starts₀
   try-order-pre e = record { room = pre .room; proper = whole-proper (rw whole at (pre .begun)) }
     where
       whole : 2 * n - left ≡ 2 * n
@@ -49,33 +49,33 @@ module _ {n left x turn : ℕ} {first second delay rows₀ starts₀ : List ℕ}
     short : left - 1 ≤ 2 * n
     short = omega (arith, pre .within)
 
-    pub first-search-pre : (a : ℕ) → a ≡ firsts x (2 * n - left) → a < n → SearchPre n (left - 1) x turn first second delay rows₀ starts₀
+    pub first-search-pre : (a : ℕ) → a ≡ firsts x (2 * n - left) → a < n → SearchPre n (left - 1) x turn first second shortest longest rows₀ starts₀
     first-search-pre a e l = record { room = pre .room; within = short; begun = rw next at (first-child (pre .begun) (omega arith)) }
 
     second-begun : (y : ℕ) → seconds x (2 * n - left) < firsts x (2 * n - left) → y ≡ x + 2 ^ (2 * n - left) → Beginning n (2 * n - (left - 1)) y
     second-begun y l e = rw e (rw next at (second-child (pre .begun) l))
 
     pub only-second-search-pre : (a y : ℕ) → a ≡ firsts x (2 * n - left) → n ≤ a → y ≡ x + 2 ^ (2 * n - left)
-        → SearchPre n (left - 1) y turn first second delay rows₀ starts₀
+        → SearchPre n (left - 1) y turn first second shortest longest rows₀ starts₀
     only-second-search-pre a y e l d =
         record { room = pre .room; within = short; begun = second-begun y (second-left n left x more (pre .within) (omega arith)) d }
 
     pub second-search-pre : {rows starts : List ℕ} → length rows ≡ length rows₀ → length starts ≡ length starts₀
         → (a b y : ℕ) → a ≡ firsts x (2 * n - left) → b ≡ 2 * n - left - a → b < a → y ≡ x + 2 ^ (2 * n - left)
-        → SearchPre n (left - 1) y turn first second delay rows starts
+        → SearchPre n (left - 1) y turn first second shortest longest rows starts
     second-search-pre lr ls a b y e d l s = record { room = room-again (pre .room) lr ls; within = short; begun = second-begun y (omega (arith, others n left x a b e d)) s }
 
 -- What each way gives.
-module _ (n left x turn : ℕ) (first second delay : List ℕ) (more : left ≡ 0 → ⊥) (best r : Incumbent) where
+module _ (n left x turn : ℕ) (first second shortest longest : List ℕ) (more : left ≡ 0 → ⊥) (best r : Incumbent) where
   step : left ≡ suc (left - 1)
   step = omega (arith, more)
 
   abbrev O : Orders
-  O = ordersOf (freeSection n turn first second delay)
+  O = ordersOf (freeSection n turn first second shortest longest)
 
   pub only-second : left ≤ 2 * n → (a y : ℕ) → a ≡ firsts x (2 * n - left) → n ≤ a → y ≡ x + 2 ^ (2 * n - left)
-      → r ≡ searched (ordersOf (freeSection n turn first second delay)) (left - 1) y best
-      → r ≡ searched (ordersOf (freeSection n turn first second delay)) left x best
+      → r ≡ searched (ordersOf (freeSection n turn first second shortest longest)) (left - 1) y best
+      → r ≡ searched (ordersOf (freeSection n turn first second shortest longest)) left x best
   unfolding ordersOf
   only-second within a y e l d q =
       q
@@ -83,17 +83,17 @@ module _ (n left x turn : ℕ) (first second delay : List ℕ) (more : left ≡ 
       ∙ sym (rw (← step) at (searched-second O (left - 1) x best (rw (← step, ← e) l) (rw (← step) (second-left n left x more within (omega arith)))))
 
   pub only-first : (a b : ℕ) → a ≡ firsts x (2 * n - left) → b ≡ 2 * n - left - a → a < n → a ≤ b
-      → r ≡ searched (ordersOf (freeSection n turn first second delay)) (left - 1) x best
-      → r ≡ searched (ordersOf (freeSection n turn first second delay)) left x best
+      → r ≡ searched (ordersOf (freeSection n turn first second shortest longest)) (left - 1) x best
+      → r ≡ searched (ordersOf (freeSection n turn first second shortest longest)) left x best
   unfolding ordersOf
   only-first a b e d h l q =
       q ∙ sym (rw (← step) at (searched-first O (left - 1) x best (rw (← step, ← e) h) (rw (← step, ← e, ← others n left x a b e d) l)))
 
   pub first-then-second : (after : Incumbent) (a b y : ℕ) → a ≡ firsts x (2 * n - left) → b ≡ 2 * n - left - a → a < n → b < a
       → y ≡ x + 2 ^ (2 * n - left)
-      → after ≡ searched (ordersOf (freeSection n turn first second delay)) (left - 1) x best
-      → r ≡ searched (ordersOf (freeSection n turn first second delay)) (left - 1) y after
-      → r ≡ searched (ordersOf (freeSection n turn first second delay)) left x best
+      → after ≡ searched (ordersOf (freeSection n turn first second shortest longest)) (left - 1) x best
+      → r ≡ searched (ordersOf (freeSection n turn first second shortest longest)) (left - 1) y after
+      → r ≡ searched (ordersOf (freeSection n turn first second shortest longest)) left x best
   unfolding ordersOf
   first-then-second after a b y e d h l s p q =
       q

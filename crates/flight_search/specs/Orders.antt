@@ -10,5 +10,16 @@ unfoldable pub ordersOf : FlightSection → Orders
 ordersOf f = record { blocks = f .blocks; possible = possibleIn f; figure = orderFigure f }
 
 -- The flight section of n blocks, with a turn, without an order.
-abbrev pub freeSection : ℕ → ℕ → List ℕ → List ℕ → List ℕ → FlightSection
-freeSection n turn first second delay = record { blocks = n; turn = turn; first = first; delay = delay; second = second; ordered = false; order = 0; place = 0 }
+abbrev pub freeSection : ℕ → ℕ → List ℕ → List ℕ → List ℕ → List ℕ → FlightSection
+freeSection n turn first second shortest longest =
+    record {
+      blocks = n;
+      turn = turn;
+      first = first;
+      shortest = shortest;
+      longest = longest;
+      second = second;
+      ordered = false;
+      order = 0;
+      place = 0;
+    }

@@ -19,15 +19,26 @@ fn try_order<'a>(
     turn: u64,
     first: &'a [u64],
     second: &'a [u64],
-    delay: &'a [u64],
+    shortest: &'a [u64],
+    longest: &'a [u64],
     rows: &mut [u64],
     starts: &mut [u64],
     best: Incumbent,
 ) -> Incumbent
-    requires { ⌜ TryOrderPre n order turn (now first) (now second) (now delay) (now rows) (now starts) ⌝ }
-    ensures { λ r. ⌜ r ≡ tried (ordersOf (freeSection n turn (now (first .entry)) (now (second .entry)) (now (delay .entry)))) order best ⌝ }
+    requires { ⌜ TryOrderPre n order turn (now first) (now second) (now shortest) (now longest) (now rows) (now starts) ⌝ }
+    ensures { λ r. ⌜ r ≡ tried (ordersOf (freeSection n turn (now (first .entry)) (now (second .entry)) (now (shortest .entry)) (now (longest .entry)))) order best ⌝ }
 {
-    if !flight_order::least_starts(n, order, turn, first, second, delay, delay, rows, starts) {
+    if !flight_order::least_starts(
+        n,
+        order,
+        turn,
+        first,
+        second,
+        shortest,
+        longest,
+        rows,
+        starts,
+    ) {
         return best;
     }
     let last = 2 * n - 1;
@@ -52,16 +63,28 @@ fn search<'a>(
     turn: u64,
     first: &'a [u64],
     second: &'a [u64],
-    delay: &'a [u64],
+    shortest: &'a [u64],
+    longest: &'a [u64],
     rows: &mut [u64],
     starts: &mut [u64],
     best: Incumbent,
 ) -> Incumbent
-    requires { ⌜ SearchPre n left x turn (now first) (now second) (now delay) (now rows) (now starts) ⌝ }
-    ensures { λ r. ⌜ r ≡ searched (ordersOf (freeSection n turn (now (first .entry)) (now (second .entry)) (now (delay .entry)))) left x best ⌝ }
+    requires { ⌜ SearchPre n left x turn (now first) (now second) (now shortest) (now longest) (now rows) (now starts) ⌝ }
+    ensures { λ r. ⌜ r ≡ searched (ordersOf (freeSection n turn (now (first .entry)) (now (second .entry)) (now (shortest .entry)) (now (longest .entry)))) left x best ⌝ }
 {
     if left == 0 {
-        return try_order(n, x, turn, first, second, delay, rows, starts, best);
+        return try_order(
+            n,
+            x,
+            turn,
+            first,
+            second,
+            shortest,
+            longest,
+            rows,
+            starts,
+            best,
+        );
     }
     let rest = left - 1;
     let at = 2 * n - left;
@@ -69,14 +92,50 @@ fn search<'a>(
     let seconds = at - firsts;
     if n <= firsts {
         let y = order::append_second(x, at as u64);
-        return search(n, rest, y, turn, first, second, delay, rows, starts, best);
+        return search(
+            n,
+            rest,
+            y,
+            turn,
+            first,
+            second,
+            shortest,
+            longest,
+            rows,
+            starts,
+            best,
+        );
     }
-    let after = search(n, rest, x, turn, first, second, delay, rows, starts, best);
+    let after = search(
+        n,
+        rest,
+        x,
+        turn,
+        first,
+        second,
+        shortest,
+        longest,
+        rows,
+        starts,
+        best,
+    );
     if firsts <= seconds {
         return after;
     }
     let y = order::append_second(x, at as u64);
-    search(n, rest, y, turn, first, second, delay, rows, starts, after)
+    search(
+        n,
+        rest,
+        y,
+        turn,
+        first,
+        second,
+        shortest,
+        longest,
+        rows,
+        starts,
+        after,
+    )
 }
 
 // The search from the empty beginning, with room for the constraints and starts of 32 blocks.
@@ -85,12 +144,13 @@ fn search_all<'a>(
     turn: u64,
     first: &'a [u64],
     second: &'a [u64],
-    delay: &'a [u64],
+    shortest: &'a [u64],
+    longest: &'a [u64],
     rows: &mut [u64],
     starts: &mut [u64],
 ) -> Incumbent
-    requires { ⌜ SearchAllPre n turn (now first) (now second) (now delay) (now rows) (now starts) ⌝ }
-    ensures { λ r. ⌜ r ≡ searched (ordersOf (freeSection n turn (now (first .entry)) (now (second .entry)) (now (delay .entry)))) (2 * n) 0 noIncumbent ⌝ }
+    requires { ⌜ SearchAllPre n turn (now first) (now second) (now shortest) (now longest) (now rows) (now starts) ⌝ }
+    ensures { λ r. ⌜ r ≡ searched (ordersOf (freeSection n turn (now (first .entry)) (now (second .entry)) (now (shortest .entry)) (now (longest .entry)))) (2 * n) 0 noIncumbent ⌝ }
 {
     let count = difference::ROW * (4 * n - 1);
     let passes = 2 * n;
@@ -106,7 +166,8 @@ fn search_all<'a>(
         turn,
         first,
         second,
-        delay,
+        shortest,
+        longest,
         &mut rows[..count],
         &mut starts[..passes],
         none,
@@ -119,12 +180,22 @@ pub fn best_order<'a>(
     turn: u64,
     first: &'a [u64],
     second: &'a [u64],
-    delay: &'a [u64],
+    shortest: &'a [u64],
+    longest: &'a [u64],
 ) -> Incumbent
-    requires { ⌜ BlockTimes n turn (now first) (now second) (now delay) ⌝ }
-    ensures { λ r. ⌜ r ≡ searched (ordersOf (freeSection n turn (now (first .entry)) (now (second .entry)) (now (delay .entry)))) (2 * n) 0 noIncumbent ⌝ }
+    requires { ⌜ BlockTimes n turn (now first) (now second) (now shortest) (now longest) ⌝ }
+    ensures { λ r. ⌜ r ≡ searched (ordersOf (freeSection n turn (now (first .entry)) (now (second .entry)) (now (shortest .entry)) (now (longest .entry)))) (2 * n) 0 noIncumbent ⌝ }
 {
     let mut rows = [0; flight_order::MOST_NUMBERS];
     let mut starts = [0; flight_order::MOST_PASSES];
-    search_all(n, turn, first, second, delay, &mut rows, &mut starts)
+    search_all(
+        n,
+        turn,
+        first,
+        second,
+        shortest,
+        longest,
+        &mut rows,
+        &mut starts,
+    )
 }

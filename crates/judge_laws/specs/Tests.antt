@@ -98,11 +98,18 @@ module _ (f : FlightSection) (i : ℕ) (p : Passes) where
   true-block e =
       let q = both _ _ e in
       let r = both _ _ (q .1) in
-      record { known = ltb-true _ _ (q .0); delay-kept = record { exact = eqb-true _ _ (r .0) }; within = leb-true _ _ (r .1) }
+      let t = both _ _ (r .1) in
+      record {
+        known = ltb-true _ _ (q .0);
+        delay-kept = record { at-least = leb-true _ _ (r .0); at-most = leb-true _ _ (t .0) };
+        within = leb-true _ _ (t .1);
+      }
 
   pub block-true : BlockFollows f i p → blockFollows f i p ≡ true
   unfolding blockFollows blockInTime
-  block-true b = all-of _ _ (lt-ltb _ _ (b .known)) (all-of _ _ (eq-eqb _ _ (b .delay-kept .exact)) (le-leb _ _ (b .within)))
+  block-true b =
+      all-of _ _ (lt-ltb _ _ (b .known))
+      (all-of _ _ (le-leb _ _ (b .delay-kept .at-least)) (all-of _ _ (le-leb _ _ (b .delay-kept .at-most)) (le-leb _ _ (b .within))))
 
 -- the desks, one by one
 done-each : (counts done : List ℕ) (n : ℕ) → allDone counts done n ≡ true → (d : ℕ) → d < n → getD done d 0 ≡ getD counts d 0

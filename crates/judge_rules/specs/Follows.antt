@@ -44,12 +44,15 @@ jobFollows s d j =
     jobInTurn (s .desks) (stripsOf s (j .desk)) (getD (d .done) (j .desk - 1) 0) (j .desk) (j .number)
     && jobInTime (d .scanner) (getD (d .free) (j .desk - 1) 0) (j .scan) (scanEnd s j) (j .start) (deskFinish s j)
 
--- "in flight only the exact delay", ranges and a member too many: the second start due, and its end
-unfoldable pub blockInTime : ℕ → ℕ → ℕ → Bool
-blockInTime due second end = eqb second due && leb end ceiling
+-- "in flight only the exact delay", ranges and a member too many: the earliest and the latest second start due (02, Req 07: "any delay in the window and no
+-- other"), and its end
+unfoldable pub blockInTime : ℕ → ℕ → ℕ → ℕ → Bool
+blockInTime earliest latest second end = leb earliest second && (leb second latest && leb end ceiling)
 
 unfoldable pub blockFollows : FlightSection → ℕ → Passes → Bool
-blockFollows f i p = ltb i (f .blocks) && blockInTime (secondDue f i p) (p .second) (p .second + getD (f .second) i 0)
+blockFollows f i p =
+    ltb i (f .blocks)
+    && blockInTime (secondDue f i p (getD (f .shortest) i 0)) (secondDue f i p (getD (f .longest) i 0)) (p .second) (p .second + getD (f .second) i 0)
 
 -- "At the head: members missing, order number improper or not the one given, passes not in its order or overlapping." 02, Req 06: "a turn too short is 13 at
 -- the head".

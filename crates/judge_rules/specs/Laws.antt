@@ -162,7 +162,10 @@ module _ (f : FlightSection) (i : ℕ) (p : Passes) where
   block-past h = rw (le-ltb _ _ h)
 
   pub block-due : (r : Bool) → i < f .blocks
-      → r ≡ blockInTime (p .first + getD (f .first) i 0 + getD (f .delay) i 0) (p .second) (p .second + getD (f .second) i 0) → r ≡ blockFollows f i p
+      → r
+      ≡ blockInTime (p .first + getD (f .first) i 0 + getD (f .shortest) i 0) (p .first + getD (f .first) i 0 + getD (f .longest) i 0) (p .second)
+      (p .second + getD (f .second) i 0)
+      → r ≡ blockFollows f i p
   unfolding blockFollows secondDue
   block-due r h e = rw (lt-ltb _ _ h) e
 
@@ -170,8 +173,11 @@ module _ (f : FlightSection) (i : ℕ) (p : Passes) where
     pub flown-fits : p .first + getD (f .first) i 0 < 2 ^ 64
     flown-fits = omega (arith, a .fits .first, a .sound .most-first i)
 
-    pub second-fits : p .first + getD (f .first) i 0 + getD (f .delay) i 0 < 2 ^ 64
-    second-fits = omega (arith, a .fits .first, a .sound .most-first i, a .sound .most-delay i)
+    pub earliest-fits : p .first + getD (f .first) i 0 + getD (f .shortest) i 0 < 2 ^ 64
+    earliest-fits = omega (arith, a .fits .first, a .sound .most-first i, a .sound .window i, a .sound .most-delay i)
+
+    pub latest-fits : p .first + getD (f .first) i 0 + getD (f .longest) i 0 < 2 ^ 64
+    latest-fits = omega (arith, a .fits .first, a .sound .most-first i, a .sound .most-delay i)
 
     pub end-fits : p .second + getD (f .second) i 0 < 2 ^ 64
     end-fits = omega (arith, a .fits .second, a .sound .most-second i)

@@ -153,13 +153,19 @@ pub fn all_done(counts: [usize; 3], done: [u64; 3], desks: usize) -> bool
     true
 }
 
-fn block_in_time(due: u64, second: u64, end: u64) -> bool
-    ensures { λ r. ⌜ r ≡ blockInTime due second end ⌝ }
+fn block_in_time(earliest: u64, latest: u64, second: u64, end: u64) -> bool
+    ensures { λ r. ⌜ r ≡ blockInTime earliest latest second end ⌝ }
 {
-    second == due && end <= CEILING
+    if second < earliest {
+        return false;
+    }
+    if latest < second {
+        return false;
+    }
+    end <= CEILING
 }
 
-// Whether the passes of block i keep its exact delay.
+// Whether the delay between the passes of block i lies in its window.
 pub fn block_follows(f: FlightSection, i: usize, p: Passes) -> bool
     requires { ⌜ BlockFollowsPre f p ⌝ }
     ensures { λ r. ⌜ r ≡ blockFollows f i p ⌝ }
@@ -168,9 +174,12 @@ pub fn block_follows(f: FlightSection, i: usize, p: Passes) -> bool
         return false;
     }
     let first = f.first;
-    let delay = f.delay;
+    let shortest = f.shortest;
+    let longest = f.longest;
     let second = f.second;
-    let due = p.first + first[i] + delay[i];
+    let flown = p.first + first[i];
+    let earliest = flown + shortest[i];
+    let latest = flown + longest[i];
     let end = p.second + second[i];
-    block_in_time(due, p.second, end)
+    block_in_time(earliest, latest, p.second, end)
 }

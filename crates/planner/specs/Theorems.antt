@@ -83,7 +83,7 @@ module _ (sheet : List ℕ) (sound : readSheet sheet .number ≡ 0) where
       called-impossible (Impossible.no-order-given o none) =
           flight-impossible f (whole .flight) .1 (λ w ps law keeps allowed. none w (allowed .proper) ps law keeps)
 
-  -- .. and where no order is given, exactly where some block's delay is shorter than the turn (02, Req 06) ..
+  -- .. and where no order is given, exactly where some block's longest delay is shorter than the turn (02, Req 06) ..
   pub free-impossible-exactly : readSheet sheet .flight .ordered ≡ false
       → (Impossible (readSheet sheet) → ShortDelay (readSheet sheet .flight)) × (ShortDelay (readSheet sheet .flight) → Impossible (readSheet sheet))
   free-impossible-exactly free = (

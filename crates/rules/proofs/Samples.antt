@@ -125,18 +125,23 @@ twoDesks scan desk scan₂ desk₂ = record {
 abbrev strip : ℕ → ℕ → ℕ → Job
 strip desk scan start = record { desk = desk; number = 1; scan = scan; start = start }
 
--- blocks: the turn between passes, and their first passes, delays and second passes
-abbrev blocksOf : ℕ → Bool → ℕ → List ℕ → List ℕ → List ℕ → FlightSection
-blocksOf turn ordered order first delay second = record {
+-- blocks: the turn between passes, and their first passes, shortest delays, longest delays and second passes
+abbrev windowsOf : ℕ → Bool → ℕ → List ℕ → List ℕ → List ℕ → List ℕ → FlightSection
+windowsOf turn ordered order first shortest longest second = record {
   blocks = length first;
   turn = turn;
   first = first ++ replicate (32 - length first) 0;
-  delay = delay ++ replicate (32 - length delay) 0;
+  shortest = shortest ++ replicate (32 - length shortest) 0;
+  longest = longest ++ replicate (32 - length longest) 0;
   second = second ++ replicate (32 - length second) 0;
   ordered = ordered;
   order = order;
   place = 0;
 }
+
+-- the same with exact delays
+abbrev blocksOf : ℕ → Bool → ℕ → List ℕ → List ℕ → List ℕ → FlightSection
+blocksOf turn ordered order first delay second = windowsOf turn ordered order first delay delay second
 
 abbrev starts : ℕ → ℕ → Passes
 starts first second = record { first = first; second = second }
@@ -196,6 +201,14 @@ samples =
     -- the first passes alone too close, and the second passes alone
     ∷ row (ofFlight (blocksOf 2 false 0 (1 ∷ 1 ∷ []) (6 ∷ 7 ∷ []) (1 ∷ 1 ∷ [])) 0xC (starts 0 7 ∷ starts 2 10 ∷ [])) refused
     ∷ row (ofFlight (blocksOf 2 false 0 (1 ∷ 1 ∷ []) (6 ∷ 5 ∷ []) (1 ∷ 1 ∷ [])) 0xC (starts 0 7 ∷ starts 3 9 ∷ [])) refused
+    -- a window of 4 to 6: both ends, a second between them, and one beyond each end
+    ∷ row (ofFlight (windowsOf 0 false 0 (3 ∷ []) (4 ∷ []) (6 ∷ []) (1 ∷ [])) 2 (starts 0 7 ∷ [])) (lawful 8)
+    ∷ row (ofFlight (windowsOf 0 false 0 (3 ∷ []) (4 ∷ []) (6 ∷ []) (1 ∷ [])) 2 (starts 0 8 ∷ [])) (lawful 9)
+    ∷ row (ofFlight (windowsOf 0 false 0 (3 ∷ []) (4 ∷ []) (6 ∷ []) (1 ∷ [])) 2 (starts 0 9 ∷ [])) (lawful 10)
+    ∷ row (ofFlight (windowsOf 0 false 0 (3 ∷ []) (4 ∷ []) (6 ∷ []) (1 ∷ [])) 2 (starts 0 6 ∷ [])) refused
+    ∷ row (ofFlight (windowsOf 0 false 0 (3 ∷ []) (4 ∷ []) (6 ∷ []) (1 ∷ [])) 2 (starts 0 10 ∷ [])) refused
+    -- a window and an exact delay, with passes between each other
+    ∷ row (ofFlight (windowsOf 0 true 0xC (1 ∷ 1 ∷ []) (0 ∷ 5 ∷ []) (3 ∷ 5 ∷ []) (1 ∷ 1 ∷ [])) 0xC (starts 0 2 ∷ starts 1 7 ∷ [])) (lawful 8)
     -- a last pass that ends at the ceiling: no turn is due behind it
     ∷ row (ofFlight (blocksOf 600 false 0 (3 ∷ []) (600 ∷ []) (1 ∷ [])) 2 (starts 9_999_396 9_999_999 ∷ [])) (lawful 10_000_000)
     ∷ []

@@ -7,7 +7,7 @@ use mathlib.Core.List.{List}
 use mathlib.Core.Logic.{_⊎_, inl, inr, ⊎-elim}
 use native.Mathlib.Decide.{ℕ-discrete}
 use native.Mathlib.Omega.{arith}
-use lib.ListN.{length}
+use lib.ListN.{length, getD}
 use lib.Dec.{ltb, leb, eqb}
 use borrow.Author.Tests.{lt-ltb, le-leb, eq-eqb, ltb-true, leb-true, eqb-true}
 use Rattle.base.specs.Branch.{both}
@@ -19,7 +19,7 @@ use Rattle.sheet.specs.declared.SortingSection.{SortingSection}
 use Rattle.sheet.specs.declared.FlightSection.{FlightSection}
 use Rattle.rules.specs.Mosaic.{ready, batchAt, batchBefore, finishDue, BatchUnder, MosaicUnder}
 use Rattle.rules.specs.Sorting.{stripsOf, scanEnd, deskFinish, jobAt, jobsOf, JobUnder, SortingUnder}
-use Rattle.rules.specs.Flight.{passesAt, passStart, passEnd, secondDue, clearAt, Clear, FlightUnder, Keeps, OrderAllowed}
+use Rattle.rules.specs.Flight.{passesAt, passStart, passEnd, secondDue, DelayKept, clearAt, Clear, FlightUnder, Keeps, OrderAllowed}
 use Rattle.rules.specs.declared.Batch.{Batch}
 use Rattle.rules.specs.declared.Job.{Job}
 use Rattle.rules.specs.declared.Passes.{Passes}
@@ -214,7 +214,9 @@ module _ (s : SortingSection) (js : List Job) where
 
 -- The flight, with its order.
 unfoldable pub blockTest : FlightSection → List Passes → ℕ → Bool
-blockTest f ps i = eqb (passesAt ps i .second) (secondDue f i (passesAt ps i))
+blockTest f ps i =
+    leb (secondDue f i (passesAt ps i) (getD (f .shortest) i 0)) (passesAt ps i .second)
+    && leb (passesAt ps i .second) (secondDue f i (passesAt ps i) (getD (f .longest) i 0))
 
 -- pass q comes after pass p, clear of it
 unfoldable pub clearTest : FlightSection → List Passes → ℕ → ℕ → Bool
@@ -258,6 +260,14 @@ module _ (f : FlightSection) (ps : List Passes) where
           right (eqb p q) _
           (⊎-elim (λ a. left (clearTest f ps p q) _ (le-leb _ _ a)) (λ b. right (clearTest f ps p q) _ (le-leb _ _ b)) (h n))
 
+  delay-true : (i : ℕ) → blockTest f ps i ≡ true → DelayKept f i (passesAt ps i)
+  unfolding blockTest
+  delay-true i e = let p = both _ _ e in record { at-least = leb-true _ _ (p .0); at-most = leb-true _ _ (p .1) }
+
+  true-delay : (i : ℕ) → DelayKept f i (passesAt ps i) → blockTest f ps i ≡ true
+  unfolding blockTest
+  true-delay i k = join _ _ (le-leb _ _ (k .at-least)) (le-leb _ _ (k .at-most))
+
   module _ (c : ℕ) where
     flight-true : isFlight c f ps ≡ true → FlightUnder c f ps
     unfolding isFlight blockTest
@@ -267,7 +277,7 @@ module _ (f : FlightSection) (ps : List Passes) where
         let d = both _ _ (b .1) in
         record {
           every-block = eqb-true _ _ (a .0);
-          delay-kept = λ i l. record { exact = eqb-true _ _ (all-true (f .blocks) (blockTest f ps) (b .0) i l) };
+          delay-kept = λ i l. delay-true i (all-true (f .blocks) (blockTest f ps) (b .0) i l);
           apart =
               λ p q lp lq ne. apart-true p q (all-true (2 * f .blocks) (apartTest f ps p) (all-true (2 * f .blocks) (λ p. allBelow (2 * f .blocks) (apartTest f ps p)) (d .0) p lp) q lq) ne;
           within = λ p l. leb-true _ _ (all-true (2 * f .blocks) (λ p. leb (passEnd f ps p) c) (d .1) p l);
@@ -277,7 +287,7 @@ module _ (f : FlightSection) (ps : List Passes) where
     unfolding isFlight blockTest
     true-flight L =
         join _ _ (eq-eqb _ _ (L .every-block))
-        (join _ _ (true-all (f .blocks) (blockTest f ps) (λ i l. eq-eqb _ _ (L .delay-kept i l .exact)))
+        (join _ _ (true-all (f .blocks) (blockTest f ps) (λ i l. true-delay i (L .delay-kept i l)))
         (join _ _
         (true-all (2 * f .blocks) (λ p. allBelow (2 * f .blocks) (apartTest f ps p)) (λ p lp.
         true-all (2 * f .blocks) (apartTest f ps p) (λ q lq. true-apart p q (λ ne. L .apart p q lp lq ne))))

@@ -1,5 +1,5 @@
--- The rules of the flight (01, "The three sets of rules", and "The sheet" for the order number; 02, Req 06, for the turn). In the literature: coupled tasks with
--- exact delays on one machine; a turn is a minimum time lag between passes.
+-- The rules of the flight (01, "The three sets of rules", and "The sheet" for the order number; 02, Req 06, for the turn, and Req 07 for the window). In the
+-- literature: coupled tasks on one machine with minimum and maximum time lags, exact delays among them; a turn is a minimum time lag between passes.
 use Prim.Native.Nat.{ℕ, _+_, _-_, _*_, _≤_, _<_}
 use mathlib.Core.Path.{_≡_}
 use mathlib.Core.Bool.{true, cond}
@@ -31,12 +31,14 @@ passTime f p = timeOf (f .blocks) (f .first) (f .second) p
 unfoldable pub passEnd : FlightSection → List Passes → ℕ → ℕ
 passEnd f ps p = passStart f ps p + passTime f p
 
--- "A second pass starts exactly l after its first ends": when the second pass of block i is due
-unfoldable pub secondDue : FlightSection → ℕ → Passes → ℕ
-secondDue f i p = p .first + getD (f .first) i 0 + getD (f .delay) i 0
+-- "A second pass starts exactly l after its first ends": when the second pass of block i starts with a delay l
+unfoldable pub secondDue : FlightSection → ℕ → Passes → ℕ → ℕ
+secondDue f i p l = p .first + getD (f .first) i 0 + l
 
+-- 02, Req 07: "any interval between two bounds". The delay lies in the window of block i, both ends included; an exact delay is a window of one value.
 pub record DelayKept (f : FlightSection) (i : ℕ) (p : Passes) : Type 0 where
-  pub exact : p .second ≡ secondDue f i p
+  pub at-least : secondDue f i p (getD (f .shortest) i 0) ≤ p .second
+  pub at-most : p .second ≤ secondDue f i p (getD (f .longest) i 0)
 
 -- "No two passes overlap"; 02, Req 06: "Each pass starts at least g after the pass before it ends, whichever blocks they belong to": from when on another pass
 -- may start after pass p. With g of 0 "one may start the second another ends".

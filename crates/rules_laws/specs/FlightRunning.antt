@@ -46,7 +46,7 @@ module _ (f : FlightSection) where
 -- a first pass ends no later than its second starts
 pub first-ended : (f : FlightSection) (i : ℕ) (p : Passes) → DelayKept f i p → p .first + getD (f .first) i 0 ≤ p .second
 unfolding secondDue
-first-ended f i p k = let e = k .exact in omega arith
+first-ended f i p k = omega (arith, k .at-least)
 
 module _ (f : FlightSection) (ps : List Passes) where
   pub start-first : (i : ℕ) → i < f .blocks → passStart f ps i ≡ passesAt ps i .first

@@ -12,7 +12,7 @@ use Rattle.sheet.specs.Rows.{firstFailure}
 use Rattle.sheet.specs.Checks.{endsSection, sectionFilled, fewBlocks, orderGiven, orderPermitted, permitted}
 use Rattle.sheet.specs.Checks.{countNumber, timeNumber, valueNumber, valueNumbers, rangeNumber, hasRoom, orderProper}
 use Rattle.sheet.specs.Decode.{zeros, noMosaic, noSorting, noFlight, withMosaicHead, withStationTimes, withMosaicStrip, withSortingHead, withStripAt}
-use Rattle.sheet.specs.Decode.{withSortingStrip, turnOf, withFlightHead, withBlock, withOrder, nextMosaic, nextSorting, nextFlight, nextSection, nextMembers, nextHead}
+use Rattle.sheet.specs.Decode.{withSortingStrip, turnOf, withFlightHead, exactBlock, withBlock, withOrder, nextMosaic, nextSorting, nextFlight, nextSection, nextMembers, nextHead}
 use Rattle.sheet.specs.Decode.{nextReading, startReading}
 use Rattle.sheet.specs.Read.{readSheet, contentChecks, fieldChecks, fieldNumber, endChecks, endNumber, placeOf, refused, accepted, atEnd, readFrom}
 use Rattle.sheet.specs.Sound.{stripsInAll}
@@ -25,7 +25,7 @@ unfolding
     endsSection sectionFilled fewBlocks orderGiven orderPermitted permitted firstFailure countNumber timeNumber valueNumber valueNumbers rangeNumber
     hasRoom stripsOfDesk orderProper
     zeros noMosaic noSorting noFlight withMosaicHead withStationTimes withMosaicStrip withSortingHead withStripAt withSortingStrip
-    turnOf withFlightHead withBlock withOrder
+    turnOf withFlightHead exactBlock withBlock withOrder
     nextMosaic nextSorting nextFlight nextSection nextMembers nextHead nextReading startReading
     contentChecks fieldChecks fieldNumber endChecks endNumber placeOf refused accepted atEnd readFrom readSheet stripsInAll
 sheetComputes = tt

@@ -10,6 +10,7 @@ use Rattle.sheet.specs.Sections.{noSection, inMosaic, inSorting, inFligh
 use Rattle.sheet.specs.Checks.{endsSection}
 use Rattle.sheet.specs.declared.MosaicSection.{MosaicSection}
 use Rattle.sheet.specs.declared.SortingSection.{SortingSection}
+use Rattle.sheet.specs.declared.Block.{Block}
 use Rattle.sheet.specs.declared.FlightSection.{FlightSection}
 use Rattle.sheet.specs.declared.Reading.{Reading}
 
@@ -23,8 +24,23 @@ noMosaic = record { stations = 0; mount = 0; strips = 0; station = zeros 160; be
 unfoldable pub noSorting : SortingSection
 noSorting = record { desks = 0; counts = zeros 3; scan = zeros 18; desk = zeros 18 }
 
+-- a flight without a block
+abbrev pub begunFlight : ℕ → ℕ → FlightSection
+begunFlight turn place =
+    record {
+      blocks = 0;
+      turn = turn;
+      first = zeros 32;
+      shortest = zeros 32;
+      longest = zeros 32;
+      second = zeros 32;
+      ordered = false;
+      order = 0;
+      place = place;
+    }
+
 unfoldable pub noFlight : FlightSection
-noFlight = record { blocks = 0; turn = 0; first = zeros 32; delay = zeros 32; second = zeros 32; ordered = false; order = 0; place = 0 }
+noFlight = begunFlight 0 0
 
 -- a mosaic of a head alone, and with one strip more
 unfoldable pub withMosaicHead : List ℕ → ℕ → MosaicSection
@@ -68,17 +84,21 @@ turnOf s c len = cond (eqb len 0) 0 (numberAt s c 2)
 -- a flight of a head alone, with one block more, and with its order. The head stands at an offset, and so does the order field: 11 is given at the order
 -- field or, where there is none, at the head.
 unfoldable pub withFlightHead : List ℕ → ℕ → ℕ → ℕ → FlightSection
-withFlightHead s c len at =
-    record { blocks = 0; turn = turnOf s c len; first = zeros 32; delay = zeros 32; second = zeros 32; ordered = false; order = 0; place = at }
+withFlightHead s c len at = begunFlight (turnOf s c len) at
 
-unfoldable pub withBlock : List ℕ → ℕ → FlightSection → FlightSection
-withBlock s c f =
+-- 31, "first pass a, delay l, second pass b": the exact delay is a window of one value
+unfoldable pub exactBlock : List ℕ → ℕ → Block
+exactBlock s c = record { first = numberAt s c 2; shortest = numberAt s (c + 2) 2; longest = numberAt s (c + 2) 2; second = numberAt s (c + 4) 2 }
+
+unfoldable pub withBlock : Block → FlightSection → FlightSection
+withBlock b f =
     record {
       blocks = f .blocks + 1;
       turn = f .turn;
-      first = set (f .first) (f .blocks) (numberAt s c 2);
-      delay = set (f .delay) (f .blocks) (numberAt s (c + 2) 2);
-      second = set (f .second) (f .blocks) (numberAt s (c + 4) 2);
+      first = set (f .first) (f .blocks) (b .first);
+      shortest = set (f .shortest) (f .blocks) (b .shortest);
+      longest = set (f .longest) (f .blocks) (b .longest);
+      second = set (f .second) (f .blocks) (b .second);
       ordered = f .ordered;
       order = f .order;
       place = f .place;
@@ -86,7 +106,17 @@ withBlock s c f =
 
 unfoldable pub withOrder : List ℕ → ℕ → ℕ → FlightSection → FlightSection
 withOrder s c at f =
-    record { blocks = f .blocks; turn = f .turn; first = f .first; delay = f .delay; second = f .second; ordered = true; order = numberAt s c 8; place = at }
+    record {
+      blocks = f .blocks;
+      turn = f .turn;
+      first = f .first;
+      shortest = f .shortest;
+      longest = f .longest;
+      second = f .second;
+      ordered = true;
+      order = numberAt s c 8;
+      place = at;
+    }
 
 -- each section after a field; it begins anew with its head
 unfoldable pub nextMosaic : List ℕ → ℕ → ℕ → MosaicSection → MosaicSection
@@ -98,7 +128,7 @@ nextSorting s c tag t = cond (eqb tag sortingHeadTag) (withSortingHead s c) (con
 unfoldable pub nextFlight : List ℕ → ℕ → ℕ → ℕ → ℕ → FlightSection → FlightSection
 nextFlight s c tag len at f =
     cond (eqb tag flightHeadTag) (withFlightHead s c len at)
-    (cond (eqb tag flightBlockTag) (withBlock s c f)
+    (cond (eqb tag flightBlockTag) (withBlock (exactBlock s c) f)
     (cond (eqb tag flightOrderTag) (withOrder s c at f)
     f))
 

@@ -18,7 +18,7 @@ use Rattle.sheet.specs.Sound.{MosaicSound, SortingSound, FlightWithin, s
 use Rattle.sheet.specs.Stores.{zeros-at}
 use Rattle.sheet.specs.Passed.{Passed, within-by}
 use Rattle.sheet.specs.SectionLaws.{no-mosaic-sound, no-sorting-sound, no-flight-sound, mosaic-head-sound, mosaic-strip-sound, sorting-head-sound}
-use Rattle.sheet.specs.SectionLaws.{sorting-strip-sound, sorting-strip-more, flight-head-sound, block-sound, order-sound}
+use Rattle.sheet.specs.SectionLaws.{sorting-strip-sound, sorting-strip-more, flight-head-sound, exact-block-sound, block-sound, order-sound}
 use Rattle.sheet.specs.declared.Reading.{Reading}
 
 pub record Kept (s : List ℕ) (st : Reading) : Type 0 where
@@ -173,7 +173,9 @@ module _ (s : List ℕ) (st : Reading) (len : ℕ) (k : Kept s st) (w : st .at +
         known = omega arith;
         mosaic = k .mosaic;
         sorting = k .sorting;
-        flight = block-sound s (st .at + 3) (st .flight) (k .flight) (b .1) (omega (arith, b .0)) (within-by p (flight-block-values s (st .at + 3) len _ _));
+        flight =
+            block-sound _ (st .flight) (k .flight) (b .1) (omega (arith, b .0))
+            (exact-block-sound s (st .at + 3) (within-by p (flight-block-values s (st .at + 3) len _ _)));
         in-none = λ q. absurd (omega arith);
         in-mosaic = λ q. absurd (omega arith);
         in-sorting = λ q. absurd (omega arith);

@@ -25,7 +25,7 @@ use Rattle.sheet.specs.Contents.{flight-order-content, head-length, sole
 use Rattle.sheet.specs.Rows.{firstFailure}
 use Rattle.sheet.specs.Checks.{sectionFilled, orderGiven, permitted, rangeNumber, hasRoom, orderProper}
 use Rattle.sheet.specs.Decode.{withMosaicHead, withStationTimes, withMosaicStrip, withSortingHead, withStripAt, withSortingStrip, turnOf, withFlightHead}
-use Rattle.sheet.specs.Decode.{withBlock, withOrder, nextMosaic, nextSorting, nextFlight, nextSection, nextMembers, nextReading}
+use Rattle.sheet.specs.Decode.{exactBlock, withBlock, withOrder, nextMosaic, nextSorting, nextFlight, nextSection, nextMembers, nextReading}
 use Rattle.sheet.specs.Read.{contentChecks, fieldChecks, fieldNumber}
 use Rattle.sheet.specs.declared.MosaicSection.{MosaicSection}
 use Rattle.sheet.specs.declared.SortingSection.{SortingSection}
@@ -35,7 +35,17 @@ use Rattle.sheet.specs.declared.Reading.{Reading}
 -- a flight section with another place for 11
 abbrev pub withPlace : ℕ → FlightSection → FlightSection
 withPlace place f =
-    record { blocks = f .blocks; turn = f .turn; first = f .first; delay = f .delay; second = f .second; ordered = f .ordered; order = f .order; place = place }
+    record {
+      blocks = f .blocks;
+      turn = f .turn;
+      first = f .first;
+      shortest = f .shortest;
+      longest = f .longest;
+      second = f .second;
+      ordered = f .ordered;
+      order = f .order;
+      place = place;
+    }
 
 -- the place for 11 after a field: a head and an order field set it
 unfoldable pub placeAfter : ℕ → ℕ → ℕ → ℕ
@@ -206,8 +216,9 @@ module _ {s : List ℕ} {c : ℕ} {t : List ℕ} {d len : ℕ} (b : SameBytes s 
     unfolding flightBlock lengthOf
     block-length e = sole-length flightBlockTag len _ flightBlock (flight-block-content stations desks) (due-at flightBlockTag e)
 
-    same-block : (f : FlightSection) (place : ℕ) → tag ≡ flightBlockTag → withBlock t d (withPlace place f) ≡ withPlace place (withBlock s c f)
-    unfolding withBlock
+    same-block : (f : FlightSection) (place : ℕ) → tag ≡ flightBlockTag
+        → withBlock (exactBlock t d) (withPlace place f) ≡ withPlace place (withBlock (exactBlock s c) f)
+    unfolding withBlock exactBlock
     same-block f place e =
         let l : len ≡ 6 = block-length e in
         rw (first-number 2 (omega arith), same-number 2 2 (omega arith), same-number 2 4 (omega arith))

@@ -17,12 +17,13 @@ use Rattle.sheet.specs.FieldTable.Range.{time}
 use Rattle.sheet.specs.FieldTable.Value.{value}
 use Rattle.sheet.specs.Contents.{stripFrom, strip-from-start, strip-bench-left, strip-time-left}
 use Rattle.sheet.specs.Decode.{zeros, noMosaic, noSorting, noFlight, withMosaicHead, withStationTimes, withMosaicStrip, withSortingHead, withStripAt}
-use Rattle.sheet.specs.Decode.{withSortingStrip, turnOf, withFlightHead, withBlock, withOrder}
+use Rattle.sheet.specs.Decode.{withSortingStrip, begunFlight, turnOf, withFlightHead, exactBlock, withBlock, withOrder}
 use Rattle.sheet.specs.Sound.{MosaicSound, SortingSound, FlightWithin, stripsInAll}
-use Rattle.sheet.specs.Stores.{length-zeros, zeros-at, set-here, set-there, set-most, set-least}
+use Rattle.sheet.specs.Stores.{length-zeros, zeros-at, set-here, set-there, set-most, set-least, set-ordered}
 use Rattle.sheet.specs.Passed.{first-within, others-within}
 use Rattle.sheet.specs.declared.MosaicSection.{MosaicSection}
 use Rattle.sheet.specs.declared.SortingSection.{SortingSection}
+use Rattle.sheet.specs.declared.Block.{Block}
 use Rattle.sheet.specs.declared.FlightSection.{FlightSection}
 
 zero-most : (n i most : ℕ) → getD (zeros n) i 0 ≤ most
@@ -210,21 +211,21 @@ sorting-strip-more s c t h r =
 
 -- the flight
 
-flight-begun : (turn place : ℕ) → turn ≤ mostTurn
-    → FlightWithin mostBlocks
-    (record { blocks = 0; turn = turn; first = zeros 32; delay = zeros 32; second = zeros 32; ordered = false; order = 0; place = place })
+flight-begun : (turn place : ℕ) → turn ≤ mostTurn → FlightWithin mostBlocks (begunFlight turn place)
 flight-begun turn place h =
     record {
       most-blocks = omega arith;
       most-turn = h;
       first-length = length-zeros 32;
-      delay-length = length-zeros 32;
+      shortest-length = length-zeros 32;
+      longest-length = length-zeros 32;
       second-length = length-zeros 32;
       most-first = λ i. zero-most 32 i mostTime;
       most-delay = λ i. zero-most 32 i mostTime;
       most-second = λ i. zero-most 32 i mostTime;
       least-first = λ i h. absurd (omega arith);
       least-second = λ i h. absurd (omega arith);
+      window = λ i. zero-most 32 i _;
       given = λ e. absurd (true≢false (sym e));
       free = λ e. omega arith;
     }
@@ -247,26 +248,45 @@ pub flight-head-sound : (s : List ℕ) (c len at : ℕ) → InRange (cond (eqb l
 unfolding withFlightHead
 flight-head-sound s c len at r = flight-begun (turnOf s c len) _ (turn-within s c len r)
 
-pub block-sound : (s : List ℕ) (c : ℕ) (f : FlightSection) → FlightWithin mostBlocks f → f .ordered ≡ false → f .blocks < mostBlocks
-    → InRange (valuesOf flightBlock (numberAt s c 2 ∷ numberAt s (c + 2) 2 ∷ numberAt s (c + 4) 2 ∷ [])) → FlightWithin mostBlocks (withBlock s c f)
-unfolding flightBlock valuesOf withBlock Within
-block-sound s c f h plain room r =
-    let a = first-within _ _ r in
-    let l = first-within _ _ (others-within _ _ r) in
-    let b = first-within _ _ (others-within _ _ (others-within _ _ r)) in
+-- a block whose times are within their ranges, with a window that is not empty
+pub record BlockSound (b : Block) : Type 0 where
+  pub first : Between 1 (b .first) mostTime
+  pub most-delay : b .longest ≤ mostTime
+  pub window : b .shortest ≤ b .longest
+  pub second : Between 1 (b .second) mostTime
+
+pub exact-block-sound : (s : List ℕ) (c : ℕ) → InRange (valuesOf flightBlock (numberAt s c 2 ∷ numberAt s (c + 2) 2 ∷ numberAt s (c + 4) 2 ∷ []))
+    → BlockSound (exactBlock s c)
+unfolding flightBlock valuesOf exactBlock Within
+exact-block-sound s c r =
+    let l = others-within _ _ r in
+    record {
+      first = first-within _ _ r;
+      most-delay = first-within _ _ l .at-most;
+      window = omega arith;
+      second = first-within _ _ (others-within _ _ l);
+    }
+
+pub block-sound : (b : Block) (f : FlightSection) → FlightWithin mostBlocks f → f .ordered ≡ false → f .blocks < mostBlocks → BlockSound b
+    → FlightWithin mostBlocks (withBlock b f)
+unfolding withBlock
+block-sound b f h plain room r =
     let la = h .first-length in
     let lb = h .second-length in
+    let ll = h .longest-length in
     record {
       most-blocks = omega arith;
       most-turn = h .most-turn;
       first-length = simp length-set (h .first-length);
-      delay-length = simp length-set (h .delay-length);
+      shortest-length = simp length-set (h .shortest-length);
+      longest-length = simp length-set (h .longest-length);
       second-length = simp length-set (h .second-length);
-      most-first = set-most (f .first) mostTime (f .blocks) _ (h .most-first) (a .at-most);
-      most-delay = set-most (f .delay) mostTime (f .blocks) _ (h .most-delay) (l .at-most);
-      most-second = set-most (f .second) mostTime (f .blocks) _ (h .most-second) (b .at-most);
-      least-first = set-least (f .first) (f .blocks) _ (h .least-first) (a .at-least) (omega arith);
-      least-second = set-least (f .second) (f .blocks) _ (h .least-second) (b .at-least) (omega arith);
+      most-first = set-most (f .first) mostTime (f .blocks) _ (h .most-first) (r .first .at-most);
+      most-delay = set-most (f .longest) mostTime (f .blocks) _ (h .most-delay) (r .most-delay);
+      most-second = set-most (f .second) mostTime (f .blocks) _ (h .most-second) (r .second .at-most);
+      least-first = set-least (f .first) (f .blocks) _ (h .least-first) (r .first .at-least) (omega arith);
+      least-second = set-least (f .second) (f .blocks) _ (h .least-second) (r .second .at-least) (omega arith);
+      window = set-ordered (f .shortest) (f .longest) (f .blocks) _ _ (h .window) (r .window) (omega arith);
       given = λ e. absurd (true≢false (sym e ∙ plain));
       free = λ e. omega arith;
     }
@@ -279,13 +299,15 @@ order-sound s c at f h e =
       most-blocks = h .most-blocks;
       most-turn = h .most-turn;
       first-length = h .first-length;
-      delay-length = h .delay-length;
+      shortest-length = h .shortest-length;
+      longest-length = h .longest-length;
       second-length = h .second-length;
       most-first = h .most-first;
       most-delay = h .most-delay;
       most-second = h .most-second;
       least-first = h .least-first;
       least-second = h .least-second;
+      window = h .window;
       given = λ _. e;
       free = λ _. h .most-blocks;
     }

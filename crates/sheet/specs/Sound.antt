@@ -39,13 +39,16 @@ pub record FlightWithin (mostFree : ℕ) (f : FlightSection) : Type 0 where
   pub most-blocks : f .blocks ≤ mostBlocks
   pub most-turn : f .turn ≤ mostTurn
   pub first-length : length (f .first) ≡ 32
-  pub delay-length : length (f .delay) ≡ 32
+  pub shortest-length : length (f .shortest) ≡ 32
+  pub longest-length : length (f .longest) ≡ 32
   pub second-length : length (f .second) ≡ 32
   pub most-first : (i : ℕ) → getD (f .first) i 0 ≤ mostTime
-  pub most-delay : (i : ℕ) → getD (f .delay) i 0 ≤ mostTime
+  pub most-delay : (i : ℕ) → getD (f .longest) i 0 ≤ mostTime
   pub most-second : (i : ℕ) → getD (f .second) i 0 ≤ mostTime
   pub least-first : (i : ℕ) → i < f .blocks → 1 ≤ getD (f .first) i 0
   pub least-second : (i : ℕ) → i < f .blocks → 1 ≤ getD (f .second) i 0
+  -- 17, "longest below shortest", of no block
+  pub window : (i : ℕ) → getD (f .shortest) i 0 ≤ getD (f .longest) i 0
   pub given : f .ordered ≡ true → Proper (f .blocks) (f .order)
   pub free : f .ordered ≡ false → f .blocks ≤ mostFree
 

@@ -44,3 +44,13 @@ module _ (l : List ℕ) (n v : ℕ) (all : (j : ℕ) → j < n → 1 ≤ getD l 
   -- the first n numbers are at least 1, and so is the one stored behind them
   pub set-least : (j : ℕ) → j < n + 1 → 1 ≤ getD (set l n v) j 0
   set-least j h = set-least-at j h (ℕ-discrete j n)
+
+-- two lists of which no number of the one is above that of the other, and two numbers that are stored in them
+module _ (l k : List ℕ) (i v w : ℕ) (all : (j : ℕ) → getD l j 0 ≤ getD k j 0) (fits : v ≤ w) (room : i < length k) where
+  set-ordered-at : (j : ℕ) → Dec (j ≡ i) → Dec (i < length l) → getD (set l i v) j 0 ≤ getD (set k i w) j 0
+  set-ordered-at j (yes e) (yes h) = rw (set-here l i j v h e, set-here k i j w room e) fits
+  set-ordered-at j (yes e) (no h) = rw (List·getD-eq-default (set l i v) 0 {n = j} (omega (arith, length-set l i v))) (omega arith)
+  set-ordered-at j (no e) h = rw (set-there l i j v e, set-there k i j w e) (all j)
+
+  pub set-ordered : (j : ℕ) → getD (set l i v) j 0 ≤ getD (set k i w) j 0
+  set-ordered j = set-ordered-at j (ℕ-discrete j i) (decLt i (length l))

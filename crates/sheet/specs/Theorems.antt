@@ -183,13 +183,15 @@ complete-sound s st k c =
             most-blocks = f .most-blocks;
             most-turn = f .most-turn;
             first-length = f .first-length;
-            delay-length = f .delay-length;
+            shortest-length = f .shortest-length;
+            longest-length = f .longest-length;
             second-length = f .second-length;
             most-first = f .most-first;
             most-delay = f .most-delay;
             most-second = f .most-second;
             least-first = f .least-first;
             least-second = f .least-second;
+            window = f .window;
             given = f .given;
             free = flight-free s st k (c .passed);
           };

@@ -30,14 +30,13 @@ use Rattle.sheet.specs.Causes.{Permitted, fieldRows, rowsAt}
 use Rattle.sheet.specs.Checks.{endsSection, sectionFilled, orderGiven, permitted, timeNumber, valueNumber, valueNumbers, rangeNumber, hasRoom, orderProper}
 use Rattle.sheet.specs.Table.{Reached}
 use Rattle.sheet.specs.Table.Reached.{at-start, past-field}
-use Rattle.sheet.specs.Decode.{zeros, noFlight, turnOf, withFlightHead, nextMosaic, nextSorting, nextFlight, nextSection, nextMembers, nextHead, nextReading}
+use Rattle.sheet.specs.Decode.{begunFlight, noFlight, turnOf, withFlightHead, nextMosaic, nextSorting, nextFlight, nextSection, nextMembers, nextHead, nextReading}
 use Rattle.sheet.specs.Decode.{startReading}
 use Rattle.sheet.specs.Read.{contentChecks, fieldChecks, fieldNumber, endNumber, placeOf, refused, accepted, readSheet}
 use Rattle.sheet.specs.Passed.{passed-rows}
 use Rattle.sheet.specs.Decided.{field-answers, end-answers, cut-answers}
 use Rattle.sheet.specs.Theorems.{at-field, read-refused, read-accepted}
 use Rattle.sheet.specs.SameContent.{withPlace, placeAfter, SameBytes, first-number, Alike, place-after, same-field, alike-behind}
-use Rattle.sheet.specs.declared.FlightSection.{FlightSection}
 use Rattle.sheet.specs.declared.Reading.{Reading}
 use Rattle.sheet.specs.declared.Sheet.{Sheet}
 
@@ -438,7 +437,7 @@ module _ (before rest : List ℕ) where
             members = refl;
             mosaic = refl;
             sorting = refl;
-            flight = ap (λ turn. withTurn turn) (zero-turn (st .at) e);
+            flight = ap (λ turn. begunFlight turn (st .at)) (zero-turn (st .at) e);
           };
       at-two = omega arith;
       behind = omega arith;
@@ -447,10 +446,6 @@ module _ (before rest : List ℕ) where
       in-flight = omega arith;
       place = sym (stays n (st .at) (omega arith));
     }
-      where
-        withTurn : ℕ → FlightSection
-        withTurn turn =
-            record { blocks = 0; turn = turn; first = zeros 32; delay = zeros 32; second = zeros 32; ordered = false; order = 0; place = st .at }
 
     place-here : (k : ℕ) → placeOf k (st .head) (st .at) ≤ n
     unfolding placeOf

@@ -23,13 +23,22 @@ pub struct SortingSection {
     pub desk: [u64; 18],
 }
 
-// The flight section: the turn between passes; first pass, delay and second pass of each block; the order number where one is given; and the place that is
-// returned where no timetable is possible, that of the order field, or of the head where no order is given.
+// A block of the flight: its two passes, and the window in which the delay between them lies.
+pub struct Block {
+    pub first: u64,
+    pub shortest: u64,
+    pub longest: u64,
+    pub second: u64,
+}
+
+// The flight section: the turn between passes; first pass, shortest delay, longest delay and second pass of each block; the order number where one is given; and
+// the place that is returned where no timetable is possible, that of the order field, or of the head where no order is given.
 pub struct FlightSection {
     pub blocks: usize,
     pub turn: u64,
     pub first: [u64; 32],
-    pub delay: [u64; 32],
+    pub shortest: [u64; 32],
+    pub longest: [u64; 32],
     pub second: [u64; 32],
     pub ordered: bool,
     pub order: u64,

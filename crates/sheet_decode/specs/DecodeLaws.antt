@@ -9,13 +9,14 @@ use lib.ListN.{length, set, length-set}
 use borrow.Author.Tests.{ne-eqb}
 use Rattle.field.specs.Bytes.{numberAt, NumberRead}
 use Rattle.sheet.specs.Decode.{zeros, noMosaic, noSorting, noFlight, startReading, withMosaicHead, withStationTimes, withMosaicStrip, withSortingHead}
-use Rattle.sheet.specs.Decode.{withStripAt, withSortingStrip, turnOf, withFlightHead, withBlock, withOrder, nextMosaic, nextSorting, nextFlight, nextSection, nextHead, nextMembers}
+use Rattle.sheet.specs.Decode.{withStripAt, withSortingStrip, begunFlight, turnOf, withFlightHead, exactBlock, withBlock, withOrder, nextMosaic, nextSorting, nextFlight, nextSection, nextHead, nextMembers}
 use Rattle.sheet.specs.Decode.{nextReading}
 use Rattle.sheet.specs.Sections.{stripsOfDesk}
-use Rattle.sheet.specs.Tags.{sortingStripTag}
+use Rattle.sheet.specs.Tags.{sortingStripTag, flightBlockTag}
 use Rattle.sheet.specs.Read.{refused}
 use Rattle.sheet.specs.declared.MosaicSection.{MosaicSection}
 use Rattle.sheet.specs.declared.SortingSection.{SortingSection}
+use Rattle.sheet.specs.declared.Block.{Block}
 use Rattle.sheet.specs.declared.FlightSection.{FlightSection}
 use Rattle.sheet.specs.declared.Reading.{Reading}
 use Rattle.sheet.specs.declared.Sheet.{Sheet}
@@ -94,21 +95,33 @@ unfolding turnOf
 turn-read s c len turn h n = rw (ne-eqb len 0 h) (n .is)
 
 pub flight-head-is : (s : List ℕ) (c len at turn : ℕ) → turn ≡ turnOf s c len
-    → _≡_ {A = FlightSection}
-    (record { blocks = 0; turn = turn; first = zeros 32; delay = zeros 32; second = zeros 32; ordered = false; order = 0; place = at })
-    (withFlightHead s c len at)
+    → begunFlight turn at ≡ withFlightHead s c len at
 unfolding withFlightHead
 flight-head-is s c len at turn e = rw e
 
-pub block-is : (s : List ℕ) (c : ℕ) (f : FlightSection) (a l b : ℕ) → NumberRead s c 2 a → NumberRead s (c + 2) 2 l → NumberRead s (c + 4) 2 b
-    → _≡_ {A = FlightSection}
-    (record { blocks = f .blocks + 1; turn = f .turn; first = set (f .first) (f .blocks) a; delay = set (f .delay) (f .blocks) l; second = set (f .second) (f .blocks) b; ordered = f .ordered; order = f .order; place = f .place })
-    (withBlock s c f)
-unfolding withBlock
-block-is s c f a l b n₁ n₂ n₃ = rw (n₁ .is, n₂ .is, n₃ .is)
+pub exact-block-is : (s : List ℕ) (c a l b : ℕ) → NumberRead s c 2 a → NumberRead s (c + 2) 2 l → NumberRead s (c + 4) 2 b
+    → _≡_ {A = Block} (record { first = a; shortest = l; longest = l; second = b }) (exactBlock s c)
+unfolding exactBlock
+exact-block-is s c a l b n₁ n₂ n₃ = rw (n₁ .is, n₂ .is, n₃ .is)
+
+pub exact-block-next : (s : List ℕ) (c tag len at : ℕ) (f r : FlightSection) (b : Block) → tag ≡ flightBlockTag → b ≡ exactBlock s c → r ≡ withBlock b f
+    → r ≡ nextFlight s c tag len at f
+unfolding nextFlight
+exact-block-next s c tag len at f r b e eb er = rw (e, ← eb) er
 
 pub order-is : (s : List ℕ) (c at : ℕ) (f : FlightSection) (order : ℕ) → NumberRead s c 8 order
-    → _≡_ {A = FlightSection} (record { blocks = f .blocks; turn = f .turn; first = f .first; delay = f .delay; second = f .second; ordered = true; order = order; place = at })
+    → _≡_ {A = FlightSection}
+    (record {
+      blocks = f .blocks;
+      turn = f .turn;
+      first = f .first;
+      shortest = f .shortest;
+      longest = f .longest;
+      second = f .second;
+      ordered = true;
+      order = order;
+      place = at;
+    })
     (withOrder s c at f)
 unfolding withOrder
 order-is s c at f order n = rw (n .is)

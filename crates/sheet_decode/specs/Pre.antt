@@ -26,10 +26,6 @@ pub record StripAtPre (c d k : ℕ) : Type 0 where
   pub desk-fits : d < mostDesks
   pub strip-fits : k < mostStripsOfDesk
 
-pub record BlockPre (c blocks : ℕ) : Type 0 where
-  pub content : c + 8 < 2 ^ 64
-  pub block-fits : blocks < mostBlocks
-
 -- room for what a field of a tag adds
 pub record NextMosaicPre (c tag strips stations : ℕ) : Type 0 where
   pub content : c + 8 < 2 ^ 64
@@ -61,5 +57,5 @@ pub desk-pre : (s : List ℕ) (c tag : ℕ) (counts : List ℕ) (desk d k : ℕ)
 desk-pre s c tag counts desk d k r e n ed ek =
     record { content = r .content; desk-fits = omega (arith, r .desk-fits e, n .is); strip-fits = rw (ek, n .is) (r .strip-fits e) }
 
-pub block-pre : (c tag blocks : ℕ) → NextFlightPre c tag blocks → tag ≡ flightBlockTag → BlockPre c blocks
-block-pre c tag blocks r e = record { content = r .content; block-fits = r .block-fits e }
+pub block-fits : (c tag blocks : ℕ) → NextFlightPre c tag blocks → tag ≡ flightBlockTag → blocks < mostBlocks
+block-fits c tag blocks r e = r .block-fits e

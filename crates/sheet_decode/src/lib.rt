@@ -1,6 +1,7 @@
 // What a field that passes its checks adds to the sheet. A field's content begins at offset c.
 use field::byte;
 use field::number;
+use sheet::Block;
 use sheet::FlightSection;
 use sheet::MosaicSection;
 use sheet::Reading;
@@ -24,12 +25,13 @@ use sheet_checks::ends_section;
 ghost use mathlib.Core.Path.{_≡_};
 ghost use Prim.Native.Nat.{_+_, _*_, _<_, _^_};
 ghost use lib.ListN.{length};
-ghost use Rattle.sheet.specs.Decode.{noMosaic, noSorting, noFlight, withMosaicHead, withStationTimes, withMosaicStrip, withSortingHead, withStripAt, withBlock};
-ghost use Rattle.sheet.specs.Decode.{turnOf, withFlightHead, withOrder, nextMosaic, nextSorting, nextFlight, nextSection, nextMembers, nextHead, nextReading, startReading};
+ghost use Rattle.sheet.specs.Decode.{noMosaic, noSorting, noFlight, withMosaicHead, withStationTimes, withMosaicStrip, withSortingHead, withStripAt, exactBlock};
+ghost use Rattle.sheet.specs.Decode.{turnOf, withFlightHead, withBlock, withOrder, nextMosaic, nextSorting, nextFlight, nextSection, nextMembers, nextHead, nextReading, startReading};
 ghost use Rattle.field.specs.Bytes.{numberAt};
+ghost use Rattle.sheet.specs.Limits.{mostBlocks};
 ghost use Rattle.sheet.specs.Sections.{stripsOfDesk};
 ghost use Rattle.sheet.specs.Read.{refused, accepted};
-ghost use Rattle.sheet_decode.specs.Pre.{StationTimesPre, MosaicStripPre, StripAtPre, BlockPre, NextMosaicPre, NextSortingPre, NextFlightPre};
+ghost use Rattle.sheet_decode.specs.Pre.{StationTimesPre, MosaicStripPre, StripAtPre, NextMosaicPre, NextSortingPre, NextFlightPre};
 ghost use Rattle.sheet_decode.specs.Pre.{NextReadingPre};
 
 pub fn no_mosaic() -> MosaicSection
@@ -62,7 +64,8 @@ pub fn no_flight() -> FlightSection
         blocks: 0,
         turn: 0,
         first: [0; 32],
-        delay: [0; 32],
+        shortest: [0; 32],
+        longest: [0; 32],
         second: [0; 32],
         ordered: false,
         order: 0,
@@ -214,7 +217,8 @@ fn with_flight_head(s: &[u8], c: usize, length: usize, head: usize) -> FlightSec
         blocks: 0,
         turn: turn_of(s, c, length),
         first: [0; 32],
-        delay: [0; 32],
+        shortest: [0; 32],
+        longest: [0; 32],
         second: [0; 32],
         ordered: false,
         order: 0,
@@ -222,22 +226,42 @@ fn with_flight_head(s: &[u8], c: usize, length: usize, head: usize) -> FlightSec
     }
 }
 
-fn with_block(s: &[u8], c: usize, f: FlightSection) -> FlightSection
-    requires { ⌜ BlockPre c (f .blocks) ⌝ }
-    ensures { λ r. ⌜ r ≡ withBlock (now (s .entry)) c f ⌝ }
+// A block of an exact delay, which is a window of one value.
+fn exact_block(s: &[u8], c: usize) -> Block
+    requires { ⌜ c + 8 < 2 ^ 64 ⌝ }
+    ensures { λ r. ⌜ r ≡ exactBlock (now (s .entry)) c ⌝ }
+{
+    let first = number(s, c, 2);
+    let delay = number(s, c + 2, 2);
+    let second = number(s, c + 4, 2);
+    Block {
+        first,
+        shortest: delay,
+        longest: delay,
+        second,
+    }
+}
+
+// The flight with one block more.
+fn with_block(b: Block, f: FlightSection) -> FlightSection
+    requires { ⌜ f .blocks < mostBlocks ⌝ }
+    ensures { λ r. ⌜ r ≡ withBlock b f ⌝ }
 {
     let i = f.blocks;
     let mut first = f.first;
-    let mut delay = f.delay;
+    let mut shortest = f.shortest;
+    let mut longest = f.longest;
     let mut second = f.second;
-    first[i] = number(s, c, 2);
-    delay[i] = number(s, c + 2, 2);
-    second[i] = number(s, c + 4, 2);
+    first[i] = b.first;
+    shortest[i] = b.shortest;
+    longest[i] = b.longest;
+    second[i] = b.second;
     FlightSection {
         blocks: i + 1,
         turn: f.turn,
         first,
-        delay,
+        shortest,
+        longest,
         second,
         ordered: f.ordered,
         order: f.order,
@@ -249,13 +273,15 @@ fn with_order(s: &[u8], c: usize, at: usize, f: FlightSection) -> FlightSection
     ensures { λ r. ⌜ r ≡ withOrder (now (s .entry)) c at f ⌝ }
 {
     let first = f.first;
-    let delay = f.delay;
+    let shortest = f.shortest;
+    let longest = f.longest;
     let second = f.second;
     FlightSection {
         blocks: f.blocks,
         turn: f.turn,
         first,
-        delay,
+        shortest,
+        longest,
         second,
         ordered: true,
         order: number(s, c, 8),
@@ -306,7 +332,7 @@ fn next_flight(
         return with_flight_head(s, c, length, at);
     }
     if tag == FLIGHT_BLOCK {
-        return with_block(s, c, f);
+        return with_block(exact_block(s, c), f);
     }
     if tag == FLIGHT_ORDER {
         return with_order(s, c, at, f);

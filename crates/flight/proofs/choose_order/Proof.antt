@@ -25,6 +25,9 @@ slice-aggregate-best-order-2 c = search needs
 slice-aggregate-best-order-3 : tie.Need-slice-aggregate-best-order-3
 slice-aggregate-best-order-3 c = search needs
 
+slice-aggregate-best-order-4 : tie.Need-slice-aggregate-best-order-4
+slice-aggregate-best-order-4 c = search needs
+
 best-order-requires : tie.Need-best-order-requires
 best-order-requires c κs = search block-times
 
@@ -42,5 +45,6 @@ choose-order-spec =
     slice-aggregate-best-order
     slice-aggregate-best-order-2
     slice-aggregate-best-order-3
+    slice-aggregate-best-order-4
     best-order-requires
     returns-3)

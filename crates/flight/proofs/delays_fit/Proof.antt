@@ -1,4 +1,4 @@
--- `flight::delays_fit` meets its contract. Invariant: the first i delays are at least the turn.
+-- `flight::delays_fit` meets its contract. Invariant: the first i longest delays are at least the turn.
 use Prim.Native.Nat.{_-_}
 use borrow.Author.Needs.{needs}
 use Rattle.flight.proofs.Delays.{FitSoFar, fit-none, delay-known, fit-more, fit-wrong, fit-all}
@@ -6,10 +6,10 @@ use Rattle.flight.proofs.delays_fit.Statement.{statement}
 use Rattle.flight.proofs.delays_fit.Tie as tie
 
 abbrev Inv-loop : tie.InvT-loop
-Inv-loop f n delay i₀ i = FitSoFar f n delay i
+Inv-loop f n longest i₀ i = FitSoFar f n longest i
 
 abbrev μ-loop : tie.MeasureT-loop
-μ-loop f n delay i₀ i = n - i
+μ-loop f n longest i₀ i = n - i
 
 loop-holds : tie.Need-loop-holds Inv-loop μ-loop
 loop-holds c = search fit-none

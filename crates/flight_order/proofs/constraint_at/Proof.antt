@@ -1,6 +1,6 @@
 -- `flight_order::constraint_at` meets its contract: one law for each of the three kinds of constraint; the times are low, so no sum wraps.
 use borrow.Author.Needs.{needs}
-use Rattle.flight_order.proofs.Passes.{times-fit, pass-below, up-fits, made-least, made-most, made-order}
+use Rattle.flight_order.proofs.Passes.{times-fit, pass-below, up-fits, made-shortest, made-longest, made-order}
 use Rattle.flight_order.proofs.constraint_at.Statement.{statement}
 use Rattle.flight_order.proofs.constraint_at.Tie as tie
 
@@ -23,7 +23,7 @@ add-t22 : tie.Need-add-t22
 add-t22 c = record { fits = search times-fit }
 
 returns : tie.Need-returns
-returns c = search made-least
+returns c = search made-shortest
 
 mul-if2 : tie.Need-mul-if2
 mul-if2 c = search needs
@@ -47,7 +47,7 @@ add-t31 : tie.Need-add-t31
 add-t31 c = record { fits = search times-fit }
 
 returns-2 : tie.Need-returns-2
-returns-2 c = search made-most
+returns-2 c = search made-longest
 
 mul-j : tie.Need-mul-j
 mul-j c = search needs

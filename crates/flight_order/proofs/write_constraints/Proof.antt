@@ -8,10 +8,10 @@ use Rattle.flight_order.proofs.write_constraints.Statement.{statement}
 use Rattle.flight_order.proofs.write_constraints.Tie as tie
 
 abbrev Inv-loop : tie.InvT-loop
-Inv-loop n order turn first second least most rows₀ count k₀ rows k = Writing (orderedFlight n order turn first second least most) rows₀ rows k count
+Inv-loop n order turn first second shortest longest rows₀ count k₀ rows k = Writing (orderedFlight n order turn first second shortest longest) rows₀ rows k count
 
 abbrev μ-loop : tie.MeasureT-loop
-μ-loop n order turn first second least most rows₀ count k₀ rows k = count - k
+μ-loop n order turn first second shortest longest rows₀ count k₀ rows k = count - k
 
 mul-count : tie.Need-mul-count Inv-loop μ-loop
 mul-count c = search needs

@@ -1,6 +1,6 @@
--- `block_follows` meets its contract: a block past the last is refused first; else its due start is small enough to be added up.
-use Rattle.judge_rules.specs.Laws.{block-past, block-due, flown-fits, second-fits, end-fits}
+-- `block_follows` meets its contract: a block past the last is refused first; else its earliest and latest starts are small enough to be added up.
 use native.Mathlib.Omega.{arith}
+use Rattle.judge_rules.specs.Laws.{block-past, block-due, flown-fits, earliest-fits, latest-fits, end-fits}
 use borrow.Author.Needs.{needs}
 use Rattle.judge_rules.proofs.block_follows.Statement.{statement}
 use Rattle.judge_rules.proofs.block_follows.Tie as tie
@@ -8,23 +8,32 @@ use Rattle.judge_rules.proofs.block_follows.Tie as tie
 returns : tie.Need-returns
 returns c = block-past _ _ _ (omega arith)
 
-mul-due : tie.Need-mul-due
-mul-due c = search needs
+mul-flown : tie.Need-mul-flown
+mul-flown c = search needs
 
-array-read-due : tie.Need-array-read-due
-array-read-due c = search needs
+array-read-flown : tie.Need-array-read-flown
+array-read-flown c = search needs
 
-add-due : tie.Need-add-due
-add-due c = search flown-fits
+add-flown : tie.Need-add-flown
+add-flown c = search flown-fits
 
-mul-due-2 : tie.Need-mul-due-2
-mul-due-2 c = search needs
+mul-earliest : tie.Need-mul-earliest
+mul-earliest c = search needs
 
-array-read-due-2 : tie.Need-array-read-due-2
-array-read-due-2 c = search needs
+array-read-earliest : tie.Need-array-read-earliest
+array-read-earliest c = search needs
 
-add-due-2 : tie.Need-add-due-2
-add-due-2 c = search second-fits
+add-earliest : tie.Need-add-earliest
+add-earliest c = search earliest-fits
+
+mul-latest : tie.Need-mul-latest
+mul-latest c = search needs
+
+array-read-latest : tie.Need-array-read-latest
+array-read-latest c = search needs
+
+add-latest : tie.Need-add-latest
+add-latest c = search latest-fits
 
 mul-end : tie.Need-mul-end
 mul-end c = search needs
@@ -46,12 +55,15 @@ block-follows-spec =
     tie.close
     (tie.spec
     returns
-    mul-due
-    array-read-due
-    add-due
-    mul-due-2
-    array-read-due-2
-    add-due-2
+    mul-flown
+    array-read-flown
+    add-flown
+    mul-earliest
+    array-read-earliest
+    add-earliest
+    mul-latest
+    array-read-latest
+    add-latest
     mul-end
     array-read-end
     add-end

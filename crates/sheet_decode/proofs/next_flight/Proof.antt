@@ -1,7 +1,8 @@
 -- `next_flight` meets its contract: one case a tag; there is room for another block.
 use Rattle.base.specs.Branch.{branches}
 use Rattle.sheet.specs.Decode.{nextFlight}
-use Rattle.sheet_decode.specs.Pre.{block-pre}
+use Rattle.sheet_decode.specs.Pre.{block-fits}
+use Rattle.sheet_decode.specs.DecodeLaws.{exact-block-next}
 use borrow.Author.Needs.{needs}
 use Rattle.sheet_decode.proofs.next_flight.Statement.{statement}
 use Rattle.sheet_decode.proofs.next_flight.Tie as tie
@@ -13,12 +14,14 @@ returns : tie.Need-returns
 unfolding nextFlight
 returns c = search branches depth 14
 
+exact-block-requires : tie.Need-exact-block-requires
+exact-block-requires c κs = search needs
+
 with-block-requires : tie.Need-with-block-requires
-with-block-requires c κs = search block-pre
+with-block-requires c κs = search block-fits
 
 returns-2 : tie.Need-returns-2
-unfolding nextFlight
-returns-2 c = search branches depth 14
+returns-2 c = search exact-block-next
 
 with-order-requires : tie.Need-with-order-requires
 with-order-requires c κs = search needs
@@ -37,6 +40,7 @@ next-flight-spec =
     (tie.spec
     with-flight-head-requires
     returns
+    exact-block-requires
     with-block-requires
     returns-2
     with-order-requires
