@@ -13,8 +13,12 @@
  *                of each desk
  *   30   0 or 2  flight head      turn (2), 0 to 600: the least time between the end of a pass and
  *                                 the start of the next; an empty head means 0
- *   31   6       block, up to 32  first pass (2); delay (2), 0 to 60,000; second pass (2)
+ *   31   6       block            first pass (2); delay (2), 0 to 60,000; second pass (2)
+ *   33   8       block with a     first pass (2); shortest delay (2) and longest delay (2), each 0
+ *                window           to 60,000, the longest no less than the shortest; second pass (2)
  *   32   8       pass order       order number (8); ends the sheet; due over 8 blocks
+ *
+ * Blocks of both tags may be mixed; there may be up to 32 in all.
  *
  * Tags are hexadecimal. A time without a range here is 1 to 60,000. Times are minutes in the first
  * two sections and seconds in the flight.
@@ -53,8 +57,8 @@
 
 /* The minor number rises with every change request that lands (docs/LANDINGS.md). */
 #define SEVULAMON_VERSION_MAJOR 1
-#define SEVULAMON_VERSION_MINOR 5
-#define SEVULAMON_VERSION "1.5"
+#define SEVULAMON_VERSION_MINOR 6
+#define SEVULAMON_VERSION "1.6"
 
 /* A plan buffer of this length is large enough for every sheet. A smaller one is refused with 2,
  * whatever the sheet. */
@@ -78,7 +82,8 @@ extern "C" {
 /* Why a sheet or a plan is turned back. 1, a working table too small, cannot occur here: the table
  * is supplied inside. Where nothing else is said, the place is the offset of the field's tag. 6,
  * 15 and 16 are one check, after 5 and before 7: the values of a field are examined from left to
- * right, and the first one out of its range decides which of the three is given. */
+ * right, and the first one out of its range decides which of the three is given. 17 comes right
+ * after them. */
 enum sevulamon_number {
     SEVULAMON_ACCEPTED = 0,
     SEVULAMON_BUFFER_TOO_SMALL = 2,  /* the plan's or the page's; place 0 */
@@ -98,7 +103,8 @@ enum sevulamon_number {
     SEVULAMON_RULE_BROKEN = 13,      /* judge: at the member or the head that breaks a rule */
     SEVULAMON_FIGURE_UNTRUE = 14,    /* judge: at the head that states it */
     SEVULAMON_TIME_TOO_LARGE = 15,   /* a time above its upper end: 600 for a turn, else 60,000 */
-    SEVULAMON_TIME_OF_ZERO = 16      /* a time of 0 where at least 1 is due */
+    SEVULAMON_TIME_OF_ZERO = 16,     /* a time of 0 where at least 1 is due */
+    SEVULAMON_LONGEST_BELOW_SHORTEST = 17 /* of a block with a window */
 };
 
 /* What planning and printing answer. Accepted: number 0, place 0 and the length written, of the

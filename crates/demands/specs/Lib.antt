@@ -9,31 +9,37 @@ use mathlib.Core.Path.{_≡_, refl, sym, ap, ap₂, subst, _∙_}
 use mathlib.Core.Bool.{true, false, true≢false}
 use mathlib.Core.List.{List, _++_}
 use mathlib.Core.Logic.{inl, inr, ⊎-elim}
-use lib.ListN.{length, drop}
+use lib.ListN.{length, getD, drop}
 use native.Mathlib.Omega.{arith}
 use Rattle.field.specs.Bytes.{numberAt}
 use Rattle.field.specs.Field.{fieldAt}
 use Rattle.field.specs.declared.Field.the-variants.{Whole}
-use Rattle.sheet.specs.Limits.{ceiling, mostStations, mostTurn, tableLength, planLength, pageLength}
+use Rattle.sheet.specs.Limits.{ceiling, mostStations, mostTurn, mostBlocks, tableLength, planLength, pageLength}
 use Rattle.sheet.specs.Tags.{mosaicHeadTag, mosaicStripTag, sortingHeadTag, sortingStripTag, flightHeadTag, flightBlockTag, flightOrderTag}
+use Rattle.sheet.specs.Tags.{flightWindowBlockTag}
 use Rattle.sheet.specs.Refusals.{lengthWrong, outOfRange, orderImpossible, bufferTooSmall, layoutWrong, ruleBroken, figureUntrue, timeTooLarge, timeOfZero}
+use Rattle.sheet.specs.Refusals.{longestBelowShortest}
 use Rattle.sheet.specs.Read.{readSheet}
 use Rattle.sheet.specs.Theorems.{read-sound}
 use Rattle.sheet.specs.Among.{Among}
 use Rattle.sheet.specs.FieldTable.{TableRow, fieldTable, tableOf, lengthOf, lengthsDue, turnFlightHead, Value, valuesOf}
 use Rattle.sheet.specs.Contents.{RowOfLength, head-lengths, head-length, flight-head-values}
-use Rattle.sheet.specs.Causes.{NoMembers, OrderMissing, Permitted, FirstOut, CountOutOfRange, TimeTooLarge, TimeOfZero, fieldRows, rowsAt}
-use Rattle.sheet.specs.Table.{Reached, RefusedFor, RefusedForValue}
+use Rattle.sheet.specs.Causes.{NoMembers, OrderMissing, Permitted, FirstOut, CountOutOfRange, TimeTooLarge, TimeOfZero, TooMany, fieldRows, rowsAt}
+use Rattle.sheet.specs.Table.{Reached, RefusedFor, RefusedForValue, RefusedForWindow}
 use Rattle.sheet.specs.Rows.{rowAt}
 use Rattle.sheet.specs.Decided.{whole-at-not-cut}
 use Rattle.sheet.specs.Theorems.{at-field}
 use Rattle.sheet.specs.Refused.{sound-exactly, not-eleven}
-use Rattle.sheet.specs.Values.{count-exactly, too-large-exactly, zero-exactly}
-use Rattle.sheet.specs.Decode.{zeros}
+use Rattle.sheet.specs.Values.{count-exactly, too-large-exactly, zero-exactly, window-exactly}
+use Rattle.sheet.specs.Sections.{inFlight}
+use Rattle.sheet.specs.Checks.{endsSection}
+use Rattle.sheet.specs.Decode.{zeros, nextMembers}
 use Rattle.sheet.specs.Stores.{length-zeros}
 use Rattle.sheet.specs.Sound.{SheetSound}
-use Rattle.sheet.specs.FlightPlaces.{FieldRead, HeadRead, head-read, order-read}
-use Rattle.sheet.specs.WrittenZero.{withEmptyHead, withWrittenZero, movedPlace, written-zero}
+use Rattle.sheet.specs.FlightPlaces.{FieldRead, HeadRead, head-read, order-read, blockAt, BlockRead, block-read}
+use Rattle.sheet.specs.MovedPlaces.{movedPlace, SameButPlaces}
+use Rattle.sheet.specs.WrittenZero.{withEmptyHead, withWrittenZero, written-zero}
+use Rattle.sheet.specs.OneValue.{withExactDelay, withOneValue, one-value}
 use Rattle.sheet.specs.declared.Reading.{Reading}
 use Rattle.sheet.specs.declared.FlightSection.{FlightSection}
 use Rattle.sheet.specs.declared.Sheet.{Sheet}
@@ -49,23 +55,24 @@ use Rattle.base.specs.LeastFigure.{NoLarger, LeastFigure, same-least}
 use Rattle.rules.specs.Mosaic.{batchAt, MosaicUnder, MosaicLawful, mosaicFigure}
 use Rattle.rules.specs.Sorting.{jobAt, SortingUnder, SortingLawful, sortingFigure}
 use Rattle.rules.specs.ScannerList.{scannerList, SameOrAfter, SortingTaken}
-use Rattle.rules.specs.Flight.{passesAt, AllApart, FlightUnder, FlightLawful, Keeps, OrderAllowed, flightFigure}
+use Rattle.rules.specs.Flight.{passesAt, secondDue, DelayKept, AllApart, FlightUnder, FlightLawful, Keeps, OrderAllowed, flightFigure}
 use Rattle.rules.specs.declared.Batch.{Batch}
 use Rattle.rules.specs.declared.Job.{Job}
 use Rattle.rules.specs.declared.Passes.{Passes}
 use Rattle.rules.specs.Plan.{Plan, mosaicFields, sortingFields, flightFields, planBytes, PlanUnder, AllowedFor}
 use Rattle.plan_format.specs.Format.{sizeOf, flightHeadForm}
 use Rattle.plan_format.specs.ByteLaws.{AreBytes}
-use Rattle.plan_read.specs.PlanRead.{blocksFrom}
+use Rattle.plan_read.specs.PlanRead.{passesFrom, blocksFrom}
 use Rattle.rules_laws.specs.FlightRunning.{all-apart}
 use Rattle.rules_laws.specs.Turns.{NextApart, neighbours-apart, neighbours-enough}
+use Rattle.rules_laws.specs.Delays.{withDelays, DelaysChosen, exact-delay, choice-kept, kept-choice, same-order, same-figure}
 use Rattle.rules_laws.specs.Determined.{plan-most, plan-determined}
 use Rattle.judge.specs.Judged.{partAt, turnedBack, found, judged}
-use Rattle.judge_members.specs.Members.{present}
+use Rattle.judge_members.specs.Members.{present, memberPlace}
 use Rattle.judge_members.specs.declared.Progress.{Progress}
 use Rattle.judge_laws.specs.Due.{LaidOut}
 use Rattle.judge.specs.declared.Judged.{Judged}
-use Rattle.judge_laws.specs.Fault.{HeadFollows, SectionFault, Fault}
+use Rattle.judge_laws.specs.Fault.{MemberFollows, HeadFollows, SectionFault, Fault}
 use Rattle.judge_laws.specs.Fault.{Reached as Judging}
 use Rattle.judge_laws.specs.OtherPlace.{same-judged, same-refused}
 use Rattle.judge_laws.specs.Theorems.{FiguresTrue, FiguresGiven, judge-allows, allowed-judged, allowed-found, allowed-stated, judged-figures, figures-given}
@@ -75,7 +82,7 @@ use Rattle.mosaic.specs.Theorems.{mosaic-ceiling}
 use Rattle.sorting.specs.Theorems.{sorting-ceiling}
 use Rattle.flight.specs.Chosen.{ShortDelay}
 use Rattle.flight.specs.Choice.{oneByOne, chosenOrder}
-use Rattle.flight.specs.Theorems.{flight-ceiling, flight-unsearched}
+use Rattle.flight.specs.Theorems.{flight-ceiling, flight-figure, flight-least, flight-unsearched}
 use Rattle.planner.specs.Call.{chosenPlan, clearedTo, tableAfter, Called}
 use Rattle.planner.specs.Outcomes.{Large, Accepted, call-accepted, call-refused, call-small, call-cleared, ourBytes}
 use Rattle.planner.specs.TurnedBack.{TurnedBack, turned-back, turned-back-only, eleven-only, sheet-only, else-accepted}
@@ -515,16 +522,18 @@ same-sheet-same-list sheet p q a b s t =
 -- time of zero where at least 1 is due; both in the place of 6." FieldTable.antt of crate sheet says which values a field has, counts and times; Causes.antt there
 -- when one is out of its range, and how; Table.antt, when a sheet is refused for a value (`RefusedForValue`). A planning call:
 module _ (sheet plan table planAfter tableEnd : List ℕ) (r : Answer) (call : Called sheet plan table planAfter tableEnd r) where
-  -- with buffers large enough the number is given where the first value that is not within its range is out of it in this way (`Out`), with the place of its
-  -- field, and not otherwise
-  pub record GivenForValue (number : ℕ) (Out : Value → Type 0) : Type 0 where
-    pub always : Large plan table → (place : ℕ) → RefusedForValue sheet Out place → r ≡ answer number place 0
-    pub only : r .number ≡ number → Large plan table × RefusedForValue sheet Out (r .place)
+  -- with buffers large enough the number is given where the sheet is refused for this (`Why`, by the place), with its place, and not otherwise
+  pub record GivenFor (number : ℕ) (Why : ℕ → Type 0) : Type 0 where
+    pub always : Large plan table → (place : ℕ) → Why place → r ≡ answer number place 0
+    pub only : r .number ≡ number → Large plan table × Why (r .place)
 
-  given-for-value : (number : ℕ) (Out : Value → Type 0) → bufferTooSmall < number → (number ≡ orderImpossible → ⊥)
-      → ((place : ℕ) → (RefusedForValue sheet Out place → RefusedFor sheet number place) × (RefusedFor sheet number place → RefusedForValue sheet Out place))
-      → GivenForValue number Out
-  given-for-value number Out more other exactly =
+  -- for a value: the first that is not within its range is out of it in this way
+  abbrev pub GivenForValue : ℕ → (Value → Type 0) → Type 0
+  GivenForValue number Out = GivenFor number (RefusedForValue sheet Out)
+
+  given-for : (number : ℕ) (Why : ℕ → Type 0) → bufferTooSmall < number → (number ≡ orderImpossible → ⊥)
+      → ((place : ℕ) → (Why place → RefusedFor sheet number place) × (RefusedFor sheet number place → Why place)) → GivenFor number Why
+  given-for number Why more other exactly =
       record {
         always = λ large place f. turned-back sheet plan table planAfter tableEnd r call number place (TurnedBack.in-sheet large (exactly place .0 f));
         only =
@@ -533,48 +542,52 @@ module _ (sheet plan table planAfter tableEnd : List ℕ) (r : Answer) (call : C
       }
 
   pub six-for-a-count : GivenForValue outOfRange CountOutOfRange
-  six-for-a-count = given-for-value outOfRange CountOutOfRange (omega arith) (λ e. omega arith) (count-exactly sheet)
+  six-for-a-count = given-for outOfRange (RefusedForValue sheet CountOutOfRange) (omega arith) (λ e. omega arith) (count-exactly sheet)
 
   pub fifteen-for-a-time-too-large : GivenForValue timeTooLarge TimeTooLarge
-  fifteen-for-a-time-too-large = given-for-value timeTooLarge TimeTooLarge (omega arith) (λ e. omega arith) (too-large-exactly sheet)
+  fifteen-for-a-time-too-large = given-for timeTooLarge (RefusedForValue sheet TimeTooLarge) (omega arith) (λ e. omega arith) (too-large-exactly sheet)
 
   pub sixteen-for-a-time-of-zero : GivenForValue timeOfZero TimeOfZero
-  sixteen-for-a-time-of-zero = given-for-value timeOfZero TimeOfZero (omega arith) (λ e. omega arith) (zero-exactly sheet)
+  sixteen-for-a-time-of-zero = given-for timeOfZero (RefusedForValue sheet TimeOfZero) (omega arith) (λ e. omega arith) (zero-exactly sheet)
 
 -- A judging call gives the three for a bad sheet in the same way, whatever the plan.
 module _ (sheet plan : List ℕ) (j : Judged) (call : j ≡ judged sheet plan) where
-  pub record JudgedForValue (number : ℕ) (Out : Value → Type 0) : Type 0 where
-    pub always : (place : ℕ) → RefusedForValue sheet Out place → j ≡ turnedBack number place
-    pub only : j .number ≡ number → RefusedForValue sheet Out (j .place)
+  pub record JudgedFor (number : ℕ) (Why : ℕ → Type 0) : Type 0 where
+    pub always : (place : ℕ) → Why place → j ≡ turnedBack number place
+    pub only : j .number ≡ number → Why (j .place)
 
-  judged-for-value : (number : ℕ) (Out : Value → Type 0) → 0 < number → (layoutWrong ≤ number → number ≤ figureUntrue → ⊥)
-      → ((place : ℕ) → (RefusedForValue sheet Out place → RefusedFor sheet number place) × (RefusedFor sheet number place → RefusedForValue sheet Out place))
-      → JudgedForValue number Out
-  judged-for-value number Out some other exactly =
+  abbrev pub JudgedForValue : ℕ → (Value → Type 0) → Type 0
+  JudgedForValue number Out = JudgedFor number (RefusedForValue sheet Out)
+
+  judged-for : (number : ℕ) (Why : ℕ → Type 0) → 0 < number → (layoutWrong ≤ number → number ≤ figureUntrue → ⊥)
+      → ((place : ℕ) → (Why place → RefusedFor sheet number place) × (RefusedFor sheet number place → Why place)) → JudgedFor number Why
+  judged-for number Why some other exactly =
       record {
         always = λ place f. turns-back-for-its-fault sheet plan j call number place (Fault.in-sheet (exactly place .0 f));
         only = rw call (λ e. exactly (judged sheet plan .place) .1 (judged-sheet-only sheet plan number some other e));
       }
 
   pub judged-six : JudgedForValue outOfRange CountOutOfRange
-  judged-six = judged-for-value outOfRange CountOutOfRange (omega arith) (λ l m. omega arith) (count-exactly sheet)
+  judged-six = judged-for outOfRange (RefusedForValue sheet CountOutOfRange) (omega arith) (λ l m. omega arith) (count-exactly sheet)
 
   pub judged-fifteen : JudgedForValue timeTooLarge TimeTooLarge
-  judged-fifteen = judged-for-value timeTooLarge TimeTooLarge (omega arith) (λ l m. omega arith) (too-large-exactly sheet)
+  judged-fifteen = judged-for timeTooLarge (RefusedForValue sheet TimeTooLarge) (omega arith) (λ l m. omega arith) (too-large-exactly sheet)
 
   pub judged-sixteen : JudgedForValue timeOfZero TimeOfZero
-  judged-sixteen = judged-for-value timeOfZero TimeOfZero (omega arith) (λ l m. omega arith) (zero-exactly sheet)
+  judged-sixteen = judged-for timeOfZero (RefusedForValue sheet TimeOfZero) (omega arith) (λ l m. omega arith) (zero-exactly sheet)
 
 -- A page call gives them as the judge does, where the page buffer is large enough.
 module _ (sheet plan page pageAfter : List ℕ) (r : Answer) (call : Paged sheet plan page pageAfter r) where
-  pub record PagedForValue (number : ℕ) (Out : Value → Type 0) : Type 0 where
-    pub always : pageLength ≤ length page → (place : ℕ) → RefusedForValue sheet Out place → r ≡ answer number place 0
-    pub only : r .number ≡ number → (pageLength ≤ length page) × RefusedForValue sheet Out (r .place)
+  pub record PagedFor (number : ℕ) (Why : ℕ → Type 0) : Type 0 where
+    pub always : pageLength ≤ length page → (place : ℕ) → Why place → r ≡ answer number place 0
+    pub only : r .number ≡ number → (pageLength ≤ length page) × Why (r .place)
 
-  paged-for-value : (number : ℕ) (Out : Value → Type 0) → bufferTooSmall < number → JudgedForValue sheet plan (judged sheet plan) refl number Out
-      → PagedForValue number Out
+  abbrev pub PagedForValue : ℕ → (Value → Type 0) → Type 0
+  PagedForValue number Out = PagedFor number (RefusedForValue sheet Out)
+
+  paged-for : (number : ℕ) (Why : ℕ → Type 0) → bufferTooSmall < number → JudgedFor sheet plan (judged sheet plan) refl number Why → PagedFor number Why
   unfolding turnedBack
-  paged-for-value number Out more judging =
+  paged-for number Why more judging =
       record {
         always = λ large place f. comes-back large place (judging .always place f);
         only =
@@ -589,20 +602,20 @@ module _ (sheet plan page pageAfter : List ℕ) (r : Answer) (call : Paged sheet
           page-not-allowed sheet plan page pageAfter r call large (λ z. omega arith) ∙ ap₂ (λ m q. answer m q 0) n p
 
   pub paged-six : PagedForValue outOfRange CountOutOfRange
-  paged-six = paged-for-value outOfRange CountOutOfRange (omega arith) (judged-six sheet plan (judged sheet plan) refl)
+  paged-six = paged-for outOfRange (RefusedForValue sheet CountOutOfRange) (omega arith) (judged-six sheet plan (judged sheet plan) refl)
 
   pub paged-fifteen : PagedForValue timeTooLarge TimeTooLarge
-  paged-fifteen = paged-for-value timeTooLarge TimeTooLarge (omega arith) (judged-fifteen sheet plan (judged sheet plan) refl)
+  paged-fifteen = paged-for timeTooLarge (RefusedForValue sheet TimeTooLarge) (omega arith) (judged-fifteen sheet plan (judged sheet plan) refl)
 
   pub paged-sixteen : PagedForValue timeOfZero TimeOfZero
-  paged-sixteen = paged-for-value timeOfZero TimeOfZero (omega arith) (judged-sixteen sheet plan (judged sheet plan) refl)
+  paged-sixteen = paged-for timeOfZero (RefusedForValue sheet TimeOfZero) (omega arith) (judged-sixteen sheet plan (judged sheet plan) refl)
 
 -- REQ 05. "However the length due is found now, make it one case for each tag and, for 11, each station count from 1 to 4." These are the cases of
 -- `sheet_lengths::length_due`. The field table is `fieldTable` (sheet, FieldTable.antt), a list of rows; `lengthOf` a row's content is the sum of its widths.
 -- A call of `length_due`: a tag, the number of stations in the head of the mosaic, and the answer; `GivesLength` is its contract (sheet_lengths, Lengths.antt).
 module _ (tag stations : ℕ) (due : LengthDue) (call : GivesLength tag stations due) where
   -- "Show that the cases give the field table's length for each tag in it": the length of each row of the tag is among those that the answer means (`lengthsGiven`),
-  -- and each of those is a row's. Every tag but that of the flight head has one row at most, and its length; the flight head has two rows since Req 06.
+  -- and each of those is a row's. Every tag but that of the flight head has one row at most, and its length; the flight head has two rows since Req 06. The tag 33 has a row since Req 07.
   pub length-by-list : (desks : ℕ) (r : TableRow) → Among r (fieldTable stations desks) → tag ≡ r .tag → Among (lengthOf (r .content)) (lengthsGiven due)
   length-by-list desks r a e = row-length tag stations due call desks r a (omega arith)
 
@@ -623,12 +636,12 @@ module _ (tag stations : ℕ) (due : LengthDue) (call : GivesLength tag stations
   pub no-length-of-a-strip : tag ≡ mosaicStripTag → (1 ≤ stations → stations ≤ mostStations → ⊥) → due ≡ None
   no-length-of-a-strip = other-count-none tag stations due call
 
-  -- "and none for any other": for a tag that is in no row, and so for every tag but 10, 11, 20, 21, 30, 31 and 32
+  -- "and none for any other": for a tag that is in no row, and so for every tag but 10, 11, 20, 21, 30, 31, 32 and 33
   pub no-length-outside-the-table : (desks : ℕ) → ((r : TableRow) → Among r (fieldTable stations desks) → tag ≡ r .tag → ⊥) → due ≡ None
   no-length-outside-the-table = no-length tag stations due call
 
   pub no-length-of-another-tag : (tag ≡ mosaicHeadTag → ⊥) → (tag ≡ mosaicStripTag → ⊥) → (tag ≡ sortingHeadTag → ⊥) → (tag ≡ sortingStripTag → ⊥)
-      → (tag ≡ flightHeadTag → ⊥) → (tag ≡ flightBlockTag → ⊥) → (tag ≡ flightOrderTag → ⊥) → due ≡ None
+      → (tag ≡ flightHeadTag → ⊥) → (tag ≡ flightBlockTag → ⊥) → (tag ≡ flightWindowBlockTag → ⊥) → (tag ≡ flightOrderTag → ⊥) → due ≡ None
   no-length-of-another-tag = other-tag-none tag stations due call
 
 -- REQ 06. "The flight head may carry two bytes, the turn g, 0 to 600 seconds; an empty head means 0." The rows of the field table (sheet, FieldTable.antt) have
@@ -666,6 +679,7 @@ before-the-flight section members (Permitted.sorting-head e h) m = omega arith
 before-the-flight section members (Permitted.sorting-strip e h) m = omega arith
 before-the-flight section members (Permitted.flight-head e h) m = omega (arith, m .blocks .flight)
 before-the-flight section members (Permitted.flight-block e h) m = omega arith
+before-the-flight section members (Permitted.flight-window-block e h) m = omega arith
 before-the-flight section members (Permitted.flight-order e h l) m = omega arith
 
 -- "A g over 600 counts as a time too large": a head of two bytes with a turn above 600 is refused for that value, at its place, whatever its section lacks
@@ -683,7 +697,7 @@ turn-too-large sheet place f large =
       order-given = before-the-flight (f .reading .section) (f .reading .members) (f .tag-permitted);
       tag-permitted = f .tag-permitted;
       length-due = due;
-      first-out = subst (FirstOut TimeTooLarge) (sym (flight-head-values sheet (f .reading .at + 3) 2 _ _ due)) (inl large);
+      fault = subst (FirstOut TimeTooLarge) (sym (flight-head-values sheet (f .reading .at + 3) 2 _ _ due)) (inl large);
       place-is = f .place-is;
     }
   where
@@ -790,7 +804,7 @@ module _ (sheet plan table planAfter tableEnd : List ℕ) (r : Answer) (call : C
           }
       given large sound (Impossible.no-order-given o none) = absurd (true≢false (sym ordered ∙ o))
 
-  -- A flight without an order is impossible exactly where some block's delay is below g ..
+  -- A flight without an order is impossible exactly where some block's delay, since Req 07 its longest one, is below g ..
   pub free-eleven-by-the-delays : readSheet sheet .flight .ordered ≡ false
       → (r .number ≡ orderImpossible → ShortDelay (readSheet sheet .flight))
       × (Large plan table → readSheet sheet .number ≡ 0 → ShortDelay (readSheet sheet .flight)
@@ -833,6 +847,21 @@ short-turn-is-thirteen sheet plan j call sound laid before there st judging shor
     (Fault.in-section 3 sound laid (omega arith) (omega arith) before there
     (SectionFault.at-head st judging (λ h. short (all-apart (readSheet sheet .flight) _ _ (h .allowed .proper) (h .in-order))) refl refl))
 
+-- Two sheets that are the same but for places (`SameButPlaces`): two calls with the same buffers, and the judge.
+planned-same : (sheet other plan table planAfter tableEnd otherAfter otherEnd : List ℕ) (r q : Answer) (n : ℕ)
+    → SameButPlaces n (readSheet sheet) (readSheet other) → Called sheet plan table planAfter tableEnd r → Called other plan table otherAfter otherEnd q
+    → (q ≡ movedAnswer n r) × (otherAfter ≡ planAfter) × (otherEnd ≡ tableEnd)
+planned-same sheet other plan table planAfter tableEnd otherAfter otherEnd r q n same call next = (
+  same-answer sheet other plan table planAfter tableEnd otherAfter otherEnd r q n same call next,
+  same-buffer sheet other plan table planAfter tableEnd otherAfter otherEnd r q n same call next,
+  same-table sheet other plan table planAfter tableEnd otherAfter otherEnd r q n same call next,
+)
+
+judged-same : (sheet other : List ℕ) (n : ℕ) → SameButPlaces n (readSheet sheet) (readSheet other) → (plan : List ℕ) (j k : Judged) → j ≡ judged sheet plan
+    → k ≡ judged other plan
+    → (readSheet sheet .number ≡ 0 → k ≡ j) × ((readSheet sheet .number ≡ 0 → ⊥) → k ≡ turnedBack (j .number) (movedPlace n (j .place)))
+judged-same sheet other n same plan j k judging also = rw (judging, also) (same-judged _ _ _ same plan, same-refused _ _ _ same plan)
+
 -- "an empty head means 0": with an empty flight head behind some bytes, and with a written turn of 0 in its place, wherever the reading comes to that head, two
 -- calls with the same buffers give the same number, plan bytes and length, and places behind the head are two higher (`movedPlace`). A sheet that is refused at
 -- a field before it never comes to the head.
@@ -840,17 +869,154 @@ module _ (before rest : List ℕ) (st : Reading) (reached : Reached (withEmptyHe
   module _ (plan table planAfter tableEnd otherAfter otherEnd : List ℕ) (r q : Answer)
       (call : Called (withEmptyHead before rest) plan table planAfter tableEnd r) (other : Called (withWrittenZero before rest) plan table otherAfter otherEnd q) where
     pub written-zero-planned : (q ≡ movedAnswer (length before) r) × (otherAfter ≡ planAfter) × (otherEnd ≡ tableEnd)
-    written-zero-planned =
-        let same = written-zero before rest st reached here in (
-          same-answer _ _ plan table planAfter tableEnd otherAfter otherEnd r q _ same call other,
-          same-buffer _ _ plan table planAfter tableEnd otherAfter otherEnd r q _ same call other,
-          same-table _ _ plan table planAfter tableEnd otherAfter otherEnd r q _ same call other,
-        )
+    written-zero-planned = planned-same _ _ plan table planAfter tableEnd otherAfter otherEnd r q _ (written-zero before rest st reached here) call other
 
   -- and the judge gives every plan the same number, place and figures where the sheet is sound, and else turns both back with the same number
   pub written-zero-judged : (plan : List ℕ) (j k : Judged) → j ≡ judged (withEmptyHead before rest) plan → k ≡ judged (withWrittenZero before rest) plan
       → (readSheet (withEmptyHead before rest) .number ≡ 0 → k ≡ j)
       × ((readSheet (withEmptyHead before rest) .number ≡ 0 → ⊥) → k ≡ turnedBack (j .number) (movedPlace (length before) (j .place)))
-  written-zero-judged plan j k judging also =
-      let same = written-zero before rest st reached here in
-      rw (judging, also) (same-judged _ _ _ same plan, same-refused _ _ _ same plan)
+  written-zero-judged plan j k judging also = judged-same _ _ _ (written-zero before rest st reached here) plan j k judging also
+
+-- REQ 07. "For slow divers the biologists accept any interval between two bounds." When a delay lies in the window of its block is said in Flight.antt of crate rules
+-- (`DelayKept`); all that is said above of allowed plans, of least figures, of starts and of 11 is said of these rules. A sound sheet:
+module _ (sheet : List ℕ) (sound : readSheet sheet .number ≡ 0) where
+  -- "A block of tag 33 carries a, shortest delay, longest delay, b": each block was read from a field of tag 33 (`windowBlock` of sheet, Decode.antt) or of tag 31
+  -- (`exactBlock`), whose window has one value.
+  pub block-of-a-field : (i : ℕ) → i < readSheet sheet .flight .blocks → BlockRead sheet (blockAt (readSheet sheet .flight) i)
+  block-of-a-field = block-read sheet sound
+
+  -- "an exact delay being a window of one value": where both bounds are l, the rule of 01 holds, "A second pass starts exactly l after its first ends"
+  pub exact-where-one-value : (i l : ℕ) (p : Passes) → getD (readSheet sheet .flight .shortest) i 0 ≡ l → getD (readSheet sheet .flight .longest) i 0 ≡ l
+      → (DelayKept (readSheet sheet .flight) i p → p .second ≡ secondDue (readSheet sheet .flight) i p l)
+      × (p .second ≡ secondDue (readSheet sheet .flight) i p l → DelayKept (readSheet sheet .flight) i p)
+  exact-where-one-value i l p lo hi = exact-delay (readSheet sheet .flight) i l p lo hi
+
+-- "31 and 33 may be mixed": wherever the one is permitted the other is, and they are counted together, also up to the 33rd.
+pub both-blocks-permitted : (section members : ℕ)
+    → (Permitted flightBlockTag section members → Permitted flightWindowBlockTag section members)
+    × (Permitted flightWindowBlockTag section members → Permitted flightBlockTag section members)
+both-blocks-permitted section members = (
+  λ p. Permitted.flight-window-block refl (in-the-flight flightBlockTag p (omega arith) (omega arith)),
+  λ p. Permitted.flight-block refl (in-the-flight flightWindowBlockTag p (omega arith) (omega arith)),
+)
+  where
+    in-the-flight : (tag : ℕ) → Permitted tag section members → flightHeadTag < tag → (tag ≡ flightOrderTag → ⊥) → section ≡ inFlight
+    in-the-flight tag (Permitted.mosaic-head e h) l n = absurd (omega arith)
+    in-the-flight tag (Permitted.mosaic-strip e h) l n = absurd (omega arith)
+    in-the-flight tag (Permitted.sorting-head e h) l n = absurd (omega arith)
+    in-the-flight tag (Permitted.sorting-strip e h) l n = absurd (omega arith)
+    in-the-flight tag (Permitted.flight-head e h) l n = absurd (omega arith)
+    in-the-flight tag (Permitted.flight-block e h) l n = h
+    in-the-flight tag (Permitted.flight-window-block e h) l n = h
+    in-the-flight tag (Permitted.flight-order e h m) l n = absurd (n e)
+
+pub both-blocks-counted : (members ofDesk : ℕ) → (nextMembers flightBlockTag members ≡ nextMembers flightWindowBlockTag members)
+    × (TooMany flightBlockTag members ofDesk → TooMany flightWindowBlockTag members ofDesk)
+    × (TooMany flightWindowBlockTag members ofDesk → TooMany flightBlockTag members ofDesk)
+unfolding nextMembers endsSection
+both-blocks-counted members ofDesk = (
+  refl,
+  λ t. TooMany.window-block refl (many flightBlockTag t (omega arith)),
+  λ t. TooMany.block refl (many flightWindowBlockTag t (omega arith)),
+)
+  where
+    many : (tag : ℕ) → TooMany tag members ofDesk → flightHeadTag < tag → mostBlocks ≤ members
+    many tag (TooMany.strip e h) l = absurd (omega arith)
+    many tag (TooMany.strip-of-desk e h) l = absurd (omega arith)
+    many tag (TooMany.block e h) l = h
+    many tag (TooMany.window-block e h) l = h
+
+-- "With a given order, each first and each second pass starts no later than in any allowed plan": `each-pass-earliest` (demand 3). "and 11 means that no choice of
+-- delays works". A choice of delays has one in the window of each block (`DelaysChosen`); it works with an order where the flight with these exact delays
+-- (`withDelays`; rules_laws, Delays.antt) has a timetable that keeps the order.
+abbrev pub NoChoiceWorks : FlightSection → ℕ → Type 0
+NoChoiceWorks f w = (delays : List ℕ) → DelaysChosen f delays → NoTimetable (withDelays delays f) w
+
+-- no timetable keeps an order exactly where no choice of delays works with it
+pub no-choice-exactly : (f : FlightSection) (w : ℕ) → (NoTimetable f w → NoChoiceWorks f w) × (NoChoiceWorks f w → NoTimetable f w)
+no-choice-exactly f w = (
+  λ none delays chosen ps law keeps. none ps (kept-choice f ps delays chosen law) (same-order f ps delays w .1 keeps),
+  λ none ps law keeps. let k = choice-kept f ps law in none (k .delays) (k .chosen) ps (k .under) (same-order f ps (k .delays) w .0 keeps),
+)
+
+module _ (sheet plan table planAfter tableEnd : List ℕ) (r : Answer) (call : Called sheet plan table planAfter tableEnd r) where
+  pub eleven-where-no-choice-works : readSheet sheet .flight .ordered ≡ true
+      → (r .number ≡ orderImpossible → NoChoiceWorks (readSheet sheet .flight) (readSheet sheet .flight .order))
+      × (Large plan table → readSheet sheet .number ≡ 0 → NoChoiceWorks (readSheet sheet .flight) (readSheet sheet .flight .order)
+      → r ≡ answer orderImpossible (readSheet sheet .flight .place) 0)
+  eleven-where-no-choice-works ordered =
+      let at-order = eleven-at-the-order-field sheet plan table planAfter tableEnd r call ordered in
+      let exactly = no-choice-exactly (readSheet sheet .flight) (readSheet sheet .flight .order) in (
+        λ e. exactly .0 (at-order .0 e .none),
+        λ large sound none. at-order .1 large sound (exactly .1 none),
+      )
+
+  -- The figure of our flight is the least over all orders that the sheet allows, all choices of delays and all idle times.
+  pub least-over-all-delays : r .number ≡ 0 → (ours : AllowedFor sheet (written r planAfter)) (c w : ℕ) (delays : List ℕ) (ps : List Passes)
+      → OrderAllowed (readSheet sheet .flight) w → DelaysChosen (readSheet sheet .flight) delays
+      → FlightUnder c (withDelays delays (readSheet sheet .flight)) ps → Keeps (withDelays delays (readSheet sheet .flight)) w ps
+      → figureOfFlight (readSheet sheet) (ours .allowed .plan) ≤ flightFigure (withDelays delays (readSheet sheet .flight)) ps
+  unfolding figureOfFlight chosenPlan
+  least-over-all-delays z ours c w delays ps allowed chosen law keeps =
+      let f = readSheet sheet .flight in
+      let a = call-accepted sheet plan table planAfter tableEnd r call z in
+      let whole = read-sound sheet (a .sound) .flight in
+      let law′ = kept-choice f ps delays chosen law in
+      rw (ours-chosen sheet plan table planAfter tableEnd r call z ours, same-figure f ps delays)
+      (omega (
+        arith,
+        flight-figure f whole (a .possible),
+        flight-least f whole w ps law′ (same-order f ps delays w .1 keeps) allowed,
+      ))
+
+  -- "17, longest below shortest, right after the ranges of the same field and before 7": where every value of the field is within its range, and it is a window
+  -- whose longest delay is below the shortest (`RefusedForWindow` of sheet, Table.antt), whatever the row of 7 says, and not otherwise
+  pub seventeen-for-a-window : GivenFor sheet plan table planAfter tableEnd r call longestBelowShortest (RefusedForWindow sheet)
+  seventeen-for-a-window =
+      given-for sheet plan table planAfter tableEnd r call longestBelowShortest (RefusedForWindow sheet) (omega arith) (λ e. omega arith) (window-exactly sheet)
+
+-- A judging call and a page call give it in the same way.
+pub judged-seventeen : (sheet plan : List ℕ) (j : Judged) (call : j ≡ judged sheet plan) → JudgedFor sheet plan j call longestBelowShortest (RefusedForWindow sheet)
+judged-seventeen sheet plan j call =
+    judged-for sheet plan j call longestBelowShortest (RefusedForWindow sheet) (omega arith) (λ l m. omega arith) (window-exactly sheet)
+
+pub paged-seventeen : (sheet plan page pageAfter : List ℕ) (r : Answer) (call : Paged sheet plan page pageAfter r)
+    → PagedFor sheet plan page pageAfter r call longestBelowShortest (RefusedForWindow sheet)
+paged-seventeen sheet plan page pageAfter r call =
+    paged-for sheet plan page pageAfter r call longestBelowShortest (RefusedForWindow sheet) (omega arith)
+    (judged-seventeen sheet plan (judged sheet plan) refl)
+
+-- "The judge accepts any delay in the window": every plan that obeys the rules is allowed (demand 2), and of a block the rules ask this alone: its delay is at least
+-- the shortest and at most the longest. "and no other": in what it allows every delay lies in its window ..
+pub allowed-delays : (sheet plan : List ℕ) (a : AllowedFor sheet plan) (i : ℕ) → i < readSheet sheet .flight .blocks
+    → DelayKept (readSheet sheet .flight) i (passesAt (a .allowed .plan .passes) i)
+allowed-delays sheet plan a i l = a .allowed .lawful .flight .delay-kept i l
+
+-- .. and a plan is turned back with 13 at the first block whose delay does not: the sheet is sound, the plan laid out, no section before has a fault and every block
+-- before this one follows.
+pub delay-outside-is-thirteen : (sheet plan : List ℕ) (j : Judged) → j ≡ judged sheet plan → readSheet sheet .number ≡ 0 → LaidOut (readSheet sheet) plan
+    → ((i : ℕ) → 1 ≤ i → i < 3 → present (readSheet sheet) i ≡ true → (n p : ℕ) → SectionFault (readSheet sheet) plan i n p → ⊥)
+    → present (readSheet sheet) 3 ≡ true
+    → (k : ℕ) (st : Progress) → Judging (readSheet sheet) plan 3 k st → k < partAt (readSheet sheet) plan 3 .members
+    → (DelayKept (readSheet sheet .flight) k (passesFrom plan (memberPlace 3 (partAt (readSheet sheet) plan 3 .head) k)) → ⊥)
+    → j ≡ turnedBack ruleBroken (memberPlace 3 (partAt (readSheet sheet) plan 3 .head) k)
+unfolding MemberFollows
+delay-outside-is-thirteen sheet plan j call sound laid before there k st judging more outside =
+    turns-back-for-its-fault sheet plan j call ruleBroken _
+    (Fault.in-section 3 sound laid (omega arith) (omega arith) before there
+    (SectionFault.at-member k st judging more (λ h. outside (h .delay-kept)) refl refl))
+
+-- "an exact delay being a window of one value": with a block of tag 31 behind some bytes, and with one of tag 33 in its place whose bounds are both its delay,
+-- wherever the reading comes to that block, two calls with the same buffers give the same number, plan bytes and length, and places behind the block are two
+-- higher; and the judge gives every plan the same number, place and figures where the sheet is sound, and else turns both back with the same number.
+module _ (before : List ℕ) (a l b : ℕ) (rest : List ℕ) (st : Reading) (reached : Reached (withExactDelay before a l b rest) st) (here : st .at ≡ length before) where
+  module _ (plan table planAfter tableEnd otherAfter otherEnd : List ℕ) (r q : Answer)
+      (call : Called (withExactDelay before a l b rest) plan table planAfter tableEnd r)
+      (other : Called (withOneValue before a l b rest) plan table otherAfter otherEnd q) where
+    pub one-value-planned : (q ≡ movedAnswer (length before) r) × (otherAfter ≡ planAfter) × (otherEnd ≡ tableEnd)
+    one-value-planned = planned-same _ _ plan table planAfter tableEnd otherAfter otherEnd r q _ (one-value before a l b rest st reached here) call other
+
+  pub one-value-judged : (plan : List ℕ) (j k : Judged) → j ≡ judged (withExactDelay before a l b rest) plan → k ≡ judged (withOneValue before a l b rest) plan
+      → (readSheet (withExactDelay before a l b rest) .number ≡ 0 → k ≡ j)
+      × ((readSheet (withExactDelay before a l b rest) .number ≡ 0 → ⊥) → k ≡ turnedBack (j .number) (movedPlace (length before) (j .place)))
+  one-value-judged plan j k judging also = judged-same _ _ _ (one-value before a l b rest st reached here) plan j k judging also

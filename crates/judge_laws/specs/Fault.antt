@@ -1,5 +1,5 @@
 -- The faults that the judge names, each with its number and its place (01, "Turned back"). "It checks the sheet (3 to 10), then all of 12, then section by
--- section 13 on its members in order, 13 at its head, then 14." 15 and 16 of 02 (Req 04) are numbers of the sheet, too. What a member and a head are judged by are
+-- section 13 on its members in order, 13 at its head, then 14." 15 and 16 of 02 (Req 04) and 17 (Req 07) are numbers of the sheet, too. What a member and a head are judged by are
 -- the rules as they run over the members (running, Running.antt).
 -- Where a section's head and members stand is `partAt`, the judge's count; that they are the fields which are due there is `section-due` (DueLaws.antt).
 use Prim.Native.Nat.{ℕ, _+_, _≤_, _<_}
@@ -74,7 +74,7 @@ pub data SectionFault (s : Sheet) (plan : List ℕ) (section : ℕ) : ℕ → �
 
 -- the first fault of a sheet and a plan
 pub data Fault (sheet plan : List ℕ) : ℕ → ℕ → Type 0 where
-  -- 3 to 10, 15 and 16: a cause of the sheet, at the first field that has one (sheet, Causes.antt and Table.antt)
+  -- 3 to 10 and 15 to 17: a cause of the sheet, at the first field that has one (sheet, Causes.antt and Table.antt)
   in-sheet : {number place : ℕ} → RefusedFor sheet number place → Fault sheet plan number place
   in-layout : {number place : ℕ} → readSheet sheet .number ≡ 0 → LayoutFault (readSheet sheet) plan place → number ≡ layoutWrong → Fault sheet plan number place
   in-section : {number place : ℕ} (section : ℕ) → readSheet sheet .number ≡ 0 → LaidOut (readSheet sheet) plan → 1 ≤ section → section ≤ 3

@@ -9,7 +9,7 @@ use Rattle.order.specs.Passes.{passAt}
 use Rattle.sheet.specs.Refusals.{ruleBroken}
 use Rattle.sheet.specs.Read.{readSheet}
 use Rattle.sheet.specs.SameContent.{withPlace}
-use Rattle.sheet.specs.WrittenZero.{movedPlace, SameButPlaces}
+use Rattle.sheet.specs.MovedPlaces.{movedPlace, SameButPlaces}
 use Rattle.sheet.specs.declared.Sheet.{Sheet}
 use Rattle.rules.specs.Flight.{passStart, passTime, passEnd, secondDue, clearAt, flightFigure}
 use Rattle.rules.specs.declared.Passes.{Passes}

@@ -12,7 +12,7 @@ use Rattle.field.specs.Put.{holding}
 use Rattle.sheet.specs.Limits.{tableLength, planLength}
 use Rattle.sheet.specs.Refusals.{tableTooSmall, bufferTooSmall, orderImpossible}
 use Rattle.sheet.specs.Read.{readSheet}
-use Rattle.sheet.specs.WrittenZero.{movedPlace, SameButPlaces, stays}
+use Rattle.sheet.specs.MovedPlaces.{movedPlace, SameButPlaces, stays}
 use Rattle.sheet.specs.declared.Sheet.{Sheet}
 use Rattle.rules.specs.Plan.{planBytes}
 use Rattle.flight.specs.Choice.{isPossible}

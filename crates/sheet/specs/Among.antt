@@ -32,6 +32,13 @@ false-not-among n (m ∷ numbers) e (inl h) = true≢false (sym (eq-eqb m n (sym
 false-not-among n (m ∷ numbers) e (inr a) = false-not-among n numbers (neither (eqb m n) (isAmong n numbers) e .1) a
 
 -- a number that cannot be missing from a list is among its numbers
+pub among-true : (n : ℕ) (numbers : List ℕ) → Among n numbers → isAmong n numbers ≡ true
+among-true n numbers a = go (isAmong n numbers) refl
+  where
+    go : (b : Bool) → isAmong n numbers ≡ b → b ≡ true
+    go true e = refl
+    go false e = absurd (false-not-among n numbers e a)
+
 pub among-else : (n : ℕ) (numbers : List ℕ) → ((Among n numbers → ⊥) → ⊥) → Among n numbers
 among-else n numbers h = go (isAmong n numbers) refl
   where

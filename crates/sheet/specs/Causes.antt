@@ -12,8 +12,9 @@ use Rattle.field.specs.declared.Field.the-variants.{End, Cut, Whole}
 use Rattle.order.specs.Order.{Proper}
 use Rattle.sheet.specs.Limits.{mostStrips, mostStripsOfDesk, mostBlocks, mostBlocksWithoutOrder}
 use Rattle.sheet.specs.Tags.{mosaicHeadTag, mosaicStripTag, sortingHeadTag, sortingStripTag, flightHeadTag, flightBlockTag, flightOrderTag}
+use Rattle.sheet.specs.Tags.{flightWindowBlockTag}
 use Rattle.sheet.specs.Refusals.{fieldCut, tagNotPermitted, lengthWrong, outOfRange, tooMany, noMembers, orderNotProper, orderMissing}
-use Rattle.sheet.specs.Refusals.{timeTooLarge, timeOfZero}
+use Rattle.sheet.specs.Refusals.{timeTooLarge, timeOfZero, longestBelowShortest}
 use Rattle.sheet.specs.Sections.{noSection, inMosaic, inSorting, inFlight, stripsOfDesk}
 use Rattle.sheet.specs.Among.{Among}
 use Rattle.sheet.specs.FieldTable.{TableRow, tableOf, lengthsDue, fieldValues, Value, Within}
@@ -48,8 +49,9 @@ pub record OrderMissing (tag section members : ℕ) : Type 0 where
   pub ends : EndsSection tag
   pub blocks : ManyBlocks section members
 
--- 4: "tag not permitted next; order field with no block before it". Permitted are the seven ways to go on: "One to three sections stand in the order
--- 10, 20, 30, each at most once"; in a section its members; behind a block "optionally one order field, which ends the sheet".
+-- 4: "tag not permitted next; order field with no block before it". Permitted are the eight ways to go on: "One to three sections stand in the order
+-- 10, 20, 30, each at most once"; in a section its members, in a flight "31 and 33 may be mixed" (02, Req 07); behind a block
+-- "optionally one order field, which ends the sheet".
 pub data Permitted (tag section members : ℕ) : Type 0 where
   mosaic-head : tag ≡ mosaicHeadTag → section ≡ noSection → Permitted tag section members
   mosaic-strip : tag ≡ mosaicStripTag → section ≡ inMosaic → Permitted tag section members
@@ -57,6 +59,7 @@ pub data Permitted (tag section members : ℕ) : Type 0 where
   sorting-strip : tag ≡ sortingStripTag → section ≡ inSorting → Permitted tag section members
   flight-head : tag ≡ flightHeadTag → section < inFlight → Permitted tag section members
   flight-block : tag ≡ flightBlockTag → section ≡ inFlight → Permitted tag section members
+  flight-window-block : tag ≡ flightWindowBlockTag → section ≡ inFlight → Permitted tag section members
   flight-order : tag ≡ flightOrderTag → section ≡ inFlight → 1 ≤ members → Permitted tag section members
 
 -- 5: "length wrong for the tag": not among those that the field table has for it
@@ -90,11 +93,17 @@ unfoldable pub FirstOut : (Value → Type 0) → List Value → Type 0
 FirstOut Out [] = ⊥
 FirstOut Out (v ∷ values) = Out v ⊎ (Within v × FirstOut Out values)
 
--- 7: "41st mosaic strip, 7th for one desk, 33rd block"
+-- 17: "longest below shortest", of a window
+pub record LongestBelowShortest (tag shortest longest : ℕ) : Type 0 where
+  pub is-window : tag ≡ flightWindowBlockTag
+  pub below : longest < shortest
+
+-- 7: "41st mosaic strip, 7th for one desk, 33rd block"; blocks of both tags are counted together
 pub data TooMany (tag members ofDesk : ℕ) : Type 0 where
   strip : tag ≡ mosaicStripTag → mostStrips ≤ members → TooMany tag members ofDesk
   strip-of-desk : tag ≡ sortingStripTag → mostStripsOfDesk ≤ ofDesk → TooMany tag members ofDesk
   block : tag ≡ flightBlockTag → mostBlocks ≤ members → TooMany tag members ofDesk
+  window-block : tag ≡ flightWindowBlockTag → mostBlocks ≤ members → TooMany tag members ofDesk
 
 -- 9: "order number not proper"
 pub record OrderNotProper (tag blocks order : ℕ) : Type 0 where
@@ -103,7 +112,7 @@ pub record OrderNotProper (tag blocks order : ℕ) : Type 0 where
 
 -- The rows that a field of a tag and a content length is checked for, in the order of the checks: "each field for 3, then 8 or 10 if its tag ends the
 -- section before, then 4, 5, 6, 7, 9"; 15 and 16 "both in the place of 6". At most one of the causes of 5, 6, 15 and 16 lies in a field (one whose length is
--- wrong has no values), so the order of these four rows among themselves decides nothing. "Place is the offset of the tag of the field named": the head of
+-- wrong has no values), so the order of these four rows among themselves decides nothing. 17 stands "right after the ranges of the same field and before 7". "Place is the offset of the tag of the field named": the head of
 -- the section for 8 and 10, else the field.
 abbrev pub cutRow : List ℕ → Reading → Row
 cutRow s st = row fieldCut (st .at) (FieldCut s (st .at))
@@ -119,6 +128,7 @@ fieldRows s st tag len =
     ∷ row outOfRange (st .at) (FirstOut CountOutOfRange values)
     ∷ row timeTooLarge (st .at) (FirstOut TimeTooLarge values)
     ∷ row timeOfZero (st .at) (FirstOut TimeOfZero values)
+    ∷ row longestBelowShortest (st .at) (LongestBelowShortest tag (numberAt s (st .at + 3 + 2) 2) (numberAt s (st .at + 3 + 4) 2))
     ∷ row tooMany (st .at) (TooMany tag (st .members) (stripsOfDesk (st .sorting .counts) (numberAt s (st .at + 3) 1)))
     ∷ row orderNotProper (st .at) (OrderNotProper tag (st .members) (numberAt s (st .at + 3) 8))
     ∷ []

@@ -8,6 +8,7 @@ use Rattle.base.specs.Branch.{check}
 use Rattle.order.specs.Order.{isProper}
 use Rattle.sheet.specs.Limits.{mostStrips, mostStripsOfDesk, mostBlocks, mostBlocksWithoutOrder}
 use Rattle.sheet.specs.Tags.{mosaicHeadTag, mosaicStripTag, sortingHeadTag, sortingStripTag, flightHeadTag, flightBlockTag, flightOrderTag}
+use Rattle.sheet.specs.Tags.{flightWindowBlockTag}
 use Rattle.sheet.specs.Refusals.{outOfRange, timeTooLarge, timeOfZero}
 use Rattle.sheet.specs.Sections.{noSection, inMosaic, inSorting, inFlight}
 use Rattle.sheet.specs.FieldTable.{Value}
@@ -43,8 +44,9 @@ permitted tag section members =
     (cond (eqb tag sortingStripTag) (eqb section inSorting)
     (cond (eqb tag flightHeadTag) (ltb section inFlight)
     (cond (eqb tag flightBlockTag) (eqb section inFlight)
+    (cond (eqb tag flightWindowBlockTag) (eqb section inFlight)
     (cond (eqb tag flightOrderTag) (orderPermitted section members)
-    false))))))
+    false)))))))
 
 -- the number that a count gives: 6, "value out of its range"
 unfoldable pub countNumber : ℕ → ℕ → ℕ → ℕ
@@ -68,13 +70,18 @@ valueNumbers (v ∷ values) = valueNumber v ∷ valueNumbers values
 unfoldable pub rangeNumber : List Value → ℕ
 rangeNumber values = firstFailure (valueNumbers values)
 
+-- 17, "longest below shortest": the window of a block that has one is not empty
+unfoldable pub windowOrdered : ℕ → ℕ → ℕ → Bool
+windowOrdered tag shortest longest = cond (eqb tag flightWindowBlockTag) (leb shortest longest) true
+
 -- 7, "41st mosaic strip, 7th for one desk, 33rd block": there is room for one member more
 unfoldable pub hasRoom : ℕ → ℕ → ℕ → Bool
 hasRoom tag members ofDesk =
     cond (eqb tag mosaicStripTag) (ltb members mostStrips)
     (cond (eqb tag sortingStripTag) (ltb ofDesk mostStripsOfDesk)
     (cond (eqb tag flightBlockTag) (ltb members mostBlocks)
-    true))
+    (cond (eqb tag flightWindowBlockTag) (ltb members mostBlocks)
+    true)))
 
 -- 9, "order number not proper"
 unfoldable pub orderProper : ℕ → ℕ → ℕ → Bool

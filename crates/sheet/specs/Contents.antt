@@ -12,8 +12,9 @@ use Rattle.base.specs.Branch.{both}
 use Rattle.field.specs.Bytes.{numberAt}
 use Rattle.sheet.specs.Limits.{mostStations, mostTime}
 use Rattle.sheet.specs.Tags.{mosaicHeadTag, mosaicStripTag, sortingHeadTag, sortingStripTag, flightHeadTag, flightBlockTag, flightOrderTag}
+use Rattle.sheet.specs.Tags.{flightWindowBlockTag}
 use Rattle.sheet.specs.Among.{Among}
-use Rattle.sheet.specs.FieldTable.{Item, TableRow, tableRow, mosaicHead, mosaicStrip, sortingHead, sortingStrip, flightBlock, flightOrder}
+use Rattle.sheet.specs.FieldTable.{Item, TableRow, tableRow, mosaicHead, mosaicStrip, sortingHead, sortingStrip, flightBlock, flightWindowBlock, flightOrder}
 use Rattle.sheet.specs.FieldTable.{emptyFlightHead, turnFlightHead}
 use Rattle.sheet.specs.FieldTable.{isStationCount, stripRows, fieldTable, lengthOf, contentsOf, lengthsOf, lengthsDue, ofLength, Value, numbersAt, valuesOf}
 use Rattle.sheet.specs.FieldTable.{contentValues, fieldValues}
@@ -90,6 +91,10 @@ module _ (stations desks : ℕ) where
   unfolding fieldTable contentsOf
   flight-block-content = past-strip flightBlockTag stations _ (λ e. omega arith)
 
+  pub flight-window-block-content : contentsOf flightWindowBlockTag (fieldTable stations desks) ≡ flightWindowBlock ∷ []
+  unfolding fieldTable contentsOf
+  flight-window-block-content = past-strip flightWindowBlockTag stations _ (λ e. omega arith)
+
   pub flight-order-content : contentsOf flightOrderTag (fieldTable stations desks) ≡ flightOrder ∷ []
   unfolding fieldTable contentsOf
   flight-order-content = past-strip flightOrderTag stations _ (λ e. omega arith)
@@ -101,9 +106,10 @@ module _ (stations desks : ℕ) where
 
   -- a tag outside the table has none
   pub no-content : (tag : ℕ) → (tag ≡ mosaicHeadTag → ⊥) → (tag ≡ mosaicStripTag → ⊥) → (tag ≡ sortingHeadTag → ⊥) → (tag ≡ sortingStripTag → ⊥)
-      → (tag ≡ flightHeadTag → ⊥) → (tag ≡ flightBlockTag → ⊥) → (tag ≡ flightOrderTag → ⊥) → contentsOf tag (fieldTable stations desks) ≡ []
+      → (tag ≡ flightHeadTag → ⊥) → (tag ≡ flightBlockTag → ⊥) → (tag ≡ flightWindowBlockTag → ⊥) → (tag ≡ flightOrderTag → ⊥)
+      → contentsOf tag (fieldTable stations desks) ≡ []
   unfolding fieldTable contentsOf
-  no-content tag h₁ h₂ h₃ h₄ h₅ h₆ h₇ =
+  no-content tag h₁ h₂ h₃ h₄ h₅ h₆ h₇ h₈ =
       rw (
         ne-eqb tag mosaicHeadTag h₁,
         past-strip tag stations _ h₂,
@@ -111,7 +117,8 @@ module _ (stations desks : ℕ) where
         ne-eqb tag sortingStripTag h₄,
         ne-eqb tag flightHeadTag h₅,
         ne-eqb tag flightBlockTag h₆,
-        ne-eqb tag flightOrderTag h₇,
+        ne-eqb tag flightWindowBlockTag h₇,
+        ne-eqb tag flightOrderTag h₈,
       )
 
 -- a row of a tag whose content has a length
@@ -262,6 +269,14 @@ module _ (s : List ℕ) (c len stations desks : ℕ) where
   flight-block-values due =
       sole-values flightBlockTag len _ flightBlock (flight-block-content stations desks) due s c
       ∙ ap (λ at. valuesOf flightBlock (numberAt s c 2 ∷ numberAt s (c + 2) 2 ∷ numberAt s at 2 ∷ [])) (omega arith)
+
+  pub flight-window-block-values : Among len (lengthsDue flightWindowBlockTag (fieldTable stations desks))
+      → fieldValues s c flightWindowBlockTag len (fieldTable stations desks)
+      ≡ valuesOf flightWindowBlock (numberAt s c 2 ∷ numberAt s (c + 2) 2 ∷ numberAt s (c + 4) 2 ∷ numberAt s (c + 6) 2 ∷ [])
+  unfolding contentValues flightWindowBlock numbersAt
+  flight-window-block-values due =
+      sole-values flightWindowBlockTag len _ flightWindowBlock (flight-window-block-content stations desks) due s c
+      ∙ ap₂ (λ i j. valuesOf flightWindowBlock (numberAt s c 2 ∷ numberAt s (c + 2) 2 ∷ numberAt s i 2 ∷ numberAt s j 2 ∷ [])) (omega arith) (omega arith)
 
   pub flight-order-values : Among len (lengthsDue flightOrderTag (fieldTable stations desks))
       → fieldValues s c flightOrderTag len (fieldTable stations desks) ≡ valuesOf flightOrder (numberAt s c 8 ∷ [])

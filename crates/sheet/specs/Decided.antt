@@ -18,14 +18,16 @@ use Rattle.field.specs.declared.Field.the-variants.{End, Cut, Whole}
 use Rattle.order.specs.Decided.{true-proper, false-proper}
 use Rattle.sheet.specs.Limits.{mostBlocksWithoutOrder}
 use Rattle.sheet.specs.Tags.{mosaicHeadTag, mosaicStripTag, sortingHeadTag, sortingStripTag, flightHeadTag, flightBlockTag, flightOrderTag}
-use Rattle.sheet.specs.Refusals.{fieldCut, tagNotPermitted, lengthWrong, tooMany, noMembers, orderNotProper, orderMissing}
+use Rattle.sheet.specs.Tags.{flightWindowBlockTag}
+use Rattle.sheet.specs.Refusals.{fieldCut, tagNotPermitted, lengthWrong, tooMany, noMembers, orderNotProper, orderMissing, longestBelowShortest}
 use Rattle.sheet.specs.Sections.{noSection, inFlight, stripsOfDesk}
 use Rattle.sheet.specs.FieldTable.{tableOf, lengthsDue, fieldValues}
 use Rattle.sheet.specs.Rows.{firstFailure}
 use Rattle.sheet.specs.RowLaws.{Gives, Answers, gives-check, answers-none, answers-behind, answers-row, answers-rows}
 use Rattle.sheet.specs.Among.{Among, isAmong, true-among, false-not-among}
-use Rattle.sheet.specs.Causes.{FieldCut, EndsSection, NoMembers, ManyBlocks, OrderMissing, Permitted, TooMany, OrderNotProper, cutRow, fieldRows, endRows}
-use Rattle.sheet.specs.Checks.{endsSection, sectionFilled, fewBlocks, orderGiven, orderPermitted, permitted, hasRoom, orderProper}
+use Rattle.sheet.specs.Causes.{FieldCut, EndsSection, NoMembers, ManyBlocks, OrderMissing, Permitted, LongestBelowShortest, TooMany, OrderNotProper, cutRow}
+use Rattle.sheet.specs.Causes.{fieldRows, endRows}
+use Rattle.sheet.specs.Checks.{endsSection, sectionFilled, fewBlocks, orderGiven, orderPermitted, permitted, windowOrdered, hasRoom, orderProper}
 use Rattle.sheet.specs.Ranges.{range-answers}
 use Rattle.sheet.specs.Read.{contentChecks, fieldChecks, fieldNumber, endChecks, endNumber, placeOf}
 use Rattle.sheet.specs.declared.Reading.{Reading}
@@ -112,8 +114,10 @@ module _ (tag section members : ℕ) where
       (λ e. ⊎-elim (λ h. Permitted.sorting-strip (h .0) (eqb-true _ _ (h .1)))
       (λ e. ⊎-elim (λ h. Permitted.flight-head (h .0) (ltb-true _ _ (h .1)))
       (λ e. ⊎-elim (λ h. Permitted.flight-block (h .0) (eqb-true _ _ (h .1)))
+      (λ e. ⊎-elim (λ h. Permitted.flight-window-block (h .0) (eqb-true _ _ (h .1)))
       (λ e. ⊎-elim (λ h. order-next (h .0) (both _ _ (h .1))) (λ n. absurd (true≢false (sym n)))
       (split tag flightOrderTag _ _ true e))
+      (split tag flightWindowBlockTag _ _ true e))
       (split tag flightBlockTag _ _ true e))
       (split tag flightHeadTag _ _ true e))
       (split tag sortingStripTag _ _ true e))
@@ -132,6 +136,7 @@ module _ (tag section members : ℕ) where
   permitted-true (Permitted.sorting-strip t h) = rw t (eq-eqb _ _ h)
   permitted-true (Permitted.flight-head t h) = rw t (lt-ltb _ _ h)
   permitted-true (Permitted.flight-block t h) = rw t (eq-eqb _ _ h)
+  permitted-true (Permitted.flight-window-block t h) = rw t (eq-eqb _ _ h)
   permitted-true (Permitted.flight-order t h k) = rw (t, eq-eqb section inFlight h) (le-leb _ _ k)
 
   pub false-permitted : permitted tag section members ≡ false → Permitted tag section members → ⊥
@@ -144,6 +149,21 @@ module _ (tag section members : ℕ) where
 pub length-given : (len : ℕ) (due : List ℕ) → Gives (check (isAmong len due) lengthWrong 0) lengthWrong (Among len due → ⊥)
 length-given len due = gives-check _ _ _ (false-not-among len due) (λ e n. n (true-among len due e))
 
+-- 17
+module _ (tag shortest longest : ℕ) where
+  false-below : windowOrdered tag shortest longest ≡ false → LongestBelowShortest tag shortest longest
+  unfolding windowOrdered
+  false-below e =
+      ⊎-elim (λ h. record { is-window = h .0; below = leb-false _ _ (h .1) }) (λ n. absurd (true≢false n)) (split tag flightWindowBlockTag _ _ false e)
+
+  below-false : LongestBelowShortest tag shortest longest → windowOrdered tag shortest longest ≡ false
+  unfolding windowOrdered
+  below-false c = rw (c .is-window) (lt-leb _ _ (c .below))
+
+  pub window-given : Gives (check (windowOrdered tag shortest longest) longestBelowShortest 0) longestBelowShortest
+      (LongestBelowShortest tag shortest longest)
+  window-given = decided _ _ _ false-below below-false
+
 -- 7
 module _ (tag members ofDesk : ℕ) where
   false-many-members : hasRoom tag members ofDesk ≡ false → TooMany tag members ofDesk
@@ -151,7 +171,9 @@ module _ (tag members ofDesk : ℕ) where
   false-many-members e =
       ⊎-elim (λ h. TooMany.strip (h .0) (ltb-false _ _ (h .1)))
       (λ e. ⊎-elim (λ h. TooMany.strip-of-desk (h .0) (ltb-false _ _ (h .1)))
-      (λ e. ⊎-elim (λ h. TooMany.block (h .0) (ltb-false _ _ (h .1))) (λ n. absurd (true≢false n))
+      (λ e. ⊎-elim (λ h. TooMany.block (h .0) (ltb-false _ _ (h .1)))
+      (λ e. ⊎-elim (λ h. TooMany.window-block (h .0) (ltb-false _ _ (h .1))) (λ n. absurd (true≢false n))
+      (split tag flightWindowBlockTag _ _ false e))
       (split tag flightBlockTag _ _ false e))
       (split tag sortingStripTag _ _ false e))
       (split tag mosaicStripTag _ _ false e)
@@ -161,6 +183,7 @@ module _ (tag members ofDesk : ℕ) where
   many-members-false (TooMany.strip t h) = rw t (le-ltb _ _ h)
   many-members-false (TooMany.strip-of-desk t h) = rw t (le-ltb _ _ h)
   many-members-false (TooMany.block t h) = rw t (le-ltb _ _ h)
+  many-members-false (TooMany.window-block t h) = rw t (le-ltb _ _ h)
 
   pub room-given : Gives (check (hasRoom tag members ofDesk) tooMany 0) tooMany (TooMany tag members ofDesk)
   room-given = decided _ _ _ false-many-members many-members-false
@@ -222,9 +245,10 @@ module _ (s : List ℕ) (st : Reading) where
       (λ _. answers-row place _ _ _ _ _ _ (omega arith) refl (permitted-given tag (st .section) (st .members))
       (λ _. answers-row place _ _ _ _ _ _ (omega arith) refl (length-given len (lengthsDue tag (tableOf st)))
       (λ _. answers-rows _ _ place _ _ (range-answers place (st .at) refl refl refl (fieldValues s c tag len (tableOf st)))
+      (λ _. answers-row place _ _ _ _ _ _ (omega arith) refl (window-given tag (numberAt s (c + 2) 2) (numberAt s (c + 4) 2))
       (λ _. answers-row place _ _ _ _ _ _ (omega arith) refl (room-given tag (st .members) (stripsOfDesk (st .sorting .counts) (numberAt s c 1)))
       (λ _. answers-row place _ _ _ _ _ _ (omega arith) refl (proper-given tag (st .members) (numberAt s c 8))
-      (λ _. answers-none _))))))))
+      (λ _. answers-none _)))))))))
 
 -- the checks of the end of the sheet
 members-at-end : (members : ℕ) → Gives (check (leb 1 members) noMembers 0) noMembers (members < 1)

@@ -6,6 +6,7 @@ use lib.ListN.{set, replicate}
 use lib.Dec.{eqb}
 use Rattle.field.specs.Bytes.{numberAt}
 use Rattle.sheet.specs.Tags.{mosaicHeadTag, mosaicStripTag, sortingHeadTag, sortingStripTag, flightHeadTag, flightBlockTag, flightOrderTag}
+use Rattle.sheet.specs.Tags.{flightWindowBlockTag}
 use Rattle.sheet.specs.Sections.{noSection, inMosaic, inSorting, inFlight, afterOrder, stripsOfDesk}
 use Rattle.sheet.specs.Checks.{endsSection}
 use Rattle.sheet.specs.declared.MosaicSection.{MosaicSection}
@@ -90,6 +91,10 @@ withFlightHead s c len at = begunFlight (turnOf s c len) at
 unfoldable pub exactBlock : List ℕ → ℕ → Block
 exactBlock s c = record { first = numberAt s c 2; shortest = numberAt s (c + 2) 2; longest = numberAt s (c + 2) 2; second = numberAt s (c + 4) 2 }
 
+-- 33 (02, Req 07), "a, shortest delay, longest delay, b"
+unfoldable pub windowBlock : List ℕ → ℕ → Block
+windowBlock s c = record { first = numberAt s c 2; shortest = numberAt s (c + 2) 2; longest = numberAt s (c + 4) 2; second = numberAt s (c + 6) 2 }
+
 unfoldable pub withBlock : Block → FlightSection → FlightSection
 withBlock b f =
     record {
@@ -129,8 +134,9 @@ unfoldable pub nextFlight : List ℕ → ℕ → ℕ → ℕ → ℕ → FlightS
 nextFlight s c tag len at f =
     cond (eqb tag flightHeadTag) (withFlightHead s c len at)
     (cond (eqb tag flightBlockTag) (withBlock (exactBlock s c) f)
+    (cond (eqb tag flightWindowBlockTag) (withBlock (windowBlock s c) f)
     (cond (eqb tag flightOrderTag) (withOrder s c at f)
-    f))
+    f)))
 
 -- the section that a permitted tag leads to
 unfoldable pub nextSection : ℕ → ℕ → ℕ

@@ -1,6 +1,6 @@
--- The field table of 01 ("The sheet"), with the second flight head of 02, Req 06: for each tag the numbers of its content from left to right, each with its
--- width in bytes and its range. The length of a content is the sum of its widths. Where the quoted table has 10,000 the upper end of a time is now `mostTime`,
--- 60,000 (02, Req 01); the lower ends are the table's.
+-- The field table of 01 ("The sheet"), with the second flight head of 02, Req 06, and the second block of Req 07: for each tag the numbers of its content from
+-- left to right, each with its width in bytes and its range. The length of a content is the sum of its widths. Where the quoted table has 10,000 the upper end
+-- of a time is now `mostTime`, 60,000 (02, Req 01); the lower ends are the table's.
 use Prim.{Unit}
 use Prim.Native.Nat.{ℕ, zero, suc, _+_, _≤_}
 use mathlib.Core.Bool.{Bool, cond, _&&_}
@@ -9,6 +9,7 @@ use lib.Dec.{eqb, leb}
 use Rattle.field.specs.Bytes.{numberAt}
 use Rattle.sheet.specs.Limits.{mostStations, mostDesks, mostTime, mostTurn}
 use Rattle.sheet.specs.Tags.{mosaicHeadTag, mosaicStripTag, sortingHeadTag, sortingStripTag, flightHeadTag, flightBlockTag, flightOrderTag}
+use Rattle.sheet.specs.Tags.{flightWindowBlockTag}
 use Rattle.sheet.specs.declared.Reading.{Reading}
 
 -- The range of a number: a count from `least` to `most`, a time from 0 to `most`, a time from 1 to `most`, or none.
@@ -54,6 +55,10 @@ turnFlightHead = item 2 (time mostTurn) ∷ []
 unfoldable pub flightBlock : List Item
 flightBlock = item 2 (positiveTime mostTime) ∷ item 2 (time mostTime) ∷ item 2 (positiveTime mostTime) ∷ []
 
+-- 02, Req 07: "a, shortest delay, longest delay, b, each as in 31"
+unfoldable pub flightWindowBlock : List Item
+flightWindowBlock = item 2 (positiveTime mostTime) ∷ item 2 (time mostTime) ∷ item 2 (time mostTime) ∷ item 2 (positiveTime mostTime) ∷ []
+
 -- "an 8-byte number"
 unfoldable pub flightOrder : List Item
 flightOrder = item 8 noRange ∷ []
@@ -83,6 +88,7 @@ fieldTable stations desks =
     ∷ tableRow flightHeadTag emptyFlightHead
     ∷ tableRow flightHeadTag turnFlightHead
     ∷ tableRow flightBlockTag flightBlock
+    ∷ tableRow flightWindowBlockTag flightWindowBlock
     ∷ tableRow flightOrderTag flightOrder
     ∷ []))
 

@@ -1,5 +1,7 @@
--- Where the flight's head and its order field stand in a sheet (02, Req 06: 11 is given at one or the other), and what turn the head gives.
--- The idea: the place that the reading keeps is that of the field which it has just passed, and the fields between change neither it nor the turn.
+-- Where the flight's head and its order field stand in a sheet (02, Req 06: 11 is given at one or the other), what turn the head gives, and which field each block
+-- was read from (Req 07).
+-- The idea: the place that the reading keeps is that of the field which it has just passed, and the fields between change neither it nor the turn; a block is added
+-- behind those before it.
 use Prim.Native.Nat.{ℕ, _+_, _≤_, _<_}
 use mathlib.Core.Path.{_≡_, refl, sym, ap, subst, _∙_}
 use mathlib.Core.Bool.{true, false, true≢false}
@@ -7,10 +9,14 @@ use mathlib.Core.List.{List}
 use mathlib.Core.Logic.{_⊎_, inl, inr}
 use native.Mathlib.Decide.{ℕ-discrete, decLt}
 use native.Mathlib.Omega.{arith}
+use lib.ListN.{getD}
+use borrow.Author.Tests.{ne-eqb}
 use Rattle.field.specs.Bytes.{numberAt}
 use Rattle.field.specs.Field.{fieldAt}
 use Rattle.field.specs.declared.Field.the-variants.{Whole}
+use Rattle.sheet.specs.Limits.{mostBlocks}
 use Rattle.sheet.specs.Tags.{mosaicHeadTag, mosaicStripTag, sortingHeadTag, sortingStripTag, flightHeadTag, flightBlockTag, flightOrderTag}
+use Rattle.sheet.specs.Tags.{flightWindowBlockTag}
 use Rattle.sheet.specs.Sections.{inFlight, afterOrder}
 use Rattle.sheet.specs.Among.{Among}
 use Rattle.sheet.specs.FieldTable.{tableOf, lengthsDue}
@@ -19,11 +25,14 @@ use Rattle.sheet.specs.Causes.{Permitted, fieldRows}
 use Rattle.sheet.specs.Rows.{NoCause}
 use Rattle.sheet.specs.Table.{Reached}
 use Rattle.sheet.specs.Table.Reached.{at-start, past-field}
-use Rattle.sheet.specs.Decode.{turnOf, withFlightHead, withBlock, withOrder, nextFlight, nextSection, nextReading, startReading}
+use Rattle.sheet.specs.Decode.{noFlight, turnOf, withFlightHead, exactBlock, windowBlock, withBlock, withOrder, nextFlight, nextSection, nextReading, startReading}
 use Rattle.sheet.specs.Read.{readSheet, accepted, refused}
+use Rattle.sheet.specs.Sound.{FlightWithin}
+use Rattle.sheet.specs.Stores.{set-here, set-there}
 use Rattle.sheet.specs.Passed.{passed-rows}
 use Rattle.sheet.specs.Invariant.{Kept}
 use Rattle.sheet.specs.Theorems.{Outcome, is-accepted, is-refused, read-outcome, refused-some, reached-progress}
+use Rattle.sheet.specs.declared.Block.{Block}
 use Rattle.sheet.specs.declared.FlightSection.{FlightSection}
 use Rattle.sheet.specs.declared.Reading.{Reading}
 use Rattle.sheet.specs.declared.Sheet.{Sheet}
@@ -84,14 +93,23 @@ module _ (s : List ℕ) (st : Reading) (len : ℕ) (r : Reached s st) (p : Place
     order = λ d. absurd (omega arith);
   }
 
-  at-block : st .section ≡ inFlight → Placed s (nextReading s st flightBlockTag len)
-  unfolding nextReading nextSection nextFlight withBlock
-  at-block e =
+  -- a block of either tag
+  with-block : (b : Block) (next : Reading) → st .section ≡ inFlight → next .section ≡ inFlight → next .flight ≡ withBlock b (st .flight) → Placed s next
+  unfolding withBlock
+  with-block b next e d f =
       let h = p .head (omega arith) in
       record {
-        head = λ _. record { at = h .at; len = h .len; head = h .head; turn-is = h .turn-is; place-is = h .place-is };
-        order = λ d. absurd (omega arith);
+        head = λ _. rw f (record { at = h .at; len = h .len; head = h .head; turn-is = h .turn-is; place-is = h .place-is });
+        order = λ q. absurd (omega arith);
       }
+
+  at-block : st .section ≡ inFlight → Placed s (nextReading s st flightBlockTag len)
+  unfolding nextReading nextSection nextFlight
+  at-block e = with-block (exactBlock s (st .at + 3)) _ e e refl
+
+  at-window-block : st .section ≡ inFlight → Placed s (nextReading s st flightWindowBlockTag len)
+  unfolding nextReading nextSection nextFlight
+  at-window-block e = with-block (windowBlock s (st .at + 3)) _ e e refl
 
   at-order : st .section ≡ inFlight → fieldAt s (st .at) ≡ Whole flightOrderTag len → NoCause (fieldRows s st flightOrderTag len)
       → Placed s (nextReading s st flightOrderTag len)
@@ -117,6 +135,7 @@ module _ (s : List ℕ) (st : Reading) (tag len : ℕ) (r : Reached s st) (e : f
   placed-case (Permitted.sorting-strip q h) = at-tag sortingStripTag q (λ _ _. early s st len r p sortingStripTag (omega arith))
   placed-case (Permitted.flight-head q h) = at-tag flightHeadTag q (at-head s st len r p)
   placed-case (Permitted.flight-block q h) = at-tag flightBlockTag q (λ _ _. at-block s st len r p h)
+  placed-case (Permitted.flight-window-block q h) = at-tag flightWindowBlockTag q (λ _ _. at-window-block s st len r p h)
   placed-case (Permitted.flight-order q h l) = at-tag flightOrderTag q (at-order s st len r p h)
 
 placed : (s : List ℕ) (st : Reading) → Reached s st → Placed s st
@@ -152,4 +171,93 @@ module _ (s : List ℕ) where
           after given (yes l) d = absurd (true≢false (sym given ∙ kept-at st r .before-flight l .1))
           after given (no l) (yes d) = absurd (true≢false (sym given ∙ kept-at st r .in-flight d .1))
           after given (no l) (no d) = placed s st r .order (omega (arith, kept-at st r .known))
+      go x (is-refused st number place r c e) z = absurd (refused-some s st _ number place c (sym (ap (λ y. y .number) e) ∙ z))
+
+-- block i, from 0, of a flight section
+abbrev pub blockAt : FlightSection → ℕ → Block
+blockAt f i = record { first = getD (f .first) i 0; shortest = getD (f .shortest) i 0; longest = getD (f .longest) i 0; second = getD (f .second) i 0 }
+
+-- the field that a block was read from: one of tag 31, whose delay is exact, or one of tag 33, which carries "a, shortest delay, longest delay, b"
+pub data BlockRead (s : List ℕ) (b : Block) : Type 0 where
+  exact : (len at : ℕ) → FieldRead s flightBlockTag len at → b ≡ exactBlock s (at + 3) → BlockRead s b
+  window : (len at : ℕ) → FieldRead s flightWindowBlockTag len at → b ≡ windowBlock s (at + 3) → BlockRead s b
+
+-- a block that is added, and those before it
+module _ (b : Block) (f : FlightSection) (k : FlightWithin mostBlocks f) (room : f .blocks < mostBlocks) where
+  added-block : blockAt (withBlock b f) (f .blocks) ≡ b
+  unfolding withBlock
+  added-block =
+      rw (
+        set-here (f .first) (f .blocks) (f .blocks) (b .first) (omega (arith, k .first-length)) refl,
+        set-here (f .shortest) (f .blocks) (f .blocks) (b .shortest) (omega (arith, k .shortest-length)) refl,
+        set-here (f .longest) (f .blocks) (f .blocks) (b .longest) (omega (arith, k .longest-length)) refl,
+        set-here (f .second) (f .blocks) (f .blocks) (b .second) (omega (arith, k .second-length)) refl,
+      )
+
+  block-before : (i : ℕ) → (i ≡ f .blocks → ⊥) → blockAt (withBlock b f) i ≡ blockAt f i
+  unfolding withBlock
+  block-before i n =
+      rw (
+        set-there (f .first) (f .blocks) i (b .first) n,
+        set-there (f .shortest) (f .blocks) i (b .shortest) n,
+        set-there (f .longest) (f .blocks) i (b .longest) n,
+        set-there (f .second) (f .blocks) i (b .second) n,
+      )
+
+module _ (s : List ℕ) (st : Reading) (tag len : ℕ) (r : Reached s st) (e : fieldAt s (st .at) ≡ Whole tag len) (c : NoCause (fieldRows s st tag len))
+    (before : (i : ℕ) → i < st .flight .blocks → BlockRead s (blockAt (st .flight) i)) where
+  next : FlightSection
+  next = nextFlight s (st .at + 3) tag len (st .at) (st .flight)
+
+  most : next .blocks ≤ mostBlocks
+  unfolding next nextReading
+  most = reached-progress s (nextReading s st tag len) (past-field tag len r e c) .kept .flight .most-blocks
+
+  read-here : (t : ℕ) → tag ≡ t → FieldRead s t len (st .at)
+  read-here t q = subst (λ x. FieldRead s x len (st .at)) q (record { reading = st; reached = r; place-is = refl; whole = e; passes = c })
+
+  with-one-more : (b : Block) → next ≡ withBlock b (st .flight) → BlockRead s b → (i : ℕ) → Dec (i ≡ st .flight .blocks) → i < next .blocks
+      → BlockRead s (blockAt next i)
+  unfolding withBlock
+  with-one-more b q here i (yes h) l =
+      let one-more = ap (λ (f : FlightSection). f .blocks) q in
+      rw (q, h, added-block b (st .flight) (reached-progress s st r .kept .flight) (omega (arith, most, one-more))) here
+  with-one-more b q here i (no h) l =
+      let one-more = ap (λ (f : FlightSection). f .blocks) q in
+      rw (q, block-before b (st .flight) (reached-progress s st r .kept .flight) (omega (arith, most, one-more)) i h) (before i (omega (arith, one-more)))
+
+  next-blocks-read : (i : ℕ) → i < next .blocks → BlockRead s (blockAt next i)
+  unfolding next nextFlight withFlightHead withOrder
+  next-blocks-read i l =
+      go (ℕ-discrete tag flightHeadTag) (ℕ-discrete tag flightBlockTag) (ℕ-discrete tag flightWindowBlockTag) (ℕ-discrete tag flightOrderTag) l
+    where
+      same : (f : FlightSection) → next ≡ f → i < next .blocks → i < f .blocks
+      same f q l = rw q at l
+
+      go : Dec (tag ≡ flightHeadTag) → Dec (tag ≡ flightBlockTag) → Dec (tag ≡ flightWindowBlockTag) → Dec (tag ≡ flightOrderTag) → i < next .blocks
+          → BlockRead s (blockAt next i)
+      go (yes q) d₂ d₃ d₄ l = absurd (omega (arith, same (withFlightHead s (st .at + 3) len (st .at)) (rw q) l))
+      go (no n₁) (yes q) d₃ d₄ l =
+          with-one-more (exactBlock s (st .at + 3)) (rw q) (BlockRead.exact len (st .at) (read-here flightBlockTag q) refl) i (ℕ-discrete i _) l
+      go (no n₁) (no n₂) (yes q) d₄ l =
+          with-one-more (windowBlock s (st .at + 3)) (rw q) (BlockRead.window len (st .at) (read-here flightWindowBlockTag q) refl) i (ℕ-discrete i _) l
+      go (no n₁) (no n₂) (no n₃) (yes q) l = rw q (before i (same (withOrder s (st .at + 3) (st .at) (st .flight)) (rw q) l))
+      go (no n₁) (no n₂) (no n₃) (no n₄) l =
+          let none : next ≡ st .flight =
+          rw (ne-eqb tag flightHeadTag n₁, ne-eqb tag flightBlockTag n₂, ne-eqb tag flightWindowBlockTag n₃, ne-eqb tag flightOrderTag n₄) in
+          rw none (before i (same (st .flight) none l))
+
+module _ (s : List ℕ) where
+  all-blocks-read : (st : Reading) → Reached s st → (i : ℕ) → i < st .flight .blocks → BlockRead s (blockAt (st .flight) i)
+  unfolding startReading noFlight nextReading next
+  all-blocks-read st at-start i l = absurd (omega arith)
+  all-blocks-read st (past-field {st = st₀} tag len r e c) i l = next-blocks-read s st₀ tag len r e c (λ j h. all-blocks-read st₀ r j h) i l
+
+  -- Of a sheet that is read with number 0, each block of the flight was read from a field of the one tag or the other.
+  pub block-read : readSheet s .number ≡ 0 → (i : ℕ) → i < readSheet s .flight .blocks → BlockRead s (blockAt (readSheet s .flight) i)
+  unfolding refused accepted
+  block-read z = go (readSheet s) (read-outcome s) z
+    where
+      go : (x : Sheet) → Outcome s x → x .number ≡ 0 → (i : ℕ) → i < x .flight .blocks → BlockRead s (blockAt (x .flight) i)
+      go x (is-accepted st r c e) z = rw e (all-blocks-read st r)
       go x (is-refused st number place r c e) z = absurd (refused-some s st _ number place c (sym (ap (λ y. y .number) e) ∙ z))

@@ -1,4 +1,4 @@
--- What holds wherever a reading stands, and that a field which passes its checks keeps it. The field's tag is one of seven; each is one law.
+-- What holds wherever a reading stands, and that a field which passes its checks keeps it. The field's tag is one of eight; each is one law.
 use Prim.Native.Nat.{ℕ, _+_, _≤_, _<_}
 use mathlib.Core.Path.{_≡_, refl, sym, ap, _∙_, subst}
 use mathlib.Core.Bool.{true, false}
@@ -8,9 +8,11 @@ use lib.ListN.{length}
 use native.Mathlib.Decide.{decLt}
 use Rattle.sheet.specs.Limits.{mostBlocks, mostStrips}
 use Rattle.sheet.specs.Tags.{mosaicHeadTag, mosaicStripTag, sortingHeadTag, sortingStripTag, flightHeadTag, flightBlockTag, flightOrderTag}
+use Rattle.sheet.specs.Tags.{flightWindowBlockTag}
 use Rattle.sheet.specs.Sections.{noSection, inMosaic, inSorting, inFlight, afterOrder}
 use Rattle.sheet.specs.Checks.{endsSection}
 use Rattle.sheet.specs.Contents.{mosaic-head-values, mosaic-strip-values, sorting-head-values, sorting-strip-values, flight-head-values, flight-block-values}
+use Rattle.sheet.specs.Contents.{flight-window-block-values}
 use Rattle.sheet.specs.Causes.{Permitted, TooMany}
 use Rattle.sheet.specs.Decode.{noFlight, withMosaicHead, withMosaicStrip, withSortingHead, withFlightHead, withBlock, withOrder, nextMosaic, nextSorting, nextFlight}
 use Rattle.sheet.specs.Decode.{nextSection, nextHead, nextMembers, nextReading, startReading}
@@ -18,7 +20,9 @@ use Rattle.sheet.specs.Sound.{MosaicSound, SortingSound, FlightWithin, s
 use Rattle.sheet.specs.Stores.{zeros-at}
 use Rattle.sheet.specs.Passed.{Passed, within-by}
 use Rattle.sheet.specs.SectionLaws.{no-mosaic-sound, no-sorting-sound, no-flight-sound, mosaic-head-sound, mosaic-strip-sound, sorting-head-sound}
-use Rattle.sheet.specs.SectionLaws.{sorting-strip-sound, sorting-strip-more, flight-head-sound, exact-block-sound, block-sound, order-sound}
+use Rattle.sheet.specs.SectionLaws.{sorting-strip-sound, sorting-strip-more, flight-head-sound, BlockSound, exact-block-sound, window-block-sound}
+use Rattle.sheet.specs.SectionLaws.{block-sound, order-sound}
+use Rattle.sheet.specs.declared.Block.{Block}
 use Rattle.sheet.specs.declared.Reading.{Reading}
 
 pub record Kept (s : List ℕ) (st : Reading) : Type 0 where
@@ -161,28 +165,47 @@ module _ (s : List ℕ) (st : Reading) (len : ℕ) (k : Kept s st) (w : st .at +
         after-order = λ q. absurd (omega arith);
       }
 
-  kept-flight-block : Passed s st flightBlockTag len → st .section ≡ inFlight → Kept s (nextReading s st flightBlockTag len)
-  unfolding nextReading nextSection nextHead nextMembers nextMosaic nextSorting nextFlight endsSection withBlock
-  kept-flight-block p e =
+  -- a block of either tag
+  kept-block : (b : Block) → st .section ≡ inFlight → st .members < mostBlocks → BlockSound b
+      → Kept s (record {
+        at = st .at + 3 + len;
+        section = st .section;
+        head = st .head;
+        members = st .members + 1;
+        mosaic = st .mosaic;
+        sorting = st .sorting;
+        flight = withBlock b (st .flight);
+      })
+  unfolding withBlock
+  kept-block b e room sound =
       let f = k .few-members in
-      let b = k .in-flight e in
-      let r : st .members < mostBlocks = below _ _ (λ h. p .room-ok (TooMany.block refl h)) in
+      let i = k .in-flight e in
       record {
         within = w;
         few-members = omega arith;
         known = omega arith;
         mosaic = k .mosaic;
         sorting = k .sorting;
-        flight =
-            block-sound _ (st .flight) (k .flight) (b .1) (omega (arith, b .0))
-            (exact-block-sound s (st .at + 3) (within-by p (flight-block-values s (st .at + 3) len _ _)));
+        flight = block-sound b (st .flight) (k .flight) (i .1) (omega (arith, i .0)) sound;
         in-none = λ q. absurd (omega arith);
         in-mosaic = λ q. absurd (omega arith);
         in-sorting = λ q. absurd (omega arith);
         before-flight = λ q. absurd (omega arith);
-        in-flight = λ _. (ap (λ n. n + 1) (b .0), b .1);
+        in-flight = λ _. (ap (λ n. n + 1) (i .0), i .1);
         after-order = λ q. absurd (omega arith);
       }
+
+  kept-flight-block : Passed s st flightBlockTag len → st .section ≡ inFlight → Kept s (nextReading s st flightBlockTag len)
+  unfolding nextReading nextSection nextHead nextMembers nextMosaic nextSorting nextFlight endsSection
+  kept-flight-block p e =
+      kept-block _ e (below _ _ (λ h. p .room-ok (TooMany.block refl h)))
+      (exact-block-sound s (st .at + 3) (within-by p (flight-block-values s (st .at + 3) len _ _)))
+
+  kept-flight-window-block : Passed s st flightWindowBlockTag len → st .section ≡ inFlight → Kept s (nextReading s st flightWindowBlockTag len)
+  unfolding nextReading nextSection nextHead nextMembers nextMosaic nextSorting nextFlight endsSection
+  kept-flight-window-block p e =
+      kept-block _ e (below _ _ (λ h. p .room-ok (TooMany.window-block refl h)))
+      (window-block-sound s (st .at + 3) (within-by p (flight-window-block-values s (st .at + 3) len _ _)) (p .window-ok refl))
 
   kept-flight-order : Passed s st flightOrderTag len → st .section ≡ inFlight → Kept s (nextReading s st flightOrderTag len)
   unfolding nextReading nextSection nextHead nextMembers nextMosaic nextSorting nextFlight endsSection withOrder
@@ -216,6 +239,7 @@ module _ (s : List ℕ) (st : Reading) (tag len : ℕ) (k : Kept s st) (w : st .
   kept-case (Permitted.sorting-strip e h) = at-tag sortingStripTag e (λ q. kept-sorting-strip s st len k w q h)
   kept-case (Permitted.flight-head e h) = at-tag flightHeadTag e (λ q. kept-flight-head s st len k w q h)
   kept-case (Permitted.flight-block e h) = at-tag flightBlockTag e (λ q. kept-flight-block s st len k w q h)
+  kept-case (Permitted.flight-window-block e h) = at-tag flightWindowBlockTag e (λ q. kept-flight-window-block s st len k w q h)
   kept-case (Permitted.flight-order e h l) = at-tag flightOrderTag e (λ q. kept-flight-order s st len k w q h)
 
   pub kept-next : Kept s (nextReading s st tag len)

@@ -28,4 +28,6 @@ pub mod Progress
 pub mod Computes
 pub mod FlightPlaces
 pub mod SameContent
+pub mod MovedPlaces
 pub mod WrittenZero
+pub mod OneValue

@@ -1,14 +1,16 @@
 -- A field that passes every row: what the rows' causes shut out, stated of the field.
-use Prim.Native.Nat.{ℕ, _+_}
+use Prim.Native.Nat.{ℕ, _+_, _≤_, _<_}
 use mathlib.Core.Path.{_≡_, refl, subst}
 use mathlib.Core.Bool.{Bool, true, false}
 use mathlib.Core.List.{List, _∷_}
+use native.Mathlib.Decide.{decLt}
+use native.Mathlib.Omega.{arith}
 use Rattle.field.specs.Bytes.{numberAt}
 use Rattle.field.specs.Field.{fieldAt}
 use Rattle.field.specs.declared.Field.the-variants.{Whole}
 use Rattle.order.specs.Order.{Proper, isProper}
 use Rattle.order.specs.Decided.{proper-true, proper-decided}
-use Rattle.sheet.specs.Tags.{flightOrderTag}
+use Rattle.sheet.specs.Tags.{flightOrderTag, flightWindowBlockTag}
 use Rattle.sheet.specs.Sections.{stripsOfDesk}
 use Rattle.sheet.specs.FieldTable.{tableOf, lengthsDue, Value, fieldValues, Within, InRange}
 use Rattle.sheet.specs.Among.{Among, among-else}
@@ -25,11 +27,12 @@ pub record Passed (s : List ℕ) (st : Reading) (tag len : ℕ) : Type 0 where
   pub tag-ok : Permitted tag (st .section) (st .members)
   pub length-ok : Among len (lengthsDue tag (tableOf st))
   pub range-ok : InRange (fieldValues s (st .at + 3) tag len (tableOf st))
+  pub window-ok : tag ≡ flightWindowBlockTag → numberAt s (st .at + 3 + 2) 2 ≤ numberAt s (st .at + 3 + 4) 2
   pub room-ok : TooMany tag (st .members) (stripsOfDesk (st .sorting .counts) (numberAt s (st .at + 3) 1)) → ⊥
   pub order-ok : tag ≡ flightOrderTag → Proper (st .members) (numberAt s (st .at + 3) 8)
 
 -- values of which none is the first out of its range
-in-range : (values : List Value) → (FirstOut CountOutOfRange values → ⊥) → (FirstOut TimeTooLarge values → ⊥) → (FirstOut TimeOfZero values → ⊥)
+pub in-range : (values : List Value) → (FirstOut CountOutOfRange values → ⊥) → (FirstOut TimeTooLarge values → ⊥) → (FirstOut TimeOfZero values → ⊥)
     → InRange values
 in-range values n₁ n₂ n₃ = go (range-decided values)
   where
@@ -46,6 +49,13 @@ proper-else n x h = go (isProper n x) refl
     go true e = proper-true n x e
     go false e = absurd (h (proper-decided n x .fails e))
 
+at-most-else : (a b : ℕ) → (b < a → ⊥) → a ≤ b
+at-most-else a b h = go (decLt b a)
+  where
+    go : Dec (b < a) → a ≤ b
+    go (yes l) = absurd (h l)
+    go (no l) = omega arith
+
 pub permitted-else : (tag section members : ℕ) → ((Permitted tag section members → ⊥) → ⊥) → Permitted tag section members
 permitted-else tag section members h = go (permitted tag section members) refl
   where
@@ -60,8 +70,9 @@ passed-rows s st tag len p =
       tag-ok = permitted-else tag (st .section) (st .members) (p 3);
       length-ok = among-else len _ (p 4);
       range-ok = in-range _ (p 5) (p 6) (p 7);
-      room-ok = p 8;
-      order-ok = λ e. proper-else _ _ (λ n. p 9 (record { is-order = e; improper = n }));
+      window-ok = λ e. at-most-else _ _ (λ n. p 8 (record { is-window = e; below = n }));
+      room-ok = p 9;
+      order-ok = λ e. proper-else _ _ (λ n. p 10 (record { is-order = e; improper = n }));
     }
 
 pub passes : (s : List ℕ) (st : Reading) (tag len : ℕ) → fieldAt s (st .at) ≡ Whole tag len → fieldNumber s st tag len ≡ 0 → Passed s st tag len

@@ -61,6 +61,12 @@ first-out-number Out number some gives [] c = absurd c
 first-out-number Out number some gives (v ∷ values) (inl c) = rw (gives v c) (first-here number (valueNumbers values) some)
 first-out-number Out number some gives (v ∷ values) (inr c) = rw (within-number v (c .0)) (first-out-number Out number some gives values (c .1))
 
+-- .. and where every value is within its range, none is.
+pub range-passes : (values : List Value) → InRange values → rangeNumber values ≡ 0
+unfolding rangeNumber valueNumbers InRange firstFailure
+range-passes [] r = refl
+range-passes (v ∷ values) r = rw (within-number v (r .0)) (range-passes values (r .1))
+
 -- The other way: what number one value gives, and why ..
 data OneDecided (given : ℕ) (v : Value) : Type 0 where
   count-out : given ≡ outOfRange → CountOutOfRange v → OneDecided given v

@@ -1,5 +1,6 @@
 -- What reading a sheet gives, for every row of bytes: the number and place of its refusal, or 0, 0 and its sections.
--- 01: "The planner checks 1, 2, then each field for 3, then 8 or 10 if its tag ends the section before, then 4, 5, 6, 7, 9."
+-- 01: "The planner checks 1, 2, then each field for 3, then 8 or 10 if its tag ends the section before, then 4, 5, 6, 7, 9." 02 adds 15 and 16 "in the place of
+-- 6", and 17 "right after the ranges of the same field and before 7".
 use Prim.Native.Nat.{ℕ, zero, suc, _+_}
 use mathlib.Core.Bool.{true, false, cond}
 use mathlib.Core.List.{List, [], _∷_}
@@ -8,8 +9,8 @@ use lib.Dec.{leb, eqb}
 use Rattle.base.specs.Branch.{check}
 use Rattle.field.specs.Field.{fieldAt}
 use Rattle.field.specs.declared.Field.the-variants.{End, Cut, Whole}
-use Rattle.sheet.specs.Refusals.{fieldCut, tagNotPermitted, lengthWrong, tooMany, noMembers, orderNotProper, orderMissing}
-use Rattle.sheet.specs.Checks.{sectionFilled, orderGiven, fewBlocks, permitted, rangeNumber, hasRoom, orderProper}
+use Rattle.sheet.specs.Refusals.{fieldCut, tagNotPermitted, lengthWrong, tooMany, noMembers, orderNotProper, orderMissing, longestBelowShortest}
+use Rattle.sheet.specs.Checks.{sectionFilled, orderGiven, fewBlocks, permitted, rangeNumber, windowOrdered, hasRoom, orderProper}
 use Rattle.sheet.specs.Sections.{stripsOfDesk}
 use Rattle.sheet.specs.Among.{isAmong}
 use Rattle.sheet.specs.FieldTable.{tableOf, lengthsDue, fieldValues}
@@ -19,11 +20,12 @@ use Rattle.sheet.specs.Decode.{noMosaic, noSorting, noFlight, nextReadin
 use Rattle.sheet.specs.declared.Reading.{Reading}
 use Rattle.sheet.specs.declared.Sheet.{Sheet}
 
--- the checks of a field of a permitted tag for its content: "5, 6, 7, 9", 15 and 16 "in the place of 6"
+-- the checks of a field of a permitted tag for its content: "5, 6, 7, 9", 15 and 16 "in the place of 6", 17 before 7
 unfoldable pub contentChecks : List ℕ → Reading → ℕ → ℕ → List ℕ
 contentChecks s st tag len =
     check (isAmong len (lengthsDue tag (tableOf st))) lengthWrong 0
     ∷ rangeNumber (fieldValues s (st .at + 3) tag len (tableOf st))
+    ∷ check (windowOrdered tag (numberAt s (st .at + 3 + 2) 2) (numberAt s (st .at + 3 + 4) 2)) longestBelowShortest 0
     ∷ check (hasRoom tag (st .members) (stripsOfDesk (st .sorting .counts) (numberAt s (st .at + 3) 1))) tooMany 0
     ∷ check (orderProper tag (st .members) (numberAt s (st .at + 3) 8)) orderNotProper 0
     ∷ []

@@ -57,3 +57,7 @@ timeTooLarge = 15
 
 abbrev pub timeOfZero : ℕ
 timeOfZero = 16
+
+-- 02, Req 07: "17, longest below shortest"
+abbrev pub longestBelowShortest : ℕ
+longestBelowShortest = 17

@@ -21,6 +21,10 @@ pub passes-zero : (given number : ℕ) (cause : Type 0) → Gives given number c
 passes-zero given number cause (fails e c) n = absurd (n c)
 passes-zero given number cause (passes e _) n = e
 
+pub fails-number : (given number : ℕ) (cause : Type 0) → Gives given number cause → cause → given ≡ number
+fails-number given number cause (fails e _) c = e
+fails-number given number cause (passes _ n) c = absurd (n c)
+
 pub gives-check : (b : Bool) (number : ℕ) (cause : Type 0) → (b ≡ false → cause) → (b ≡ true → cause → ⊥) → Gives (check b number 0) number cause
 unfolding check
 gives-check true number cause f p = passes refl (p refl)

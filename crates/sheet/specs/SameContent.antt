@@ -14,18 +14,19 @@ use borrow.Author.Tests.{ne-eqb, eqb-true}
 use Rattle.base.specs.Branch.{check}
 use Rattle.field.specs.Bytes.{numberAt}
 use Rattle.sheet.specs.Tags.{mosaicHeadTag, mosaicStripTag, sortingHeadTag, sortingStripTag, flightHeadTag, flightBlockTag, flightOrderTag}
-use Rattle.sheet.specs.Refusals.{tagNotPermitted, lengthWrong, tooMany, noMembers, orderNotProper, orderMissing}
+use Rattle.sheet.specs.Tags.{flightWindowBlockTag}
+use Rattle.sheet.specs.Refusals.{tagNotPermitted, lengthWrong, tooMany, noMembers, orderNotProper, orderMissing, longestBelowShortest}
 use Rattle.sheet.specs.Sections.{stripsOfDesk}
 use Rattle.sheet.specs.Among.{Among, isAmong, true-among}
 use Rattle.sheet.specs.FieldTable.{Item, TableRow, mosaicHead, mosaicStrip, sortingHead, sortingStrip}
-use Rattle.sheet.specs.FieldTable.{flightBlock, flightOrder, fieldTable, tableOf}
+use Rattle.sheet.specs.FieldTable.{flightBlock, flightWindowBlock, flightOrder, fieldTable, tableOf}
 use Rattle.sheet.specs.FieldTable.{lengthOf, contentsOf, lengthsDue, ofLength, numbersAt, valuesOf, contentValues, fieldValues}
 use Rattle.sheet.specs.Contents.{mosaic-head-content, mosaic-strip-content, sorting-head-content, sorting-strip-content, flight-block-content}
-use Rattle.sheet.specs.Contents.{flight-order-content, head-length, sole-length, strip-length, strip-stations}
+use Rattle.sheet.specs.Contents.{flight-window-block-content, flight-order-content, head-length, sole-length, strip-length, strip-stations}
 use Rattle.sheet.specs.Rows.{firstFailure}
-use Rattle.sheet.specs.Checks.{sectionFilled, orderGiven, permitted, rangeNumber, hasRoom, orderProper}
+use Rattle.sheet.specs.Checks.{sectionFilled, orderGiven, permitted, rangeNumber, windowOrdered, hasRoom, orderProper}
 use Rattle.sheet.specs.Decode.{withMosaicHead, withStationTimes, withMosaicStrip, withSortingHead, withStripAt, withSortingStrip, turnOf, withFlightHead}
-use Rattle.sheet.specs.Decode.{exactBlock, withBlock, withOrder, nextMosaic, nextSorting, nextFlight, nextSection, nextMembers, nextReading}
+use Rattle.sheet.specs.Decode.{exactBlock, windowBlock, withBlock, withOrder, nextMosaic, nextSorting, nextFlight, nextSection, nextMembers, nextReading}
 use Rattle.sheet.specs.Read.{contentChecks, fieldChecks, fieldNumber}
 use Rattle.sheet.specs.declared.MosaicSection.{MosaicSection}
 use Rattle.sheet.specs.declared.SortingSection.{SortingSection}
@@ -120,7 +121,7 @@ module _ {s : List ℕ} {c : ℕ} {t : List ℕ} {d len : ℕ} (b : SameBytes s 
   unfolding fieldValues
   same-values tag table = content-same (ofLength len (contentsOf tag table)) (of-length-most (contentsOf tag table))
 
-  -- The numbers that a field is checked for beside its values: the desk of a desk's strip and the order.
+  -- The numbers that a field is checked for beside its values: the window of a block, the desk of a desk's strip and the order.
   module _ (tag stations desks : ℕ) (due : Among len (lengthsDue tag (fieldTable stations desks))) where
     due-at : (x : ℕ) → tag ≡ x → Among len (lengthsDue x (fieldTable stations desks))
     due-at x e = subst (λ y. Among len (lengthsDue y (fieldTable stations desks))) e due
@@ -132,6 +133,19 @@ module _ {s : List ℕ} {c : ℕ} {t : List ℕ} {d len : ℕ} (b : SameBytes s 
     order-field : tag ≡ flightOrderTag → len ≡ 8
     unfolding flightOrder lengthOf
     order-field e = sole-length flightOrderTag len _ flightOrder (flight-order-content stations desks) (due-at flightOrderTag e)
+
+    window-field : tag ≡ flightWindowBlockTag → len ≡ 8
+    unfolding flightWindowBlock lengthOf
+    window-field e = sole-length flightWindowBlockTag len _ flightWindowBlock (flight-window-block-content stations desks) (due-at flightWindowBlockTag e)
+
+    same-window : windowOrdered tag (numberAt s (c + 2) 2) (numberAt s (c + 4) 2) ≡ windowOrdered tag (numberAt t (d + 2) 2) (numberAt t (d + 4) 2)
+    unfolding windowOrdered
+    same-window = go (ℕ-discrete tag flightWindowBlockTag)
+      where
+        go : Dec (tag ≡ flightWindowBlockTag)
+            → windowOrdered tag (numberAt s (c + 2) 2) (numberAt s (c + 4) 2) ≡ windowOrdered tag (numberAt t (d + 2) 2) (numberAt t (d + 4) 2)
+        go (yes e) = ap₂ (windowOrdered tag) (same-number 2 2 (omega (arith, window-field e))) (same-number 2 4 (omega (arith, window-field e)))
+        go (no e) = rw (ne-eqb tag flightWindowBlockTag e)
 
     same-room : (members : ℕ) (counts : List ℕ)
         → hasRoom tag members (stripsOfDesk counts (numberAt s c 1)) ≡ hasRoom tag members (stripsOfDesk counts (numberAt t d 1))
@@ -223,6 +237,13 @@ module _ {s : List ℕ} {c : ℕ} {t : List ℕ} {d len : ℕ} (b : SameBytes s 
         let l : len ≡ 6 = block-length e in
         rw (first-number 2 (omega arith), same-number 2 2 (omega arith), same-number 2 4 (omega arith))
 
+    same-window-block : (f : FlightSection) (place : ℕ) → tag ≡ flightWindowBlockTag
+        → withBlock (windowBlock t d) (withPlace place f) ≡ withPlace place (withBlock (windowBlock s c) f)
+    unfolding withBlock windowBlock
+    same-window-block f place e =
+        let l : len ≡ 8 = window-field e in
+        rw (first-number 2 (omega arith), same-number 2 2 (omega arith), same-number 2 4 (omega arith), same-number 2 6 (omega arith))
+
     same-order : (f : FlightSection) (place at there : ℕ) → tag ≡ flightOrderTag
         → withOrder t d there (withPlace place f) ≡ withPlace there (withOrder s c at f)
     unfolding withOrder
@@ -237,26 +258,32 @@ module _ {s : List ℕ} {c : ℕ} {t : List ℕ} {d len : ℕ} (b : SameBytes s 
     pub same-flight : (f : FlightSection) (place at there : ℕ)
         → nextFlight t d tag len there (withPlace place f) ≡ withPlace (placeAfter tag there place) (nextFlight s c tag len at f)
     unfolding nextFlight placeAfter
-    same-flight f place at there = go (ℕ-discrete tag flightHeadTag) (ℕ-discrete tag flightBlockTag) (ℕ-discrete tag flightOrderTag)
+    same-flight f place at there =
+        go (ℕ-discrete tag flightHeadTag) (ℕ-discrete tag flightBlockTag) (ℕ-discrete tag flightWindowBlockTag) (ℕ-discrete tag flightOrderTag)
       where
-        go : Dec (tag ≡ flightHeadTag) → Dec (tag ≡ flightBlockTag) → Dec (tag ≡ flightOrderTag)
+        go : Dec (tag ≡ flightHeadTag) → Dec (tag ≡ flightBlockTag) → Dec (tag ≡ flightWindowBlockTag) → Dec (tag ≡ flightOrderTag)
             → nextFlight t d tag len there (withPlace place f) ≡ withPlace (placeAfter tag there place) (nextFlight s c tag len at f)
-        go (yes e) q o = rw e (same-head at there e)
-        go (no e) (yes q) o = rw q (same-block f place q)
-        go (no e) (no q) (yes o) = rw o (same-order f place at there o)
-        go (no e) (no q) (no o) = rw (ne-eqb tag flightHeadTag e, ne-eqb tag flightBlockTag q, ne-eqb tag flightOrderTag o)
+        go (yes e) q w o = rw e (same-head at there e)
+        go (no e) (yes q) w o = rw q (same-block f place q)
+        go (no e) (no q) (yes w) o = rw w (same-window-block f place w)
+        go (no e) (no q) (no w) (yes o) = rw o (same-order f place at there o)
+        go (no e) (no q) (no w) (no o) =
+            rw (ne-eqb tag flightHeadTag e, ne-eqb tag flightBlockTag q, ne-eqb tag flightWindowBlockTag w, ne-eqb tag flightOrderTag o)
 
 -- the place of 11 after a field
 pub place-after : (s : List ℕ) (c tag len at : ℕ) (f : FlightSection) → nextFlight s c tag len at f .place ≡ placeAfter tag at (f .place)
 unfolding nextFlight placeAfter withFlightHead withBlock withOrder
-place-after s c tag len at f = go (ℕ-discrete tag flightHeadTag) (ℕ-discrete tag flightBlockTag) (ℕ-discrete tag flightOrderTag)
+place-after s c tag len at f =
+    go (ℕ-discrete tag flightHeadTag) (ℕ-discrete tag flightBlockTag) (ℕ-discrete tag flightWindowBlockTag) (ℕ-discrete tag flightOrderTag)
   where
-    go : Dec (tag ≡ flightHeadTag) → Dec (tag ≡ flightBlockTag) → Dec (tag ≡ flightOrderTag)
+    go : Dec (tag ≡ flightHeadTag) → Dec (tag ≡ flightBlockTag) → Dec (tag ≡ flightWindowBlockTag) → Dec (tag ≡ flightOrderTag)
         → nextFlight s c tag len at f .place ≡ placeAfter tag at (f .place)
-    go (yes e) q o = rw e
-    go (no e) (yes q) o = rw q
-    go (no e) (no q) (yes o) = rw o
-    go (no e) (no q) (no o) = rw (ne-eqb tag flightHeadTag e, ne-eqb tag flightBlockTag q, ne-eqb tag flightOrderTag o)
+    go (yes e) q w o = rw e
+    go (no e) (yes q) w o = rw q
+    go (no e) (no q) (yes w) o = rw w
+    go (no e) (no q) (no w) (yes o) = rw o
+    go (no e) (no q) (no w) (no o) =
+        rw (ne-eqb tag flightHeadTag e, ne-eqb tag flightBlockTag q, ne-eqb tag flightWindowBlockTag w, ne-eqb tag flightOrderTag o)
 
 -- Two readings that are alike but for places: what they have read is the same.
 pub record Alike (st other : Reading) : Type 0 where
@@ -288,6 +315,7 @@ module _ {s : List ℕ} {st : Reading} {t : List ℕ} {other : Reading} {len : �
           ∷ check (permitted tag (st .section) (st .members)) tagNotPermitted 0
           ∷ check q lengthWrong 0
           ∷ rangeNumber (fieldValues s (st .at + 3) tag len (tableOf st))
+          ∷ check (windowOrdered tag (numberAt s (st .at + 3 + 2) 2) (numberAt s (st .at + 3 + 4) 2)) longestBelowShortest 0
           ∷ check (hasRoom tag (st .members) (stripsOfDesk (st .sorting .counts) (numberAt s (st .at + 3) 1))) tooMany 0
           ∷ check (orderProper tag (st .members) (numberAt s (st .at + 3) 8)) orderNotProper 0
           ∷ [])
@@ -297,6 +325,7 @@ module _ {s : List ℕ} {st : Reading} {t : List ℕ} {other : Reading} {len : �
           ∷ check (permitted tag (st .section) (st .members)) tagNotPermitted 0
           ∷ check q lengthWrong 0
           ∷ rangeNumber (fieldValues t (other .at + 3) tag len (tableOf st))
+          ∷ check (windowOrdered tag (numberAt t (other .at + 3 + 2) 2) (numberAt t (other .at + 3 + 4) 2)) longestBelowShortest 0
           ∷ check (hasRoom tag (st .members) (stripsOfDesk (st .sorting .counts) (numberAt t (other .at + 3) 1))) tooMany 0
           ∷ check (orderProper tag (st .members) (numberAt t (other .at + 3) 8)) orderNotProper 0
           ∷ [])
@@ -304,6 +333,7 @@ module _ {s : List ℕ} {st : Reading} {t : List ℕ} {other : Reading} {len : �
           let due = true-among len _ e in
           rw (
             same-values b tag (tableOf st),
+            same-window b tag (st .mosaic .stations) (st .sorting .desks) due,
             same-room b tag (st .mosaic .stations) (st .sorting .desks) due (st .members) (st .sorting .counts),
             same-proper b tag (st .mosaic .stations) (st .sorting .desks) due (st .members),
           )

@@ -11,13 +11,13 @@ use Rattle.field.specs.Bytes.{numberAt}
 use Rattle.order.specs.Order.{Proper}
 use Rattle.sheet.specs.Limits.{mostStations, mostDesks, mostTime, mostTurn, mostStrips, mostStripsOfDesk, mostBlocks}
 use Rattle.sheet.specs.Sections.{stripsOfDesk}
-use Rattle.sheet.specs.FieldTable.{mosaicHead, mosaicStrip, sortingHead, sortingStrip, turnFlightHead, flightBlock, valuesOf, contentValues}
+use Rattle.sheet.specs.FieldTable.{mosaicHead, mosaicStrip, sortingHead, sortingStrip, turnFlightHead, flightBlock, flightWindowBlock, valuesOf, contentValues}
 use Rattle.sheet.specs.FieldTable.{Between, Within, InRange}
 use Rattle.sheet.specs.FieldTable.Range.{time}
 use Rattle.sheet.specs.FieldTable.Value.{value}
 use Rattle.sheet.specs.Contents.{stripFrom, strip-from-start, strip-bench-left, strip-time-left}
 use Rattle.sheet.specs.Decode.{zeros, noMosaic, noSorting, noFlight, withMosaicHead, withStationTimes, withMosaicStrip, withSortingHead, withStripAt}
-use Rattle.sheet.specs.Decode.{withSortingStrip, begunFlight, turnOf, withFlightHead, exactBlock, withBlock, withOrder}
+use Rattle.sheet.specs.Decode.{withSortingStrip, begunFlight, turnOf, withFlightHead, exactBlock, windowBlock, withBlock, withOrder}
 use Rattle.sheet.specs.Sound.{MosaicSound, SortingSound, FlightWithin, stripsInAll}
 use Rattle.sheet.specs.Stores.{length-zeros, zeros-at, set-here, set-there, set-most, set-least, set-ordered}
 use Rattle.sheet.specs.Passed.{first-within, others-within}
@@ -264,6 +264,19 @@ exact-block-sound s c r =
       first = first-within _ _ r;
       most-delay = first-within _ _ l .at-most;
       window = omega arith;
+      second = first-within _ _ (others-within _ _ l);
+    }
+
+pub window-block-sound : (s : List ℕ) (c : ℕ)
+    → InRange (valuesOf flightWindowBlock (numberAt s c 2 ∷ numberAt s (c + 2) 2 ∷ numberAt s (c + 4) 2 ∷ numberAt s (c + 6) 2 ∷ []))
+    → numberAt s (c + 2) 2 ≤ numberAt s (c + 4) 2 → BlockSound (windowBlock s c)
+unfolding flightWindowBlock valuesOf windowBlock Within
+window-block-sound s c r h =
+    let l = others-within _ _ (others-within _ _ r) in
+    record {
+      first = first-within _ _ r;
+      most-delay = first-within _ _ l .at-most;
+      window = h;
       second = first-within _ _ (others-within _ _ l);
     }
 

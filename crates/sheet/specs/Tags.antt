@@ -1,4 +1,4 @@
--- The tags of fields: of a sheet (01, "The sheet"), and of a plan (01, "The plan").
+-- The tags of fields: of a sheet (01, "The sheet"; 02), and of a plan (01, "The plan").
 use Prim.Native.Nat.{ℕ}
 
 abbrev pub mosaicHeadTag : ℕ
@@ -21,6 +21,10 @@ flightBlockTag = 0x31
 
 abbrev pub flightOrderTag : ℕ
 flightOrderTag = 0x32
+
+-- 02, Req 07: "A block of tag 33"
+abbrev pub flightWindowBlockTag : ℕ
+flightWindowBlockTag = 0x33
 
 abbrev pub planMosaicTag : ℕ
 planMosaicTag = 0x90

@@ -32,3 +32,6 @@ pub const FIGURE_UNTRUE: u64 = 14;
 pub const TIME_TOO_LARGE: u64 = 15;
 
 pub const TIME_OF_ZERO: u64 = 16;
+
+// Of a window: its longest delay is below its shortest.
+pub const LONGEST_BELOW_SHORTEST: u64 = 17;

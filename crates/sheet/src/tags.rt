@@ -1,4 +1,4 @@
-// The tags of the sheet's and the plan's fields (01, "The sheet" and "The plan"). specs/Tags.antt states the same for the definitions.
+// The tags of the sheet's and the plan's fields (01, "The sheet" and "The plan"; 02). specs/Tags.antt states the same for the definitions.
 
 pub const MOSAIC_HEAD: u8 = 0x10;
 
@@ -13,6 +13,9 @@ pub const FLIGHT_HEAD: u8 = 0x30;
 pub const FLIGHT_BLOCK: u8 = 0x31;
 
 pub const FLIGHT_ORDER: u8 = 0x32;
+
+// A block with a window for its delay (02, Req 07).
+pub const FLIGHT_WINDOW_BLOCK: u8 = 0x33;
 
 pub const PLAN_MOSAIC: u8 = 0x90;
 

@@ -1,19 +1,20 @@
 -- The way through the rows of a field, as the code answers their tests: a row that fails gives its number, one that passes leaves it to the rows behind it.
 -- No law speaks of the rows before its own; those of numbers that a callee gives are crate sheet's (RowLaws.antt).
 use Prim.{tt}
-use Prim.Native.Nat.{ℕ}
+use Prim.Native.Nat.{ℕ, _+_}
 use mathlib.Core.Path.{_≡_, sym, ap, _∙_}
 use mathlib.Core.Bool.{Bool, true, false, not}
 use mathlib.Core.List.{List, _∷_}
-use lib.Dec.{T, ltb}
-use borrow.Author.Tests.{not-true, not-false}
+use lib.Dec.{T, leb, ltb}
+use borrow.Author.Tests.{ne-eqb, not-true, not-false}
 use Rattle.base.specs.Branch.{check}
 use Rattle.field.specs.Bytes.{numberAt, NumberRead}
 use Rattle.sheet.specs.Refusals.{lengthWrong, tooMany, orderNotProper}
+use Rattle.sheet.specs.Tags.{flightWindowBlockTag}
 use Rattle.sheet.specs.Sections.{stripsOfDesk}
 use Rattle.sheet.specs.Among.{Among, isAmong, true-among}
 use Rattle.sheet.specs.FieldTable.{fieldTable, lengthsDue}
-use Rattle.sheet.specs.Checks.{hasRoom, orderProper}
+use Rattle.sheet.specs.Checks.{windowOrdered, hasRoom, orderProper}
 use Rattle.sheet.specs.Rows.{firstFailure}
 use Rattle.sheet.specs.RowLaws.{given-fails, given-passes, test-fails, test-passes}
 use Rattle.sheet_lengths.specs.Lengths.{lengthsGiven, GivesLength}
@@ -34,6 +35,17 @@ module _ (len tag stations desks : ℕ) (due : LengthDue) (x : Bool) (d : GivesL
   pub length-passes : (checks : List ℕ) (r : ℕ) → not x ≡ false → r ≡ firstFailure checks
       → r ≡ firstFailure (check (isAmong len (lengthsDue tag (fieldTable stations desks))) lengthWrong 0 ∷ checks)
   length-passes checks r h p = test-passes checks _ lengthWrong r (tested true (not-false x h)) p
+
+-- the window of a block, by the two numbers that were read
+module _ (s : List ℕ) (c tag : ℕ) where
+  pub window-read : (shortest longest : ℕ) → tag ≡ flightWindowBlockTag → NumberRead s (c + 2) 2 shortest → NumberRead s (c + 4) 2 longest
+      → leb shortest longest ≡ windowOrdered tag (numberAt s (c + 2) 2) (numberAt s (c + 4) 2)
+  unfolding windowOrdered
+  window-read shortest longest e n₁ n₂ = rw (e, n₁ .is, n₂ .is)
+
+  pub no-window : (tag ≡ flightWindowBlockTag → ⊥) → true ≡ windowOrdered tag (numberAt s (c + 2) 2) (numberAt s (c + 4) 2)
+  unfolding windowOrdered
+  no-window n = rw (ne-eqb tag flightWindowBlockTag n)
 
 module _ (checks : List ℕ) where
   -- a test that a callee answers

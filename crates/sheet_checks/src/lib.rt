@@ -8,6 +8,7 @@ use sheet::limits::MOST_BLOCKS_WITHOUT_ORDER;
 use sheet::limits::MOST_STRIPS;
 use sheet::limits::MOST_STRIPS_OF_DESK;
 use sheet::numbers::LENGTH_WRONG;
+use sheet::numbers::LONGEST_BELOW_SHORTEST;
 use sheet::numbers::NO_MEMBERS;
 use sheet::numbers::ORDER_MISSING;
 use sheet::numbers::ORDER_NOT_PROPER;
@@ -20,6 +21,7 @@ use sheet::sections::NO_SECTION;
 use sheet::tags::FLIGHT_BLOCK;
 use sheet::tags::FLIGHT_HEAD;
 use sheet::tags::FLIGHT_ORDER;
+use sheet::tags::FLIGHT_WINDOW_BLOCK;
 use sheet::tags::MOSAIC_HEAD;
 use sheet::tags::MOSAIC_STRIP;
 use sheet::tags::SORTING_HEAD;
@@ -28,8 +30,10 @@ use sheet_lengths::is_due;
 use sheet_lengths::length_due;
 use sheet_ranges::range_number;
 ghost use mathlib.Core.Path.{_≡_};
+ghost use Prim.Native.Nat.{_+_, _<_, _^_};
+ghost use Rattle.field.specs.Bytes.{numberAt};
 ghost use Rattle.sheet.specs.Rows.{firstFailure};
-ghost use Rattle.sheet.specs.Checks.{endsSection, sectionFilled, fewBlocks, orderGiven, orderPermitted, permitted, hasRoom, orderProper};
+ghost use Rattle.sheet.specs.Checks.{endsSection, sectionFilled, fewBlocks, orderGiven, orderPermitted, permitted, windowOrdered, hasRoom, orderProper};
 ghost use Rattle.sheet.specs.Read.{contentChecks, fieldNumber, endNumber, placeOf};
 ghost use Rattle.sheet_checks.specs.FieldPre.{FieldPre};
 
@@ -84,9 +88,23 @@ fn is_permitted(tag: u8, section: u64, members: usize) -> bool
         SORTING_STRIP => section == IN_SORTING,
         FLIGHT_HEAD => section < IN_FLIGHT,
         FLIGHT_BLOCK => section == IN_FLIGHT,
+        FLIGHT_WINDOW_BLOCK => section == IN_FLIGHT,
         FLIGHT_ORDER => order_permitted(section, members),
         _ => false,
     }
+}
+
+// Whether the window of a block that has one is not empty. The field's content begins at c.
+fn window_ordered(s: &[u8], c: usize, tag: u8) -> bool
+    requires { ⌜ c + 4 < 2 ^ 64 ⌝ }
+    ensures { λ r. ⌜ r ≡ windowOrdered tag (numberAt (now (s .entry)) (c + 2) 2) (numberAt (now (s .entry)) (c + 4) 2) ⌝ }
+{
+    if tag == FLIGHT_WINDOW_BLOCK {
+        let shortest = number(s, c + 2, 2);
+        let longest = number(s, c + 4, 2);
+        return shortest <= longest;
+    }
+    true
 }
 
 fn has_room(tag: u8, members: usize, of_desk: usize) -> bool
@@ -96,6 +114,7 @@ fn has_room(tag: u8, members: usize, of_desk: usize) -> bool
         MOSAIC_STRIP => members < MOST_STRIPS,
         SORTING_STRIP => of_desk < MOST_STRIPS_OF_DESK,
         FLIGHT_BLOCK => members < MOST_BLOCKS,
+        FLIGHT_WINDOW_BLOCK => members < MOST_BLOCKS,
         _ => true,
     }
 }
@@ -125,6 +144,9 @@ fn content_number(s: &[u8], st: Reading, tag: u8, length: usize) -> u64
     let range = range_number(s, content, tag, length, stations, desks);
     if range != 0 {
         return range;
+    }
+    if !window_ordered(s, content, tag) {
+        return LONGEST_BELOW_SHORTEST;
     }
     if !has_room(tag, members, strips_of_desk(counts, byte(s, content))) {
         return TOO_MANY;

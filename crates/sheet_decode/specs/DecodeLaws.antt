@@ -9,10 +9,10 @@ use lib.ListN.{length, set, length-set}
 use borrow.Author.Tests.{ne-eqb}
 use Rattle.field.specs.Bytes.{numberAt, NumberRead}
 use Rattle.sheet.specs.Decode.{zeros, noMosaic, noSorting, noFlight, startReading, withMosaicHead, withStationTimes, withMosaicStrip, withSortingHead}
-use Rattle.sheet.specs.Decode.{withStripAt, withSortingStrip, begunFlight, turnOf, withFlightHead, exactBlock, withBlock, withOrder, nextMosaic, nextSorting, nextFlight, nextSection, nextHead, nextMembers}
+use Rattle.sheet.specs.Decode.{withStripAt, withSortingStrip, begunFlight, turnOf, withFlightHead, exactBlock, windowBlock, withBlock, withOrder, nextMosaic, nextSorting, nextFlight, nextSection, nextHead, nextMembers}
 use Rattle.sheet.specs.Decode.{nextReading}
 use Rattle.sheet.specs.Sections.{stripsOfDesk}
-use Rattle.sheet.specs.Tags.{sortingStripTag, flightBlockTag}
+use Rattle.sheet.specs.Tags.{sortingStripTag, flightBlockTag, flightWindowBlockTag}
 use Rattle.sheet.specs.Read.{refused}
 use Rattle.sheet.specs.declared.MosaicSection.{MosaicSection}
 use Rattle.sheet.specs.declared.SortingSection.{SortingSection}
@@ -104,10 +104,20 @@ pub exact-block-is : (s : List ℕ) (c a l b : ℕ) → NumberRead s c 2 a → N
 unfolding exactBlock
 exact-block-is s c a l b n₁ n₂ n₃ = rw (n₁ .is, n₂ .is, n₃ .is)
 
+pub window-block-is : (s : List ℕ) (c a shortest longest b : ℕ) → NumberRead s c 2 a → NumberRead s (c + 2) 2 shortest → NumberRead s (c + 4) 2 longest
+    → NumberRead s (c + 6) 2 b → _≡_ {A = Block} (record { first = a; shortest = shortest; longest = longest; second = b }) (windowBlock s c)
+unfolding windowBlock
+window-block-is s c a shortest longest b n₁ n₂ n₃ n₄ = rw (n₁ .is, n₂ .is, n₃ .is, n₄ .is)
+
 pub exact-block-next : (s : List ℕ) (c tag len at : ℕ) (f r : FlightSection) (b : Block) → tag ≡ flightBlockTag → b ≡ exactBlock s c → r ≡ withBlock b f
     → r ≡ nextFlight s c tag len at f
 unfolding nextFlight
 exact-block-next s c tag len at f r b e eb er = rw (e, ← eb) er
+
+pub window-block-next : (s : List ℕ) (c tag len at : ℕ) (f r : FlightSection) (b : Block) → tag ≡ flightWindowBlockTag → b ≡ windowBlock s c
+    → r ≡ withBlock b f → r ≡ nextFlight s c tag len at f
+unfolding nextFlight
+window-block-next s c tag len at f r b e eb er = rw (e, ← eb) er
 
 pub order-is : (s : List ℕ) (c at : ℕ) (f : FlightSection) (order : ℕ) → NumberRead s c 8 order
     → _≡_ {A = FlightSection}

@@ -6,7 +6,7 @@ use native.Mathlib.Omega.{arith}
 use lib.ListN.{length}
 use Rattle.field.specs.Bytes.{numberAt, NumberRead}
 use Rattle.sheet.specs.Limits.{mostStations, mostStrips, mostDesks, mostStripsOfDesk, mostBlocks}
-use Rattle.sheet.specs.Tags.{mosaicStripTag, sortingStripTag, flightBlockTag}
+use Rattle.sheet.specs.Tags.{mosaicStripTag, sortingStripTag, flightBlockTag, flightWindowBlockTag}
 use Rattle.sheet.specs.Sections.{stripsOfDesk}
 use Rattle.sheet.specs.declared.Reading.{Reading}
 
@@ -40,6 +40,7 @@ pub record NextSortingPre (c tag desk ofDesk : ℕ) : Type 0 where
 pub record NextFlightPre (c tag blocks : ℕ) : Type 0 where
   pub content : c + 8 < 2 ^ 64
   pub block-fits : tag ≡ flightBlockTag → blocks < mostBlocks
+  pub window-block-fits : tag ≡ flightWindowBlockTag → blocks < mostBlocks
 
 pub record NextReadingPre (s : List ℕ) (st : Reading) (tag len : ℕ) : Type 0 where
   pub within : st .at + 3 + len ≤ length s
@@ -59,3 +60,6 @@ desk-pre s c tag counts desk d k r e n ed ek =
 
 pub block-fits : (c tag blocks : ℕ) → NextFlightPre c tag blocks → tag ≡ flightBlockTag → blocks < mostBlocks
 block-fits c tag blocks r e = r .block-fits e
+
+pub window-block-fits : (c tag blocks : ℕ) → NextFlightPre c tag blocks → tag ≡ flightWindowBlockTag → blocks < mostBlocks
+window-block-fits c tag blocks r e = r .window-block-fits e

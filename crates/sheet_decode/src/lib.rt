@@ -17,6 +17,7 @@ use sheet::sections::NO_SECTION;
 use sheet::tags::FLIGHT_BLOCK;
 use sheet::tags::FLIGHT_HEAD;
 use sheet::tags::FLIGHT_ORDER;
+use sheet::tags::FLIGHT_WINDOW_BLOCK;
 use sheet::tags::MOSAIC_HEAD;
 use sheet::tags::MOSAIC_STRIP;
 use sheet::tags::SORTING_HEAD;
@@ -26,7 +27,7 @@ ghost use mathlib.Core.Path.{_≡_};
 ghost use Prim.Native.Nat.{_+_, _*_, _<_, _^_};
 ghost use lib.ListN.{length};
 ghost use Rattle.sheet.specs.Decode.{noMosaic, noSorting, noFlight, withMosaicHead, withStationTimes, withMosaicStrip, withSortingHead, withStripAt, exactBlock};
-ghost use Rattle.sheet.specs.Decode.{turnOf, withFlightHead, withBlock, withOrder, nextMosaic, nextSorting, nextFlight, nextSection, nextMembers, nextHead, nextReading, startReading};
+ghost use Rattle.sheet.specs.Decode.{windowBlock, turnOf, withFlightHead, withBlock, withOrder, nextMosaic, nextSorting, nextFlight, nextSection, nextMembers, nextHead, nextReading, startReading};
 ghost use Rattle.field.specs.Bytes.{numberAt};
 ghost use Rattle.sheet.specs.Limits.{mostBlocks};
 ghost use Rattle.sheet.specs.Sections.{stripsOfDesk};
@@ -242,6 +243,23 @@ fn exact_block(s: &[u8], c: usize) -> Block
     }
 }
 
+// A block with a window for its delay.
+fn window_block(s: &[u8], c: usize) -> Block
+    requires { ⌜ c + 8 < 2 ^ 64 ⌝ }
+    ensures { λ r. ⌜ r ≡ windowBlock (now (s .entry)) c ⌝ }
+{
+    let first = number(s, c, 2);
+    let shortest = number(s, c + 2, 2);
+    let longest = number(s, c + 4, 2);
+    let second = number(s, c + 6, 2);
+    Block {
+        first,
+        shortest,
+        longest,
+        second,
+    }
+}
+
 // The flight with one block more.
 fn with_block(b: Block, f: FlightSection) -> FlightSection
     requires { ⌜ f .blocks < mostBlocks ⌝ }
@@ -333,6 +351,9 @@ fn next_flight(
     }
     if tag == FLIGHT_BLOCK {
         return with_block(exact_block(s, c), f);
+    }
+    if tag == FLIGHT_WINDOW_BLOCK {
+        return with_block(window_block(s, c), f);
     }
     if tag == FLIGHT_ORDER {
         return with_order(s, c, at, f);

@@ -9,11 +9,12 @@ use lib.Dec.{eqb}
 use borrow.Author.Tests.{eqb-true, eqb-false, eq-eqb, ne-eqb}
 use Rattle.sheet.specs.Limits.{mostStations}
 use Rattle.sheet.specs.Tags.{mosaicHeadTag, mosaicStripTag, sortingHeadTag, sortingStripTag, flightHeadTag, flightBlockTag, flightOrderTag}
+use Rattle.sheet.specs.Tags.{flightWindowBlockTag}
 use Rattle.sheet.specs.Among.{isAmong}
-use Rattle.sheet.specs.FieldTable.{mosaicHead, sortingHead, sortingStrip, emptyFlightHead, turnFlightHead, flightBlock, flightOrder}
+use Rattle.sheet.specs.FieldTable.{mosaicHead, sortingHead, sortingStrip, emptyFlightHead, turnFlightHead, flightBlock, flightWindowBlock, flightOrder}
 use Rattle.sheet.specs.FieldTable.{fieldTable, lengthOf, contentsOf, lengthsOf, lengthsDue}
 use Rattle.sheet.specs.Contents.{mosaic-head-content, mosaic-strip-content, no-strip-content, sorting-head-content, sorting-strip-content}
-use Rattle.sheet.specs.Contents.{flight-head-contents, flight-block-content, flight-order-content, no-content, no-lengths, strip-length}
+use Rattle.sheet.specs.Contents.{flight-head-contents, flight-block-content, flight-window-block-content, flight-order-content, no-content, no-lengths, strip-length}
 use Rattle.sheet_lengths.specs.declared.LengthDue.{LengthDue}
 use Rattle.sheet_lengths.specs.declared.LengthDue.the-variants.{Bytes, Either, None}
 
@@ -27,7 +28,7 @@ lengthsGiven None = []
 abbrev pub GivesLength : ℕ → ℕ → LengthDue → Type 0
 GivesLength tag stations due = (desks : ℕ) → lengthsGiven due ≡ lengthsDue tag (fieldTable stations desks)
 
--- the cases of the seven tags: each is the length of the content that the table has for the tag, that of the flight head the lengths of its two
+-- the cases of the eight tags: each is the length of the content that the table has for the tag, that of the flight head the lengths of its two
 module _ (tag stations n : ℕ) where
   pub mosaic-head-case : tag ≡ mosaicHeadTag → n ≡ 3 → GivesLength tag stations (Bytes n)
   unfolding lengthsGiven lengthsDue lengthsOf lengthOf mosaicHead
@@ -54,6 +55,10 @@ module _ (tag stations n : ℕ) where
   unfolding lengthsGiven lengthsDue lengthsOf lengthOf flightBlock
   flight-block-case e h desks = rw (e, h, flight-block-content stations desks)
 
+  pub flight-window-block-case : tag ≡ flightWindowBlockTag → n ≡ 8 → GivesLength tag stations (Bytes n)
+  unfolding lengthsGiven lengthsDue lengthsOf lengthOf flightWindowBlock
+  flight-window-block-case e h desks = rw (e, h, flight-window-block-content stations desks)
+
   pub flight-order-case : tag ≡ flightOrderTag → n ≡ 8 → GivesLength tag stations (Bytes n)
   unfolding lengthsGiven lengthsDue lengthsOf lengthOf flightOrder
   flight-order-case e h desks = rw (e, h, flight-order-content stations desks)
@@ -72,12 +77,12 @@ module _ (tag stations : ℕ) where
   no-strip-case e h₁ h₂ h₃ h₄ = other-count-case e (λ lo hi. omega arith)
 
   pub other-tag-case : (tag ≡ mosaicHeadTag → ⊥) → (tag ≡ mosaicStripTag → ⊥) → (tag ≡ sortingHeadTag → ⊥) → (tag ≡ sortingStripTag → ⊥)
-      → (tag ≡ flightHeadTag → ⊥) → (tag ≡ flightBlockTag → ⊥) → (tag ≡ flightOrderTag → ⊥)
+      → (tag ≡ flightHeadTag → ⊥) → (tag ≡ flightBlockTag → ⊥) → (tag ≡ flightWindowBlockTag → ⊥) → (tag ≡ flightOrderTag → ⊥)
       → GivesLength tag stations None
-  other-tag-case h₁ h₂ h₃ h₄ h₅ h₆ h₇ desks = none-given desks (no-content stations desks tag h₁ h₂ h₃ h₄ h₅ h₆ h₇)
+  other-tag-case h₁ h₂ h₃ h₄ h₅ h₆ h₇ h₈ desks = none-given desks (no-content stations desks tag h₁ h₂ h₃ h₄ h₅ h₆ h₇ h₈)
 
 pub ruleset cases =
-    (mosaic-head-case, sorting-head-case, sorting-strip-case, flight-head-case, flight-block-case, flight-order-case, no-strip-case, other-tag-case)
+    (mosaic-head-case, sorting-head-case, sorting-strip-case, flight-head-case, flight-block-case, flight-window-block-case, flight-order-case, no-strip-case, other-tag-case)
 
 -- a length is compared with the one that is due, whichever of them stands first
 either-first : (a b : ℕ) → eqb a b ≡ eqb b a

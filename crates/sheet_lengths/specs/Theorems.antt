@@ -9,10 +9,11 @@ use native.Mathlib.Omega.{arith}
 use lib.ListN.{length, getD}
 use Rattle.sheet.specs.Limits.{mostStations}
 use Rattle.sheet.specs.Tags.{mosaicHeadTag, mosaicStripTag, sortingHeadTag, sortingStripTag, flightHeadTag, flightBlockTag, flightOrderTag}
+use Rattle.sheet.specs.Tags.{flightWindowBlockTag}
 use Rattle.sheet.specs.Among.{Among}
 use Rattle.sheet.specs.FieldTable.{Item, TableRow, fieldTable, lengthOf, contentsOf, lengthsOf, lengthsDue}
 use Rattle.sheet.specs.Contents.{RowOfLength, row-due, due-row, no-row-due, none-due, strip-stations, no-content, mosaic-head-content, mosaic-strip-content}
-use Rattle.sheet.specs.Contents.{sorting-head-content, sorting-strip-content, flight-block-content, flight-order-content}
+use Rattle.sheet.specs.Contents.{sorting-head-content, sorting-strip-content, flight-block-content, flight-window-block-content, flight-order-content}
 use Rattle.sheet_lengths.specs.Lengths.{lengthsGiven, GivesLength, mosaic-strip-case, flight-head-case, other-count-case, other-tag-case}
 use Rattle.sheet_lengths.specs.declared.LengthDue.{LengthDue}
 use Rattle.sheet_lengths.specs.declared.LengthDue.the-variants.{Bytes, Either, None}
@@ -77,17 +78,18 @@ module _ (tag stations : ℕ) (due : LengthDue) (call : GivesLength tag stations
     pub sole-row-length : (tag ≡ flightHeadTag → ⊥) → due ≡ Bytes (lengthOf (r .content))
     sole-row-length other =
         go (ℕ-discrete tag mosaicHeadTag) (ℕ-discrete tag mosaicStripTag) (ℕ-discrete tag sortingHeadTag) (ℕ-discrete tag sortingStripTag)
-        (ℕ-discrete tag flightBlockTag) (ℕ-discrete tag flightOrderTag)
+        (ℕ-discrete tag flightBlockTag) (ℕ-discrete tag flightWindowBlockTag) (ℕ-discrete tag flightOrderTag)
       where
         go : Dec (tag ≡ mosaicHeadTag) → Dec (tag ≡ mosaicStripTag) → Dec (tag ≡ sortingHeadTag) → Dec (tag ≡ sortingStripTag) → Dec (tag ≡ flightBlockTag)
-            → Dec (tag ≡ flightOrderTag) → due ≡ Bytes (lengthOf (r .content))
-        go (yes q) d₂ d₃ d₄ d₅ d₆ = at-tag mosaicHeadTag _ q (mosaic-head-content stations desks)
-        go (no h₁) (yes q) d₃ d₄ d₅ d₆ = strip-row q
-        go (no h₁) (no h₂) (yes q) d₄ d₅ d₆ = at-tag sortingHeadTag _ q (sorting-head-content stations desks)
-        go (no h₁) (no h₂) (no h₃) (yes q) d₅ d₆ = at-tag sortingStripTag _ q (sorting-strip-content stations desks)
-        go (no h₁) (no h₂) (no h₃) (no h₄) (yes q) d₆ = at-tag flightBlockTag _ q (flight-block-content stations desks)
-        go (no h₁) (no h₂) (no h₃) (no h₄) (no h₅) (yes q) = at-tag flightOrderTag _ q (flight-order-content stations desks)
-        go (no h₁) (no h₂) (no h₃) (no h₄) (no h₅) (no h₆) = no-row (no-content stations desks tag h₁ h₂ h₃ h₄ other h₅ h₆)
+            → Dec (tag ≡ flightWindowBlockTag) → Dec (tag ≡ flightOrderTag) → due ≡ Bytes (lengthOf (r .content))
+        go (yes q) d₂ d₃ d₄ d₅ d₆ d₇ = at-tag mosaicHeadTag _ q (mosaic-head-content stations desks)
+        go (no h₁) (yes q) d₃ d₄ d₅ d₆ d₇ = strip-row q
+        go (no h₁) (no h₂) (yes q) d₄ d₅ d₆ d₇ = at-tag sortingHeadTag _ q (sorting-head-content stations desks)
+        go (no h₁) (no h₂) (no h₃) (yes q) d₅ d₆ d₇ = at-tag sortingStripTag _ q (sorting-strip-content stations desks)
+        go (no h₁) (no h₂) (no h₃) (no h₄) (yes q) d₆ d₇ = at-tag flightBlockTag _ q (flight-block-content stations desks)
+        go (no h₁) (no h₂) (no h₃) (no h₄) (no h₅) (yes q) d₇ = at-tag flightWindowBlockTag _ q (flight-window-block-content stations desks)
+        go (no h₁) (no h₂) (no h₃) (no h₄) (no h₅) (no h₆) (yes q) = at-tag flightOrderTag _ q (flight-order-content stations desks)
+        go (no h₁) (no h₂) (no h₃) (no h₄) (no h₅) (no h₆) (no h₇) = no-row (no-content stations desks tag h₁ h₂ h₃ h₄ other h₅ h₆ h₇)
 
   -- .. and the flight head the two of its rows
 
@@ -102,11 +104,11 @@ module _ (tag stations : ℕ) (due : LengthDue) (call : GivesLength tag stations
   pub no-length : (desks : ℕ) → ((r : TableRow) → Among r (fieldTable stations desks) → tag ≡ r .tag → ⊥) → due ≡ None
   no-length desks none = given-none due (call desks ∙ no-row-due tag (fieldTable stations desks) none)
 
-  -- so it is for every tag but the seven, and for a strip where the number of stations is not 1 to 4
+  -- so it is for every tag but the eight, and for a strip where the number of stations is not 1 to 4
   pub other-tag-none : (tag ≡ mosaicHeadTag → ⊥) → (tag ≡ mosaicStripTag → ⊥) → (tag ≡ sortingHeadTag → ⊥) → (tag ≡ sortingStripTag → ⊥)
-      → (tag ≡ flightHeadTag → ⊥) → (tag ≡ flightBlockTag → ⊥) → (tag ≡ flightOrderTag → ⊥) → due ≡ None
+      → (tag ≡ flightHeadTag → ⊥) → (tag ≡ flightBlockTag → ⊥) → (tag ≡ flightWindowBlockTag → ⊥) → (tag ≡ flightOrderTag → ⊥) → due ≡ None
   unfolding lengthsGiven
-  other-tag-none h₁ h₂ h₃ h₄ h₅ h₆ h₇ = given-none due (call 0 ∙ sym (other-tag-case tag stations h₁ h₂ h₃ h₄ h₅ h₆ h₇ 0))
+  other-tag-none h₁ h₂ h₃ h₄ h₅ h₆ h₇ h₈ = given-none due (call 0 ∙ sym (other-tag-case tag stations h₁ h₂ h₃ h₄ h₅ h₆ h₇ h₈ 0))
 
   pub other-count-none : tag ≡ mosaicStripTag → (1 ≤ stations → stations ≤ mostStations → ⊥) → due ≡ None
   unfolding lengthsGiven

@@ -3,6 +3,7 @@
 use sheet::tags::FLIGHT_BLOCK;
 use sheet::tags::FLIGHT_HEAD;
 use sheet::tags::FLIGHT_ORDER;
+use sheet::tags::FLIGHT_WINDOW_BLOCK;
 use sheet::tags::MOSAIC_HEAD;
 use sheet::tags::MOSAIC_STRIP;
 use sheet::tags::SORTING_HEAD;
@@ -36,6 +37,7 @@ pub fn length_due(tag: u8, stations: usize) -> LengthDue
         SORTING_STRIP => LengthDue::Bytes(5),
         FLIGHT_HEAD => LengthDue::Either(0, 2),
         FLIGHT_BLOCK => LengthDue::Bytes(6),
+        FLIGHT_WINDOW_BLOCK => LengthDue::Bytes(8),
         FLIGHT_ORDER => LengthDue::Bytes(8),
         _ => LengthDue::None,
     }

@@ -13,13 +13,15 @@ use Rattle.field.specs.Bytes.{numberAt, NumberRead}
 use Rattle.sheet.specs.Limits.{mostTime, mostTurn}
 use Rattle.sheet.specs.Refusals.{outOfRange, timeTooLarge, timeOfZero}
 use Rattle.sheet.specs.Tags.{mosaicHeadTag, mosaicStripTag, sortingHeadTag, sortingStripTag, flightHeadTag, flightBlockTag, flightOrderTag}
+use Rattle.sheet.specs.Tags.{flightWindowBlockTag}
 use Rattle.sheet.specs.Among.{Among}
 use Rattle.sheet.specs.FieldTable.{mosaicHead, mosaicStrip, sortingHead, sortingStrip, turnFlightHead, flightBlock, flightOrder, fieldTable, lengthsDue}
+use Rattle.sheet.specs.FieldTable.{flightWindowBlock}
 use Rattle.sheet.specs.FieldTable.{Value, valuesOf, contentValues, fieldValues}
 use Rattle.sheet.specs.FieldTable.Range.{time}
 use Rattle.sheet.specs.FieldTable.Value.{value}
 use Rattle.sheet.specs.Contents.{stripFrom, strip-from-start, strip-time-left, strip-bench-left, strip-stations, mosaic-head-values, mosaic-strip-values, sorting-head-values}
-use Rattle.sheet.specs.Contents.{sorting-strip-values, flight-head-values, flight-block-values, flight-order-values, no-content, none-due}
+use Rattle.sheet.specs.Contents.{sorting-strip-values, flight-head-values, flight-block-values, flight-window-block-values, flight-order-values, no-content, none-due}
 use Rattle.sheet_ranges.specs.RangePre.{StripPre, RangePre}
 use Rattle.sheet.specs.Rows.{firstFailure}
 use Rattle.sheet.specs.RowLaws.{given-fails, given-passes, given-last}
@@ -172,12 +174,19 @@ module _ (s : List ℕ) (c tag len stations desks r : ℕ) (pre : RangePre c tag
   flight-block-read e a l b n₁ n₂ n₃ h =
       of-tag flightBlockTag _ e (flight-block-values s c len stations desks) (rw (← n₁ .is, ← n₂ .is, ← n₃ .is) h)
 
+  pub flight-window-block-read : tag ≡ flightWindowBlockTag → (a shortest longest b : ℕ) → NumberRead s c 2 a → NumberRead s (c + 2) 2 shortest
+      → NumberRead s (c + 4) 2 longest → NumberRead s (c + 6) 2 b → r ≡ rangeNumber (valuesOf flightWindowBlock (a ∷ shortest ∷ longest ∷ b ∷ []))
+      → r ≡ rangeNumber (fieldValues s c tag len (fieldTable stations desks))
+  flight-window-block-read e a shortest longest b n₁ n₂ n₃ n₄ h =
+      of-tag flightWindowBlockTag _ e (flight-window-block-values s c len stations desks) (rw (← n₁ .is, ← n₂ .is, ← n₃ .is, ← n₄ .is) h)
+
 -- a field of any other tag has no value with a range
 module _ (s : List ℕ) (c tag len stations desks : ℕ) (pre : RangePre c tag len stations desks) where
   pub no-values-read : (tag ≡ mosaicHeadTag → ⊥) → (tag ≡ mosaicStripTag → ⊥) → (tag ≡ sortingHeadTag → ⊥) → (tag ≡ sortingStripTag → ⊥)
-      → (tag ≡ flightHeadTag → ⊥) → (tag ≡ flightBlockTag → ⊥) → 0 ≡ rangeNumber (fieldValues s c tag len (fieldTable stations desks))
-  no-values-read h₁ h₂ h₃ h₄ h₅ h₆ = go (ℕ-discrete tag flightOrderTag)
+      → (tag ≡ flightHeadTag → ⊥) → (tag ≡ flightBlockTag → ⊥) → (tag ≡ flightWindowBlockTag → ⊥)
+      → 0 ≡ rangeNumber (fieldValues s c tag len (fieldTable stations desks))
+  no-values-read h₁ h₂ h₃ h₄ h₅ h₆ h₇ = go (ℕ-discrete tag flightOrderTag)
     where
       go : Dec (tag ≡ flightOrderTag) → 0 ≡ rangeNumber (fieldValues s c tag len (fieldTable stations desks))
       go (yes e) = of-tag s c tag len stations desks 0 pre flightOrderTag _ e (flight-order-values s c len stations desks) (order-passes _)
-      go (no n) = absurd (none-due tag (fieldTable stations desks) (no-content stations desks tag h₁ h₂ h₃ h₄ h₅ h₆ n) len (pre .due))
+      go (no n) = absurd (none-due tag (fieldTable stations desks) (no-content stations desks tag h₁ h₂ h₃ h₄ h₅ h₆ h₇ n) len (pre .due))

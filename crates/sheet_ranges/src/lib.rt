@@ -11,6 +11,7 @@ use sheet::numbers::TIME_OF_ZERO;
 use sheet::numbers::TIME_TOO_LARGE;
 use sheet::tags::FLIGHT_BLOCK;
 use sheet::tags::FLIGHT_HEAD;
+use sheet::tags::FLIGHT_WINDOW_BLOCK;
 use sheet::tags::MOSAIC_HEAD;
 use sheet::tags::MOSAIC_STRIP;
 use sheet::tags::SORTING_HEAD;
@@ -20,7 +21,7 @@ ghost use mathlib.Core.Bool.{cond};
 ghost use mathlib.Core.List.{[], _∷_};
 ghost use lib.Dec.{eqb};
 ghost use Rattle.sheet.specs.FieldTable.{mosaicHead, mosaicStrip, sortingHead, sortingStrip, turnFlightHead, flightBlock, fieldTable, valuesOf};
-ghost use Rattle.sheet.specs.FieldTable.{contentValues, fieldValues};
+ghost use Rattle.sheet.specs.FieldTable.{flightWindowBlock, contentValues, fieldValues};
 ghost use Rattle.sheet.specs.Checks.{countNumber, timeNumber, rangeNumber};
 ghost use Rattle.sheet_ranges.specs.RangePre.{StripPre, RangePre};
 
@@ -120,6 +121,24 @@ fn flight_block_number(a: u64, l: u64, b: u64) -> u64
     time_number(1, b, MOST_TIME)
 }
 
+fn flight_window_block_number(first: u64, shortest: u64, longest: u64, second: u64) -> u64
+    ensures { λ r. ⌜ r ≡ rangeNumber (valuesOf flightWindowBlock (first ∷ shortest ∷ longest ∷ second ∷ [])) ⌝ }
+{
+    let of_first = time_number(1, first, MOST_TIME);
+    if of_first != 0 {
+        return of_first;
+    }
+    let of_shortest = time_number(0, shortest, MOST_TIME);
+    if of_shortest != 0 {
+        return of_shortest;
+    }
+    let of_longest = time_number(0, longest, MOST_TIME);
+    if of_longest != 0 {
+        return of_longest;
+    }
+    time_number(1, second, MOST_TIME)
+}
+
 // The number that a field gives whose content begins at c and has a length that is due for its tag; 0 where every value is in its range. The length says what
 // content of the table the field has where its tag has two, as the flight head's has.
 pub fn range_number(
@@ -148,6 +167,12 @@ pub fn range_number(
             number(s, c, 2),
             number(s, c + 2, 2),
             number(s, c + 4, 2),
+        ),
+        FLIGHT_WINDOW_BLOCK => flight_window_block_number(
+            number(s, c, 2),
+            number(s, c + 2, 2),
+            number(s, c + 4, 2),
+            number(s, c + 6, 2),
         ),
         _ => 0,
     }

@@ -13,7 +13,7 @@ use Rattle.field.specs.Fields.{whole-at}
 use Rattle.field.specs.declared.Field.{Field}
 use Rattle.field.specs.declared.Field.the-variants.{End, Cut, Whole}
 use Rattle.sheet.specs.Limits.{mostBlocks, mostDesks, mostStrips, mostStripsOfDesk}
-use Rattle.sheet.specs.Tags.{mosaicStripTag, sortingStripTag, flightBlockTag}
+use Rattle.sheet.specs.Tags.{mosaicStripTag, sortingStripTag, flightBlockTag, flightWindowBlockTag}
 use Rattle.sheet.specs.Sections.{inMosaic, inFlight, stripsOfDesk}
 use Rattle.sheet.specs.FieldTable.{sortingStrip, valuesOf, Within}
 use Rattle.sheet.specs.Contents.{sorting-strip-values}
@@ -58,6 +58,13 @@ module _ (s : List ℕ) (st : Reading) (tag len : ℕ) (k : Kept s st) (w : st .
       let r : st .members < mostBlocks = below (st .members) mostBlocks (λ m. p .room-ok (TooMany.block e m)) in
       omega (arith, k .in-flight h .0)
 
+  window-block-fits : tag ≡ flightWindowBlockTag → st .flight .blocks < mostBlocks
+  unfolding permitted
+  window-block-fits e =
+      let h : st .section ≡ inFlight = eqb-true (st .section) inFlight (rw e at (permitted-true tag (st .section) (st .members) (p .tag-ok))) in
+      let r : st .members < mostBlocks = below (st .members) mostBlocks (λ m. p .room-ok (TooMany.window-block e m)) in
+      omega (arith, k .in-flight h .0)
+
   pub next-pre : length s * 1 < 2 ^ 63 → NextReadingPre s st tag len
   next-pre big =
       record {
@@ -65,7 +72,7 @@ module _ (s : List ℕ) (st : Reading) (tag len : ℕ) (k : Kept s st) (w : st .
         few-members = k .few-members;
         mosaic = record { content = omega arith; stations-fit = k .mosaic .most-stations; strip-fits = strip-fits };
         sorting = record { content = omega arith; desk-fits = desk-fits; strip-fits = desk-strip-fits };
-        flight = record { content = omega arith; block-fits = block-fits };
+        flight = record { content = omega arith; block-fits = block-fits; window-block-fits = window-block-fits };
       }
 
 module _ (s : List ℕ) (st : Reading) (p : Progress s st) (f : Field) (ef : f ≡ fieldAt s (st .at)) (tag len : ℕ) (e : f ≡ Whole tag len) where

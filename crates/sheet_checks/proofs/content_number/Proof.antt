@@ -26,6 +26,13 @@ returns-2 : tie.Need-returns-2
 unfolding contentChecks
 returns-2 c = search rows depth 14
 
+window-ordered-requires : tie.Need-window-ordered-requires
+window-ordered-requires c κs = search needs
+
+returns-3 : tie.Need-returns-3
+unfolding contentChecks
+returns-3 c = search rows depth 14
+
 byte-requires : tie.Need-byte-requires
 byte-requires c κs = search needs
 
@@ -35,9 +42,9 @@ strips-of-desk-requires c κs = search needs
 has-room-requires : tie.Need-has-room-requires
 has-room-requires c κs = search needs
 
-returns-3 : tie.Need-returns-3
+returns-4 : tie.Need-returns-4
 unfolding contentChecks
-returns-3 c = search rows depth 14
+returns-4 c = search rows depth 14
 
 number-requires : tie.Need-number-requires
 number-requires c κs = search needs
@@ -45,13 +52,13 @@ number-requires c κs = search needs
 order-proper-requires : tie.Need-order-proper-requires
 order-proper-requires c κs = search needs
 
-returns-4 : tie.Need-returns-4
-unfolding contentChecks
-returns-4 c = search rows depth 14
-
 returns-5 : tie.Need-returns-5
-unfolding contentChecks firstFailure
+unfolding contentChecks
 returns-5 c = search rows depth 14
+
+returns-6 : tie.Need-returns-6
+unfolding contentChecks firstFailure
+returns-6 c = search rows depth 14
 
 pub content-number-spec : {M : Type 1} → statement M
 content-number-spec =
@@ -63,11 +70,13 @@ content-number-spec =
     returns
     range-number-requires
     returns-2
+    window-ordered-requires
+    returns-3
     byte-requires
     strips-of-desk-requires
     has-room-requires
-    returns-3
+    returns-4
     number-requires
     order-proper-requires
-    returns-4
-    returns-5)
+    returns-5
+    returns-6)

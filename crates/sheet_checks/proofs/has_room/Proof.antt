@@ -28,5 +28,9 @@ returns-4 : tie.Need-returns-4
 unfolding hasRoom
 returns-4 c = search branches depth 14
 
+returns-5 : tie.Need-returns-5
+unfolding hasRoom
+returns-5 c = search branches depth 14
+
 pub has-room-spec : {M : Type 1} → statement M
-has-room-spec = tie.close (tie.spec returns returns-2 returns-3 returns-4)
+has-room-spec = tie.close (tie.spec returns returns-2 returns-3 returns-4 returns-5)

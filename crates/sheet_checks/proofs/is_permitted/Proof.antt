@@ -1,11 +1,14 @@
 -- `is_permitted` meets its contract: each way through its tests is one through the definition.
 use mathlib.Core.Path.{_≡_}
+use mathlib.Core.Bool.{Bool, false}
 use Prim.Native.Nat.{ℕ}
 use lib.Dec.{ltb}
+use borrow.Author.Tests.{ne-eqb}
 use Rattle.base.specs.Branch.{branches}
-use Rattle.sheet.specs.Tags.{sortingHeadTag}
+use Rattle.sheet.specs.Tags.{mosaicHeadTag, mosaicStripTag, sortingHeadTag, sortingStripTag, flightHeadTag, flightBlockTag, flightOrderTag}
+use Rattle.sheet.specs.Tags.{flightWindowBlockTag}
 use Rattle.sheet.specs.Sections.{inSorting}
-use Rattle.sheet.specs.Checks.{permitted}
+use Rattle.sheet.specs.Checks.{orderPermitted, permitted}
 use borrow.Author.Needs.{needs}
 use Rattle.sheet_checks.proofs.is_permitted.Statement.{statement}
 use Rattle.sheet_checks.proofs.is_permitted.Tie as tie
@@ -44,9 +47,22 @@ returns-7 : tie.Need-returns-7
 unfolding permitted
 returns-7 c = search branches depth 14
 
-returns-8 : tie.Need-returns-8
+order-field : (tag section members : ℕ) (r : Bool) → tag ≡ flightOrderTag → r ≡ orderPermitted section members → r ≡ permitted tag section members
 unfolding permitted
-returns-8 c = search branches depth 14
+order-field tag section members r e h = rw e h
+
+returns-8 : tie.Need-returns-8
+returns-8 c = search order-field
+
+no-tag : (tag section members : ℕ) → (tag ≡ mosaicHeadTag → ⊥) → (tag ≡ mosaicStripTag → ⊥) → (tag ≡ sortingHeadTag → ⊥) → (tag ≡ sortingStripTag → ⊥)
+    → (tag ≡ flightHeadTag → ⊥) → (tag ≡ flightBlockTag → ⊥) → (tag ≡ flightWindowBlockTag → ⊥) → (tag ≡ flightOrderTag → ⊥)
+    → false ≡ permitted tag section members
+unfolding permitted
+no-tag tag section members h₁ h₂ h₃ h₄ h₅ h₆ h₇ h₈ =
+    rw (ne-eqb _ _ h₁, ne-eqb _ _ h₂, ne-eqb _ _ h₃, ne-eqb _ _ h₄, ne-eqb _ _ h₅, ne-eqb _ _ h₆, ne-eqb _ _ h₇, ne-eqb _ _ h₈)
+
+returns-9 : tie.Need-returns-9
+returns-9 c = search no-tag
 
 pub is-permitted-spec : {M : Type 1} → statement M
 is-permitted-spec =
@@ -60,4 +76,5 @@ is-permitted-spec =
     returns-5
     returns-6
     returns-7
-    returns-8)
+    returns-8
+    returns-9)

@@ -1,8 +1,8 @@
 -- `next_flight` meets its contract: one case a tag; there is room for another block.
 use Rattle.base.specs.Branch.{branches}
 use Rattle.sheet.specs.Decode.{nextFlight}
-use Rattle.sheet_decode.specs.Pre.{block-fits}
-use Rattle.sheet_decode.specs.DecodeLaws.{exact-block-next}
+use Rattle.sheet_decode.specs.Pre.{block-fits, window-block-fits}
+use Rattle.sheet_decode.specs.DecodeLaws.{exact-block-next, window-block-next}
 use borrow.Author.Needs.{needs}
 use Rattle.sheet_decode.proofs.next_flight.Statement.{statement}
 use Rattle.sheet_decode.proofs.next_flight.Tie as tie
@@ -23,16 +23,25 @@ with-block-requires c κs = search block-fits
 returns-2 : tie.Need-returns-2
 returns-2 c = search exact-block-next
 
-with-order-requires : tie.Need-with-order-requires
-with-order-requires c κs = search needs
+window-block-requires : tie.Need-window-block-requires
+window-block-requires c κs = search needs
+
+with-block-requires-2 : tie.Need-with-block-requires-2
+with-block-requires-2 c κs = search window-block-fits
 
 returns-3 : tie.Need-returns-3
-unfolding nextFlight
-returns-3 c = search branches depth 14
+returns-3 c = search window-block-next
+
+with-order-requires : tie.Need-with-order-requires
+with-order-requires c κs = search needs
 
 returns-4 : tie.Need-returns-4
 unfolding nextFlight
 returns-4 c = search branches depth 14
+
+returns-5 : tie.Need-returns-5
+unfolding nextFlight
+returns-5 c = search branches depth 14
 
 pub next-flight-spec : {M : Type 1} → statement M
 next-flight-spec =
@@ -43,6 +52,9 @@ next-flight-spec =
     exact-block-requires
     with-block-requires
     returns-2
-    with-order-requires
+    window-block-requires
+    with-block-requires-2
     returns-3
-    returns-4)
+    with-order-requires
+    returns-4
+    returns-5)

@@ -41,6 +41,9 @@ returns-11 c = search cases
 returns-12 : tie.Need-returns-12
 returns-12 c = search cases
 
+returns-13 : tie.Need-returns-13
+returns-13 c = search cases
+
 pub length-due-spec : {M : Type 1} → statement M
 length-due-spec =
     tie.close
@@ -56,4 +59,5 @@ length-due-spec =
     returns-9
     returns-10
     returns-11
-    returns-12)
+    returns-12
+    returns-13)

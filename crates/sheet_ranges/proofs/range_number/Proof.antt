@@ -1,17 +1,9 @@
 -- `range_number` meets its contract: one case a tag: the values tested are those that stand in the content.
-use Rattle.sheet_ranges.specs.RangeLaws.{strip-pre, mosaic-head-read, mosaic-strip-read, sorting-head-read, sorting-strip-read, flight-head-read}
-use Rattle.sheet_ranges.specs.RangeLaws.{flight-block-read, no-values-read}
+use Rattle.sheet_ranges.specs.RangeLaws.{mosaic-head-read, strip-pre, mosaic-strip-read, sorting-head-read, sorting-strip-read, flight-head-read, flight-block-read}
+use Rattle.sheet_ranges.specs.RangeLaws.{flight-window-block-read, no-values-read}
 use borrow.Author.Needs.{needs}
 use Rattle.sheet_ranges.proofs.range_number.Statement.{statement}
 use Rattle.sheet_ranges.proofs.range_number.Tie as tie
-use Rattle.field.proofs.byte.Reads as byte-reads
-use Rattle.field.proofs.number.Reads as number-reads
-use Rattle.sheet_ranges.proofs.flight_block_number.Reads as flight-block-number-reads
-use Rattle.sheet_ranges.proofs.flight_head_number.Reads as flight-head-number-reads
-use Rattle.sheet_ranges.proofs.mosaic_head_number.Reads as mosaic-head-number-reads
-use Rattle.sheet_ranges.proofs.mosaic_strip_number.Reads as mosaic-strip-number-reads
-use Rattle.sheet_ranges.proofs.sorting_head_number.Reads as sorting-head-number-reads
-use Rattle.sheet_ranges.proofs.sorting_strip_number.Reads as sorting-strip-number-reads
 
 byte-requires : tie.Need-byte-requires
 byte-requires c κs = search needs
@@ -76,6 +68,30 @@ number-requires-7 c κs = search needs
 flight-block-number-requires : tie.Need-flight-block-number-requires
 flight-block-number-requires c κs = search needs
 
+number-requires-8 : tie.Need-number-requires-8
+number-requires-8 c κs = search needs
+
+add-number-6 : tie.Need-add-number-6
+add-number-6 c = search needs
+
+number-requires-9 : tie.Need-number-requires-9
+number-requires-9 c κs = search needs
+
+add-number-7 : tie.Need-add-number-7
+add-number-7 c = search needs
+
+number-requires-10 : tie.Need-number-requires-10
+number-requires-10 c κs = search needs
+
+add-number-8 : tie.Need-add-number-8
+add-number-8 c = search needs
+
+number-requires-11 : tie.Need-number-requires-11
+number-requires-11 c κs = search needs
+
+flight-window-block-number-requires : tie.Need-flight-window-block-number-requires
+flight-window-block-number-requires c κs = search needs
+
 returns : tie.Need-returns
 returns c = search mosaic-head-read
 
@@ -95,7 +111,10 @@ returns-6 : tie.Need-returns-6
 returns-6 c = search flight-block-read
 
 returns-7 : tie.Need-returns-7
-returns-7 c = search no-values-read
+returns-7 c = search flight-window-block-read
+
+returns-8 : tie.Need-returns-8
+returns-8 c = search no-values-read
 
 pub range-number-spec : {M : Type 1} → statement M
 range-number-spec =
@@ -122,10 +141,19 @@ range-number-spec =
     add-number-5
     number-requires-7
     flight-block-number-requires
+    number-requires-8
+    add-number-6
+    number-requires-9
+    add-number-7
+    number-requires-10
+    add-number-8
+    number-requires-11
+    flight-window-block-number-requires
     returns
     returns-2
     returns-3
     returns-4
     returns-5
     returns-6
-    returns-7)
+    returns-7
+    returns-8)
