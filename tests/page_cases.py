@@ -189,7 +189,7 @@ for name, sheet, plan, line in judged.CASES:
         PAGES.append((name, sheet, plan, lines_of(plan)))
     else:
         refused(name, sheet, plan, number, place)
-for name, sheet, line in sheets.CASES:
+for name, sheet, line in sheets.CASES + sheets.LARGE:
     number, place = map(int, line.split()[:2])
     if number != 0:
         refused(name, sheet, judged.PLAN, number, place)

@@ -320,7 +320,7 @@ refused("a field past the bytes that are taken", field(0x10, bytes(65535)), 3, 0
 refused("a field that ends at the last byte that is taken", field(0x10, bytes(65533)), 5, 0)
 
 # Every refusal of a sheet.
-for name, sheet, line in sheets.CASES:
+for name, sheet, line in sheets.CASES + sheets.LARGE:
     number, place = map(int, line.split()[:2])
     if number != 0:
         refused(name, sheet, number, place)

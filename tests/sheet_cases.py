@@ -52,6 +52,11 @@ def block(a=1, l=0, b=1):
     return field(0x31, word(a, l, b))
 
 
+def window(a=1, shortest=0, longest=0, b=1):
+    """A block with a window for its delay."""
+    return field(0x33, word(a, shortest, longest, b))
+
+
 def order(number):
     return field(0x32, struct.pack("<Q", number))
 
@@ -67,8 +72,11 @@ F = flight()
 STRIP = strip(0, 1)
 JOB = job()
 BLOCK = block()
+WINDOW = window()
 
 CASES = []
+# Refused sheets of over 2,048 bytes. They have no room in the file that sheet_cases reads; plan_cases.py and page_cases.py try them beside the others.
+LARGE = []
 
 
 def refused(name, sheet, number, place):
@@ -160,6 +168,7 @@ LENGTHS = [
     ("flight head", b"", 0x30, b"", 2),
     ("flight head with a turn", b"", 0x30, word(MOST_TURN), 0),
     ("block", F, 0x31, word(1, 0, 1)),
+    ("window block", F, 0x33, word(1, 0, 0, 1)),
     ("pass order", F + BLOCK, 0x32, struct.pack("<Q", 2)),
 ]
 
@@ -173,7 +182,8 @@ def of_length(content, length):
 for kind, before, tag, content, *other in LENGTHS:
     for length in [*range(13), len(content) + 256, len(content) * 256]:
         if length not in (len(content), *other):
-            refused("%s of %d bytes" % (kind, length), before + field(tag, of_length(content, length)), 5, len(before))
+            cases = CASES if length < 2048 else LARGE
+            cases.append(("%s of %d bytes" % (kind, length), before + field(tag, of_length(content, length)), "5 %d" % len(before)))
 for m in (1, 2, 3, 4):
     sound("a strip of %d stations" % m, mosaic(m) + strip(*[7] * m, 1), strips=1)
     for n in {1, 2, 3, 4} - {m}:
@@ -189,7 +199,7 @@ for kind, before, tag, content, *_ in LENGTHS:
     else:
         refused("4 goes before 5: %s, first" % kind, field(tag, content + b"\x01"), 4, 0)
 # A tag outside the table may stand nowhere; the lengths go from 0 to 10, so that each length of the table is among them.
-for tag in sorted({*range(256)} - {0x10, 0x11, 0x20, 0x21, 0x30, 0x31, 0x32}):
+for tag in sorted({*range(256)} - {0x10, 0x11, 0x20, 0x21, 0x30, 0x31, 0x32, 0x33}):
     refused("tag %02X is not permitted" % tag, M + field(tag, bytes(tag % 11)), 4, 6)
 refused("5 goes before 6: stations 0", field(0x10, bytes(4)), 5, 0)
 refused("5 goes before 15: a turn of 601 in three bytes", field(0x30, word(MOST_TURN + 1) + b"\0"), 5, 0)
@@ -229,6 +239,7 @@ FIELDS = [
     ("strip for two desks", sorting(2), job, [("desk", 1, count(2)), ("scan time", 1, FROM_1), ("desk time", 1, FROM_1)]),
     ("flight head", b"", flight, [("turn", 0, TURN)]),
     ("block", F, block, [("first pass", 1, FROM_1), ("delay", 0, FROM_0), ("second pass", 1, FROM_1)]),
+    ("window block", F, window, [("first pass", 1, FROM_1), ("shortest delay", 0, FROM_0), ("longest delay", 0, FROM_0), ("second pass", 1, FROM_1)]),
 ]
 
 
@@ -333,8 +344,9 @@ sound("32 blocks with an order", F + BLOCK * 32 + order(alternate(32)), blocks=3
 refused("33 blocks", F + BLOCK * 33 + order(alternate(32)), 7, 3 + 9 * 32)
 MOST_MEMBERS = {0x11: 40, 0x21: 6, 0x31: 32}
 for name, before, good, bad, number in MEMBERS:
-    full = before + good * MOST_MEMBERS[bad[0]]
-    refused(name + ", one member too many", full + bad, number, len(full))
+    if bad[0] in MOST_MEMBERS:
+        full = before + good * MOST_MEMBERS[bad[0]]
+        refused(name + ", one member too many", full + bad, number, len(full))
 
 # 9: orders that are not proper. An order number has no range of its own.
 sound("order 2 for one block", F + BLOCK + order(2), blocks=1, order_number=2)
@@ -414,6 +426,84 @@ for name, sheet, line in [case for case in CASES if case[1].startswith(F) and le
     number, place = map(int, line.split()[:2])
     shifted = line if place < len(F) else "%d %d" % (number, place + 2)
     CASES.append(("a written 0: " + name, flight(0) + sheet[len(F):], shifted))
+
+# Windows. The ends of both delays, a low byte of 0, bytes that differ, and a window of one value.
+for shortest, longest in [(0, 0), (0, 1), (1, 1), (255, 256), (258, 513), (0, MOST_TIME), (MOST_TIME - 1, MOST_TIME), (MOST_TIME, MOST_TIME)]:
+    sound("a window from %d to %d" % (shortest, longest), F + window(1, shortest, longest), blocks=1)
+for time in (256, MOST_TIME):
+    sound("a window block with a first pass of %d" % time, F + window(time), blocks=1)
+    sound("a window block with a second pass of %d" % time, F + window(1, 0, 0, time), blocks=1)
+
+# 17: the longest delay below the shortest. It comes after the ranges of all values of its field, whichever of them is bad.
+for shortest, longest in [(1, 0), (256, 255), (513, 258), (MOST_TIME, 0), (MOST_TIME, MOST_TIME - 1)]:
+    refused("a window from %d to %d" % (shortest, longest), F + window(1, shortest, longest), 17, 3)
+for (a, number_a), (b, number_b) in itertools.product({1: 0, **FROM_1[0]}.items(), repeat=2):
+    refused("a window from 1 to 0, passes of %d and %d" % (a, b), F + window(a, 1, 0, b), number_a or number_b or 17, 3)
+refused("a window from 60,001 to 60,000", F + window(1, OVER, MOST_TIME), 15, 3)
+refused("a window from 60,002 to 60,001", F + window(1, OVER + 1, OVER), 15, 3)
+
+# 3, 4 and 5 go before 17; 7, 9 and 10 come after it; 11 is no matter of reading. The first bad field decides.
+NARROW = window(1, 1, 0)
+refused("3 goes before 17", F + NARROW[:-1], 3, 3)
+refused("5 goes before 17, one byte short", F + field(0x33, NARROW[3:-1]), 5, 3)
+refused("5 goes before 17, one byte over", F + field(0x33, NARROW[3:] + b"\0"), 5, 3)
+refused("4 goes before 17: first", NARROW, 4, 0)
+refused("4 goes before 17: behind the order", F + BLOCK + order(2) + NARROW, 4, 23)
+for name, behind in [
+    ("a field that is cut", b"\x33"),
+    ("a tag that is not permitted", field(0x99)),
+    ("a block of a wrong length", field(0x33)),
+    ("a block with a first pass of 0", block(0)),
+    ("an order that is not proper", order(1)),
+    ("another head", F),
+]:
+    refused("17, then " + name, F + NARROW + behind, 17, 3)
+refused("16, then 17", F + block(0) + NARROW, 16, 3)
+refused("17 behind a block of each kind", F + BLOCK + WINDOW + NARROW, 17, 23)
+refused("17 behind a turn", flight(0) + NARROW, 17, 5)
+refused("a turn of 601, then 17", OVER_TURN + NARROW, 15, 0)
+refused("17 behind two sections", M + STRIP + S + JOB + F + NARROW, 17, 28)
+refused("17 in the ninth block without order", F + BLOCK * 8 + NARROW, 17, 75)
+refused("17 behind nine blocks without order", F + BLOCK * 9 + NARROW, 17, 84)
+refused("17 in the first of nine blocks without order", F + NARROW + BLOCK * 8, 17, 3)
+for name, last, number in [("a window block", WINDOW, 7), ("16", window(0), 16), ("15", window(1, 0, OVER), 15), ("17", NARROW, 17)]:
+    refused("the 33rd block: " + name, F + BLOCK * 32 + last, number, 3 + 9 * 32)
+
+# A window block may stand where a block may, and nowhere else.
+for name, before in [("first", b""), ("behind a mosaic head", M), ("behind a strip", M + STRIP), ("behind a sorting head", S), ("behind a job", S + JOB)]:
+    refused("a window block " + name, before + WINDOW, 4, len(before))
+    refused("a window block without content " + name, before + field(0x33), 4, len(before))
+refused("a window block behind the order", F + WINDOW + order(2) + WINDOW, 4, 25)
+refused("a window block of a wrong length behind the order", F + WINDOW + order(2) + field(0x33), 4, 25)
+refused("a mosaic head behind a window block", F + WINDOW + M, 4, 14)
+refused("a second flight behind a window block", F + WINDOW + F + WINDOW, 4, 14)
+refused("an unknown tag behind a window block", F + WINDOW + field(0x34, bytes(8)), 4, 14)
+sound("a window block and an order", F + WINDOW + order(2), blocks=1, order_number=2)
+refused("a window block and an order that is not proper", F + WINDOW + order(1), 9, 14)
+sound("a window block behind two sections", M + STRIP + S + JOB + G + WINDOW, strips=1, desks=(1, 0, 0), blocks=1, turn=600)
+# Whether a delay of the window is as long as the turn is no matter of reading.
+sound("a turn of 600 and a window from 0 to 599", G + window(1, 0, 599) + order(2), blocks=1, turn=600, order_number=2)
+
+# Both kinds count together.
+PAIR = BLOCK + WINDOW
+sound("two blocks of both kinds", F + PAIR, blocks=2)
+sound("two blocks of both kinds, a written 0 and an order", flight(0) + PAIR + order(0xC), blocks=2, order_number=0xC)
+sound("two blocks of both kinds, the window block first", F + WINDOW + BLOCK + order(0xA), blocks=2, order_number=0xA)
+refused("order 3 for two blocks of both kinds", F + PAIR + order(3), 9, 23)
+sound("eight window blocks without order", F + WINDOW * 8, blocks=8)
+sound("eight blocks of both kinds without order", F + PAIR * 4, blocks=8)
+refused("nine window blocks without order", F + WINDOW * 9, 10, 0)
+refused("nine blocks of both kinds without order", F + PAIR * 4 + BLOCK, 10, 0)
+refused("nine blocks of both kinds, ended by a head", S + JOB + F + PAIR * 4 + WINDOW + F, 10, 12)
+sound("nine blocks of both kinds with an order", F + PAIR * 4 + WINDOW + order(alternate(9)), blocks=9, order_number=alternate(9))
+sound("32 blocks of both kinds with an order", F + PAIR * 16 + order(LATE), blocks=32, order_number=LATE)
+refused("32 window blocks without order", F + WINDOW * 32, 10, 0)
+refused("32 window blocks, then a block", F + WINDOW * 32 + BLOCK, 7, 3 + 11 * 32)
+
+# The longest sheet: 1,042 bytes.
+LONG_WINDOW = window(MOST_TIME, MOST_TIME, MOST_TIME, MOST_TIME)
+LONGEST = LONG_MOSAIC + LONG_SORTING + G + LONG_WINDOW * 32 + order(alternate(32))
+sound("the longest sheet", LONGEST, strips=40, desks=(6, 6, 6), blocks=32, turn=600, order_number=alternate(32))
 
 
 def files():
