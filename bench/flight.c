@@ -1,5 +1,6 @@
 /* Times the flight planner against plain C that does the same rounds over the same constraints and the same recursion over proper orders:
-   8 blocks without an order and 32 blocks with one, without and with a turn. Where a delay is below the turn neither searches. Both must give the same answer.
+   8 blocks without an order and 32 blocks with one, with exact delays and with windows, without and with a turn. Where a longest delay is below the turn
+   neither searches. Both must give the same answer.
    rt staticlib flight_bench && gcc -O2 -Wall -Wextra -Werror -o target/bench_flight bench/flight.c target/staticlib/libflight_bench.a && target/bench_flight */
 #include "flight.h"
 
@@ -8,7 +9,8 @@ struct answer {
     bool possible;
 };
 
-extern struct answer flight_best(size_t blocks, u64 turn, const u64 first[32], const u64 delay[32], const u64 second[32], bool ordered, u64 order);
+extern struct answer
+flight_best(size_t blocks, u64 turn, const u64 first[32], const u64 least[32], const u64 most[32], const u64 second[32], bool ordered, u64 order);
 
 enum { INSTANCES = 31 };
 
@@ -20,7 +22,7 @@ struct instance {
 static void ours(void *p) {
     struct instance *x = p;
     const struct flight *f = &x->flight;
-    x->ours = flight_best(f->blocks, f->turn, f->first, f->delay, f->second, f->ordered, f->order);
+    x->ours = flight_best(f->blocks, f->turn, f->first, f->least, f->most, f->second, f->ordered, f->order);
 }
 
 static void plain(void *p) {
@@ -57,6 +59,13 @@ static void measure_all(const char *title, const struct flight_times *limits) {
     measure("32, one block after another", ONE_BY_ONE, limits);
     measure("32, random orders", RANDOM_ORDER, limits);
     measure("32, all first passes first", FIRSTS_FIRST, limits);
+    measure("8 free windows, random", FREE_WINDOWS, limits);
+    measure("8 free windows, many impossible", FREE_WINDOWS_MANY_IMPOSSIBLE, limits);
+    if (limits[FREE_WINDOWS_IMPOSSIBLE].turn_high > 0)
+        measure("8 free windows, one below turn", FREE_WINDOWS_IMPOSSIBLE, limits);
+    measure("32 windows, one after another", WINDOWS_ONE_BY_ONE, limits);
+    measure("32 windows, random orders", WINDOWS_RANDOM_ORDER, limits);
+    measure("32 wide windows, random orders", WIDE_WINDOWS, limits);
 }
 
 int main(void) {

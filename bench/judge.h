@@ -96,7 +96,7 @@ static inline struct finding judge_flight(const struct flight *f, const uint8_t 
     u64 starts[64] = {0}, order = number_at(plan + s.head + 7, 8), end = 0;
     for (size_t k = 0, at = s.first; k < s.members; k++, at += 11) {
         u64 first = number_at(plan + at + 3, 4), second = number_at(plan + at + 7, 4);
-        if (k == f->blocks || second != first + f->first[k] + f->delay[k] || CEILING < second + f->second[k])
+        if (k == f->blocks || !between(first + f->first[k] + f->least[k], second, first + f->first[k] + f->most[k]) || CEILING < second + f->second[k])
             return (struct finding){at, 0};
         starts[k] = first;
         starts[f->blocks + k] = second;

@@ -9,7 +9,7 @@
 enum { PLANS = 21, PAGE_TURNS = 15 };
 
 /* What a family of plans has otherwise than others: as many batches as strips, one member in each section, or a fault. */
-enum change { NONE, ALL_BATCHES, ONE_MEMBER_EACH, CUT, BROKEN, SHORT_TURN, UNTRUE, SMALL_BUFFER };
+enum change { NONE, ALL_BATCHES, ONE_MEMBER_EACH, CUT, BROKEN, LONG_DELAY, SHORT_TURN, UNTRUE, SMALL_BUFFER };
 
 struct family {
     const char *name;
@@ -27,16 +27,19 @@ static const struct family families[] = {
     {"the same with small times", 0, ALL_BATCHES, 10, RANDOM_SMALL, FREE_RANDOM, short_times},
     {"few batches, 18 strips, 32 blocks", 0, NONE, MOST_TIME, RANDOM, ONE_BY_ONE, long_times},
     {"the same with a turn", 0, NONE, MOST_TIME, RANDOM, ONE_BY_ONE, long_turns},
+    {"the same with windows", 0, NONE, MOST_TIME, RANDOM, WINDOWS_ONE_BY_ONE, long_times},
+    {"the same with windows and a turn", 0, NONE, MOST_TIME, RANDOM, WINDOWS_ONE_BY_ONE, long_turns},
     {"one member in each section", 0, ONE_MEMBER_EACH, MOST_TIME, RANDOM, FREE_RANDOM, long_times},
     {"2: page buffer too small", SEVULAMON_BUFFER_TOO_SMALL, SMALL_BUFFER, MOST_TIME, RANDOM, ONE_BY_ONE, long_times},
     {"12: last field cut", SEVULAMON_LAYOUT_WRONG, CUT, MOST_TIME, RANDOM, ONE_BY_ONE, long_times},
     {"13: last member broken", SEVULAMON_RULE_BROKEN, BROKEN, MOST_TIME, RANDOM, ONE_BY_ONE, long_times},
+    {"13: delay beyond its window", SEVULAMON_RULE_BROKEN, LONG_DELAY, MOST_TIME, RANDOM, WINDOWS_ONE_BY_ONE, long_times},
     {"13: turn too short", SEVULAMON_RULE_BROKEN, SHORT_TURN, MOST_TIME, RANDOM, ONE_BY_ONE, long_turns},
     {"14: first figure untrue", SEVULAMON_FIGURE_UNTRUE, UNTRUE, MOST_TIME, RANDOM, ONE_BY_ONE, long_times},
 };
 
 struct call {
-    uint8_t sheet[1024], plan[SEVULAMON_PLAN_LENGTH], ours_page[SEVULAMON_PAGE_LENGTH], plain_page[SEVULAMON_PAGE_LENGTH];
+    uint8_t sheet[MOST_SHEET], plan[SEVULAMON_PLAN_LENGTH], ours_page[SEVULAMON_PAGE_LENGTH], plain_page[SEVULAMON_PAGE_LENGTH];
     size_t length, plan_length, page_length, printed;
     struct sevulamon_answer ours, plain;
     struct sevulamon_judged ours_judged, plain_judged;
@@ -52,10 +55,18 @@ static void change_sections(struct sheet *s, enum change change) {
     }
 }
 
-static void change_plan(struct call *x, enum change change) {
+/* The second start of the last block, one second later than its window allows. */
+static void delay_last(struct call *x, const struct flight *f) {
+    uint8_t *starts = x->plan + x->plan_length - 8;
+    size_t last = f->blocks - 1;
+    put(starts + 4, 4, number_at(starts, 4) + f->first[last] + f->most[last] + 1);
+}
+
+static void change_plan(struct call *x, const struct sheet *s, enum change change) {
     switch (change) {
     case CUT: x->plan_length--; break;
     case BROKEN: x->plan[x->plan_length - 4] ^= 1; break;
+    case LONG_DELAY: delay_last(x, &s->flight); break;
     case UNTRUE: x->plan[3] ^= 1; break;
     case SMALL_BUFFER: x->page_length--; break;
     default: break;
@@ -79,7 +90,7 @@ static void make_call(struct call *x, const struct family *f) {
     x->length = write_sheet(x->sheet, &s);
     x->plan_length = plan_in_c(x->sheet, x->length, x->plan, sizeof x->plan).length;
     x->page_length = SEVULAMON_PAGE_LENGTH;
-    change_plan(x, f->change);
+    change_plan(x, &s, f->change);
     change_sheet(x, &s, f->change);
     memset(x->ours_page, 0xCC, sizeof x->ours_page);
     memset(x->plain_page, 0xCC, sizeof x->plain_page);

@@ -1,6 +1,6 @@
 /* Times the whole call, sevulamon_plan, against plain C that does the same work on the same bytes: full sheets (40 strips, 6 + 6 + 6 strips, 8 free
-   blocks or 32 with an order, without and with a turn), a small sheet, and sheets that are refused. Both must give the same answer and leave the same bytes
-   in the buffer.
+   blocks or 32 with an order, with exact delays and with windows, without and with a turn), a small sheet, and sheets that are refused. Both must give the same
+   answer and leave the same bytes in the buffer.
    rt staticlib viewer && gcc -O2 -Wall -Wextra -Werror -Iinclude -o target/bench_plan bench/plan.c target/staticlib/libviewer.a && target/bench_plan */
 #include "plan.h"
 #include "sheet_writer.h"
@@ -9,13 +9,13 @@
 enum { SHEETS = 21 };
 
 /* Bytes of the content of a sorting strip, which begins with its desk, and of whole fields of a flight, its head without a turn. */
-enum { STRIP_CONTENT = 5, HEAD_FIELD = 3, BLOCK_FIELD = 9, ORDER_FIELD = 11 };
+enum { STRIP_CONTENT = 5, HEAD_FIELD = 3, BLOCK_FIELD = 9, WINDOW_FIELD = 11, ORDER_FIELD = 11 };
 
 /* The targets of an accepted full sheet: its time by that of the C, and by that of plain enumeration of its sorting section alone. */
 static const double target_ratio = 2.0, target_part = 0.05;
 
 /* How a full sheet with an order is spoiled, if it is. */
-enum change { NONE, ONE_MEMBER_EACH, EMPTY, CUT, LAST_DESK, FIRST_TIME, TURN, LAST_TIME, NOT_PROPER, NO_ORDER, SMALL_BUFFER };
+enum change { NONE, ONE_MEMBER_EACH, EMPTY, CUT, LAST_DESK, FIRST_TIME, TURN, LAST_TIME, LAST_WINDOW, NOT_PROPER, NO_ORDER, SMALL_BUFFER };
 
 struct family {
     const char *name;
@@ -43,6 +43,14 @@ static const struct family families[] = {
     {"turns, many impossible orders", 0, NONE, 0, MOST_TIME, RANDOM, FREE_MANY_IMPOSSIBLE, long_turns},
     {"turns, 32 blocks in order", 0, NONE, 0, MOST_TIME, RANDOM, ONE_BY_ONE, long_turns},
     {"turns, first passes first", 0, NONE, 0, MOST_TIME, RANDOM, FIRSTS_FIRST, long_turns},
+    {"windows, 8 free blocks", 0, NONE, 0, MOST_TIME, RANDOM, FREE_WINDOWS, long_times},
+    {"windows, small times", 0, NONE, 0, 10, RANDOM_SMALL, FREE_WINDOWS, short_times},
+    {"windows, many impossible orders", 0, NONE, 0, MOST_TIME, RANDOM, FREE_WINDOWS_MANY_IMPOSSIBLE, long_times},
+    {"windows, 32 blocks in order", 0, NONE, 0, MOST_TIME, RANDOM, WINDOWS_ONE_BY_ONE, long_times},
+    {"windows and turns, 8 free blocks", 0, NONE, 0, MOST_TIME, RANDOM, FREE_WINDOWS, long_turns},
+    {"windows and turns, 32 in order", 0, NONE, 0, MOST_TIME, RANDOM, WINDOWS_ONE_BY_ONE, long_turns},
+    {"wide windows, random orders", 0, NONE, 0, MOST_TIME, RANDOM, WIDE_WINDOWS, long_times},
+    {"wide windows and turns", 0, NONE, 0, MOST_TIME, RANDOM, WIDE_WINDOWS, long_turns},
     {"one member in each section", 0, ONE_MEMBER_EACH, 0, MOST_TIME, RANDOM, FREE_RANDOM, long_times},
     {"2: buffer too small", SEVULAMON_BUFFER_TOO_SMALL, SMALL_BUFFER, 0, MOST_TIME, RANDOM, ONE_BY_ONE, long_times},
     {"3: last field cut", SEVULAMON_FIELD_CUT, CUT, 0, MOST_TIME, RANDOM, ONE_BY_ONE, long_times},
@@ -53,14 +61,17 @@ static const struct family families[] = {
     {"11: impossible order", SEVULAMON_ORDER_IMPOSSIBLE, NONE, 0, MOST_TIME, RANDOM, RANDOM_ORDER, long_times},
     {"11: impossible order, turns", SEVULAMON_ORDER_IMPOSSIBLE, NONE, 0, MOST_TIME, RANDOM, RANDOM_ORDER, long_turns},
     {"11: 8 free, delay below turn", SEVULAMON_ORDER_IMPOSSIBLE, NONE, 0, MOST_TIME, RANDOM, FREE_IMPOSSIBLE, long_turns},
+    {"11: impossible order, windows", SEVULAMON_ORDER_IMPOSSIBLE, NONE, 0, MOST_TIME, RANDOM, WINDOWS_RANDOM_ORDER, long_turns},
+    {"11: 8 free, window below turn", SEVULAMON_ORDER_IMPOSSIBLE, NONE, 0, MOST_TIME, RANDOM, FREE_WINDOWS_IMPOSSIBLE, long_turns},
     {"15: turn too large", SEVULAMON_TIME_TOO_LARGE, TURN, 0, MOST_TIME, RANDOM, ONE_BY_ONE, long_turns},
     {"15: first time too large", SEVULAMON_TIME_TOO_LARGE, FIRST_TIME, 0, MOST_TIME, RANDOM, ONE_BY_ONE, long_times},
     {"16: last time of zero", SEVULAMON_TIME_OF_ZERO, LAST_TIME, 0, MOST_TIME, RANDOM, ONE_BY_ONE, long_times},
+    {"17: last window ends too early", LONGEST_BELOW_SHORTEST, LAST_WINDOW, 0, MOST_TIME, RANDOM, WIDE_WINDOWS, long_turns},
 };
 
 struct call {
     struct sheet sections;
-    uint8_t sheet[1024];
+    uint8_t sheet[MOST_SHEET];
     size_t length, plan_length;
     struct sevulamon_answer ours, plain;
     uint8_t ours_plan[SEVULAMON_PLAN_LENGTH], plain_plan[SEVULAMON_PLAN_LENGTH];
@@ -74,9 +85,16 @@ static void change_sections(struct sheet *s, enum change change) {
     }
 }
 
+/* The bytes of a block in the sheet. */
+static size_t block_field(const struct flight *f, size_t i) {
+    return f->least[i] == f->most[i] ? BLOCK_FIELD : WINDOW_FIELD;
+}
+
 static void change_bytes(struct call *x, enum change change) {
     const struct flight *f = &x->sections.flight;
-    uint8_t *order = x->sheet + x->length - ORDER_FIELD, *flight = order - BLOCK_FIELD * f->blocks - HEAD_FIELD - turn_width(f);
+    uint8_t *order = x->sheet + x->length - ORDER_FIELD, *flight = order - HEAD_FIELD - turn_width(f);
+    for (size_t i = 0; i < f->blocks; i++)
+        flight -= block_field(f, i);
     switch (change) {
     case EMPTY: x->length = 0; break;
     case CUT: x->length--; break;
@@ -84,6 +102,7 @@ static void change_bytes(struct call *x, enum change change) {
     case FIRST_TIME: put(x->sheet + 4, 2, MOST_TIME + 1); break;
     case TURN: put(flight + 3, 2, MOST_TURN + 1); break;
     case LAST_TIME: put(order - 2, 2, 0); break;
+    case LAST_WINDOW: put(put(order - 6, 2, MOST_TIME), 2, MOST_TIME - 1); break;
     case NOT_PROPER: put(order + 3, 8, 3); break;
     case NO_ORDER: x->length -= ORDER_FIELD; break;
     case SMALL_BUFFER: x->plan_length--; break;
@@ -137,7 +156,7 @@ static void measure(const struct family *f) {
         require_equal(equal(&x) && x.ours.number == f->number, f->name, i);
         add_instance(&t, ours, plain, &x);
     }
-    printf("%-30s %6d ", f->name, SHEETS);
+    printf("%-32s %6d ", f->name, SHEETS);
     print_times(&t);
     if (f->number == 0 && f->change == NONE)
         printf(" %6.2f | %8.5f %6.2f\n", target_ratio, median(t.ours, t.count) / time_of(enumeration, &x, 1), target_part);
@@ -148,7 +167,7 @@ static void measure(const struct family *f) {
 
 int main(void) {
     printf("ratio: to C that does the same work. part: of the time of plain enumeration, in C, of the sorting section alone.\n");
-    printf("%-30s %6s ", "family", "sheets");
+    printf("%-32s %6s ", "family", "sheets");
     print_times_head();
     printf(" %6s | %8s %6s\n", "target", "part", "target");
     for (size_t i = 0; i < sizeof families / sizeof families[0]; i++)

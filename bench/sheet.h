@@ -7,7 +7,13 @@
 #include "sevulamon.h"
 #include "sorting.h"
 
-enum sheet_tag { MOSAIC_HEAD = 0x10, MOSAIC_STRIP = 0x11, SORTING_HEAD = 0x20, SORTING_STRIP = 0x21, FLIGHT_HEAD = 0x30, FLIGHT_BLOCK = 0x31, FLIGHT_ORDER = 0x32 };
+enum sheet_tag {
+    MOSAIC_HEAD = 0x10, MOSAIC_STRIP = 0x11, SORTING_HEAD = 0x20, SORTING_STRIP = 0x21,
+    FLIGHT_HEAD = 0x30, FLIGHT_BLOCK = 0x31, FLIGHT_ORDER = 0x32, FLIGHT_WINDOW = 0x33
+};
+
+/* The number of a window whose longest delay is below its shortest. */
+enum { LONGEST_BELOW_SHORTEST = 17 };
 
 enum section { NO_SECTION, IN_MOSAIC, IN_SORTING, IN_FLIGHT, AFTER_ORDER };
 
@@ -47,7 +53,7 @@ static inline bool permitted(uint8_t tag, const struct reading *r) {
     case SORTING_HEAD: return r->section < IN_SORTING;
     case SORTING_STRIP: return r->section == IN_SORTING;
     case FLIGHT_HEAD: return r->section < IN_FLIGHT;
-    case FLIGHT_BLOCK: return r->section == IN_FLIGHT;
+    case FLIGHT_BLOCK: case FLIGHT_WINDOW: return r->section == IN_FLIGHT;
     case FLIGHT_ORDER: return r->section == IN_FLIGHT && r->members > 0;
     default: return false;
     }
@@ -106,11 +112,12 @@ static inline u64 turn_number(u64 turn) {
     return MOST_TURN < turn ? SEVULAMON_TIME_TOO_LARGE : 0;
 }
 
-static inline u64 block_number(const uint8_t *c) {
+/* A block with one delay, or with two. */
+static inline u64 block_number(const uint8_t *c, size_t delays) {
     u64 number = time_number(c, 1);
-    if (number == 0)
-        number = time_number(c + 2, 0);
-    return number == 0 ? time_number(c + 4, 1) : number;
+    for (size_t k = 1; k <= delays && number == 0; k++)
+        number = time_number(c + 2 * k, 0);
+    return number == 0 ? time_number(c + 2 * delays + 2, 1) : number;
 }
 
 static inline u64 range_number(uint8_t tag, const uint8_t *c, size_t length, const struct sheet *s) {
@@ -120,7 +127,8 @@ static inline u64 range_number(uint8_t tag, const uint8_t *c, size_t length, con
     case SORTING_HEAD: return count_number(c[0], 3);
     case SORTING_STRIP: return job_number(c, s->sorting.desks);
     case FLIGHT_HEAD: return turn_number(number_at(c, length));
-    case FLIGHT_BLOCK: return block_number(c);
+    case FLIGHT_BLOCK: return block_number(c, 1);
+    case FLIGHT_WINDOW: return block_number(c, 2);
     default: return 0;
     }
 }
@@ -129,7 +137,7 @@ static inline bool has_room(uint8_t tag, const uint8_t *c, const struct sheet *s
     switch (tag) {
     case MOSAIC_STRIP: return s->mosaic.strips < 40;
     case SORTING_STRIP: return s->sorting.counts[c[0] - 1] < 6;
-    case FLIGHT_BLOCK: return s->flight.blocks < 32;
+    case FLIGHT_BLOCK: case FLIGHT_WINDOW: return s->flight.blocks < 32;
     default: return true;
     }
 }
@@ -154,7 +162,7 @@ static inline u64 section_number(const struct reading *r) {
     return r->section == IN_FLIGHT && r->members > 8 ? SEVULAMON_ORDER_MISSING : 0;
 }
 
-/* 4, 5, then 6, 15 or 16, then 7 or 9 where the field is refused. */
+/* 4, 5, then 6, 15 or 16, then 17, then 7 or 9 where the field is refused. */
 static inline u64 field_number(uint8_t tag, const uint8_t *c, size_t length, const struct reading *r, const struct sheet *s) {
     if (!permitted(tag, r))
         return SEVULAMON_TAG_NOT_PERMITTED;
@@ -163,6 +171,8 @@ static inline u64 field_number(uint8_t tag, const uint8_t *c, size_t length, con
     u64 out_of_range = range_number(tag, c, length, s);
     if (out_of_range != 0)
         return out_of_range;
+    if (tag == FLIGHT_WINDOW && number_at(c + 4, 2) < number_at(c + 2, 2))
+        return LONGEST_BELOW_SHORTEST;
     if (!has_room(tag, c, s))
         return SEVULAMON_TOO_MANY;
     if (tag == FLIGHT_ORDER && !proper(s->flight.blocks, number_at(c, 8)))
@@ -182,10 +192,12 @@ static inline void add_job(struct sorting *s, const uint8_t *c) {
     s->desk[at] = number_at(c + 3, 2);
 }
 
-static inline void add_block(struct flight *f, const uint8_t *c) {
+/* A block with one delay, or with two. */
+static inline void add_block(struct flight *f, const uint8_t *c, size_t delays) {
     f->first[f->blocks] = number_at(c, 2);
-    f->delay[f->blocks] = number_at(c + 2, 2);
-    f->second[f->blocks++] = number_at(c + 4, 2);
+    f->least[f->blocks] = number_at(c + 2, 2);
+    f->most[f->blocks] = number_at(c + 2 * delays, 2);
+    f->second[f->blocks++] = number_at(c + 2 * delays + 2, 2);
 }
 
 /* What a field that passed its checks adds. */
@@ -202,7 +214,8 @@ static inline void add_field(struct sheet *s, uint8_t tag, const uint8_t *c, siz
         s->flight.turn = number_at(c, length);
         s->flight_place = at;
         break;
-    case FLIGHT_BLOCK: add_block(&s->flight, c); break;
+    case FLIGHT_BLOCK: add_block(&s->flight, c, 1); break;
+    case FLIGHT_WINDOW: add_block(&s->flight, c, 2); break;
     case FLIGHT_ORDER:
         s->flight.ordered = true;
         s->flight.order = number_at(c, 8);

@@ -4,6 +4,9 @@
 
 #include "plan.h"
 
+/* The bytes of the longest sheet that is accepted. */
+enum { MOST_SHEET = 1042 };
+
 /* Each of these writes at d and returns where it ended. */
 
 static inline uint8_t *put_mosaic(uint8_t *d, const struct mosaic *m) {
@@ -30,10 +33,17 @@ static inline size_t turn_width(const struct flight *f) {
     return f->turn > 0 ? 2 : 0;
 }
 
+/* A window of one value is written as a block with one delay. */
+static inline uint8_t *put_block(uint8_t *d, u64 first, u64 least, u64 most, u64 second) {
+    if (least == most)
+        return put(put(put(put_head(d, FLIGHT_BLOCK, 6), 2, first), 2, least), 2, second);
+    return put(put(put(put(put_head(d, FLIGHT_WINDOW, 8), 2, first), 2, least), 2, most), 2, second);
+}
+
 static inline uint8_t *put_flight(uint8_t *d, const struct flight *f) {
     d = put(put_head(d, FLIGHT_HEAD, turn_width(f)), turn_width(f), f->turn);
     for (size_t i = 0; i < f->blocks; i++)
-        d = put(put(put(put_head(d, FLIGHT_BLOCK, 6), 2, f->first[i]), 2, f->delay[i]), 2, f->second[i]);
+        d = put_block(d, f->first[i], f->least[i], f->most[i], f->second[i]);
     return f->ordered ? put(put_head(d, FLIGHT_ORDER, 8), 8, f->order) : d;
 }
 
