@@ -161,8 +161,8 @@ static const struct flight_times long_times[] = {
     [WIDE_WINDOWS] = {1, MOST_TIME / 64, 0, MOST_TIME / 2, 0, 0},
 };
 
-/* The same with a turn, which no longest delay is below but one of FREE_IMPOSSIBLE and of FREE_WINDOWS_IMPOSSIBLE. Where all first passes go first, a delay takes
-   in 31 passes and 32 turns. */
+/* The same with a turn, which no longest delay is below but one of FREE_IMPOSSIBLE and of FREE_WINDOWS_IMPOSSIBLE. Where all first passes go first, a delay
+   takes in 31 passes and 32 turns. */
 static const struct flight_times short_turns[] = {
     [FREE_RANDOM] = {1, 100, 30, 300, 1, 30},
     [FREE_MANY_IMPOSSIBLE] = {50, 100, 30, 90, 1, 30},

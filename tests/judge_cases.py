@@ -10,7 +10,7 @@ import struct
 import sys
 
 import sheet_cases as sheets
-from sheet_cases import MOST_TURN, OVER, block, field, flight, job, mosaic, order, sorting, strip, word
+from sheet_cases import MOST_TURN, OVER, block, field, flight, job, mosaic, order, sorting, strip, window, word
 
 FOLDER = sheets.FOLDER.parent / "judge_cases"
 CEILING = 10_000_000
@@ -81,8 +81,8 @@ allowed("passes that wait", F, passes(105, 0xC, (100, 103), (101, 104)), 0, 0, 1
 # The sheet goes first, with its place in the sheet.
 refused("a sheet that is refused", flight() + block() * 9, b"", 10, 0)
 refused("a cut sheet and a good plan", M[:-1], BEST, 3, 33)
-# So it is with 6, 15 and 16: all three sections, in each of them a value out of its range, or two of which the left one decides; and a plan of the good sheet,
-# or a plan with a fault of its own. For the good sheet each of these plans is 12, 13 or 14.
+# So it is with 6, 15, 16 and 17: all three sections, in each of them a value out of its range, or two of which the left one decides; and a plan of the good
+# sheet, or a plan with a fault of its own. For the good sheet each of these plans is 12, 13 or 14.
 ONE_JOB, ONE_BLOCK = sorting(2) + job(1, 2, 5), flight() + block(1, 2, 1)
 BAD_SHEETS = [
     ("stations 0, mount time 60,001", mosaic(0, OVER) + M[6:] + S + F, 6, 0),
@@ -95,6 +95,7 @@ BAD_SHEETS = [
     ("turn 601", M + S + flight(MOST_TURN + 1) + F[3:], 15, len(M + S)),
     ("first pass 60,001, second pass 0", M + S + ONE_BLOCK + block(OVER, 2, 0), 15, len(M + S + ONE_BLOCK)),
     ("second pass 0", M + S + ONE_BLOCK + block(1, 2, 0), 16, len(M + S + ONE_BLOCK)),
+    ("a window from 3 to 2", M + S + ONE_BLOCK + window(1, 3, 2, 1), 17, len(M + S + ONE_BLOCK)),
 ]
 BAD_PLANS = [
     ("an empty plan", b"", 12, 0),
@@ -257,6 +258,114 @@ allowed("a turn of 1, order A", TIGHT + order(0xA), passes(9, 0xA, (0, 3), (5, 8
 refused("a turn of 1, order C cannot be kept", TIGHT + order(0xC), passes(5, 0xC, (0, 3), (1, 4)), 13, 0)
 refused("a turn of 1, order C given, order A flown", TIGHT + order(0xC), passes(9, 0xA, (0, 3), (5, 8)), 13, 0)
 
+# Windows: the delay lies from the shortest to the longest, both included. One block, each delay about its window, from 0 and later, in every kind of flight.
+def one_window(name, sheet, a, shortest, longest, b, delays, start=0, turn=0, over=0):
+    """A plan of one block for each delay: one outside the window is 13 at the member, one below the turn 13 at the head, in both before 14 of a figure that is
+    over the true one."""
+    for delay in delays:
+        end = start + a + delay + b
+        plan, within = passes(end + over, 2, (start, start + a + delay)), shortest <= delay <= longest
+        if not within or delay < turn:
+            refused("%s, delay %d" % (name, delay), sheet, plan, 13, 0 if within else 15)
+        elif over:
+            refused("%s, delay %d" % (name, delay), sheet, plan, 14, 0)
+        else:
+            allowed("%s, delay %d" % (name, delay), sheet, plan, 0, 0, end)
+
+
+SOME = window(2, 3, 6, 1)
+one_window("a window from 3 to 6", flight() + SOME, 2, 3, 6, 1, range(9))
+one_window("a window from 3 to 6, an untrue figure", flight() + SOME, 2, 3, 6, 1, (2, 3, 6, 7), over=1)
+one_window("a window from 3 to 6, a pass that waits", flight() + SOME + order(2), 2, 3, 6, 1, (2, 3, 6, 7), start=5)
+one_window("a window from 3 to 6, turn 5", flight(5) + SOME, 2, 3, 6, 1, (2, 3, 4, 5, 6, 7), turn=5)
+one_window("a window from 3 to 6, turn 5, an untrue figure", flight(5) + SOME, 2, 3, 6, 1, (2, 4, 5, 7), turn=5, over=1)
+one_window("a window from 3 to 6, turn 5, order 2", flight(5) + SOME + order(2), 2, 3, 6, 1, (2, 4, 5, 6, 7), turn=5)
+one_window("a window from 3 to 6, turn 7", flight(7) + SOME, 2, 3, 6, 1, (2, 3, 6, 7, 8), turn=7)
+one_window("a window of 3 alone", flight() + window(2, 3, 3, 1), 2, 3, 3, 1, (2, 3, 4))
+one_window("a window from 0 to 1", flight() + window(1, 0, 1, 1), 1, 0, 1, 1, (0, 1, 2))
+one_window("a window from 0 to 60,000", flight() + window(1, 0, 60000, 1), 1, 0, 60000, 1, (0, 256, 60000, 60001))
+one_window("a window from 59,999 to 60,000", flight() + window(1, 59999, 60000, 1), 1, 59999, 60000, 1, (59998, 59999, 60000, 60001, 65535))
+# A second pass that starts before its first ends is below every window.
+for starts in [(5, 5), (5, 0), (5, 6)]:
+    refused("a second pass at %d behind a first at %d of 2" % starts[::-1], flight() + window(2, 0, 9, 1), passes(9, 2, starts), 13, 15)
+# Up to the ceiling, with either end of the window.
+for delay in (3, 6):
+    late = lambda over: (CEILING + over - 3 - delay, CEILING + over - 1)
+    allowed("delay %d of 3 to 6, up to the ceiling" % delay, flight() + SOME, passes(CEILING, 2, late(0)), 0, 0, CEILING)
+    refused("delay %d of 3 to 6, one past the ceiling" % delay, flight() + SOME, passes(CEILING + 1, 2, late(1)), 13, 15)
+
+# Three blocks of both kinds, one after another. Each of them at either end of its window and one second beyond; the other delays are exact or in the middle.
+KINDS = [(2, 3, 6, 1), (1, 4, 4, 2), (3, 0, 2, 1)]
+MIXED = window(*KINDS[0]) + block(1, 4, 2) + window(*KINDS[2])
+MIDDLE = [5, 4, 1]
+
+
+def flown_apart(delays, turn):
+    """The starts of these blocks, each a turn behind the one before, and the end."""
+    starts, now = [], -turn
+    for (a, _, _, b), delay in zip(KINDS, delays):
+        starts.append((now + turn, now + turn + a + delay))
+        now = starts[-1][1] + b
+    return starts, now
+
+
+for turn, given in [(0, False), (1, True)]:
+    sheet = flight(turn) + MIXED + (order(0x2A) if given else b"")
+    for index, (_, shortest, longest, _) in enumerate(KINDS):
+        for delay in sorted({max(shortest, turn) - 1, max(shortest, turn), longest, longest + 1} - {-1}):
+            starts, end = flown_apart(MIDDLE[:index] + [delay] + MIDDLE[index + 1:], turn)
+            name = "block %d of three with delay %d, turn %d, %s order" % (index + 1, delay, turn, "given" if given else "free")
+            if shortest <= delay <= longest and turn <= delay:
+                allowed(name, sheet, passes(end, 0x2A, *starts), 0, 0, end)
+            elif shortest <= delay <= longest:
+                refused(name, sheet, passes(end, 0x2A, *starts), 13, 0)
+            else:
+                refused(name, sheet, passes(end, 0x2A, *starts), 13, 15 + 11 * index)
+starts, end = flown_apart(MIDDLE, 0)
+refused("three blocks of both kinds, an untrue figure", flight() + MIXED, passes(end - 1, 0x2A, *starts), 14, 0)
+refused("three blocks of both kinds, another order given", flight() + MIXED + order(0x2C), passes(end, 0x2A, *starts), 13, 0)
+refused("delays of two blocks outside their windows: the first decides", flight() + MIXED, passes(end, 0x2A, (0, 4), (8, 14), starts[2]), 13, 15)
+refused("a delay outside its window and a byte behind the plan", flight() + MIXED, passes(end, 0x2A, (0, 4), *starts[1:]) + b"\0", 12, 48)
+refused("a block of both kinds missing", flight() + MIXED, passes(end, 0x2A, *starts[:2]), 13, 0)
+refused("a block of both kinds too many", flight() + MIXED, passes(end, 0x2A, *starts, (90, 93)), 13, 48)
+
+# 02's rule on the two blocks of the reading: the second pass of block 1 waits for the first of block 2. Any other delay of the window may be flown too.
+WIDE = flight() + window(1, 0, 3, 1) + block(1, 5, 1)
+for name, sheet in [("order C", WIDE + order(0xC)), ("no order", WIDE)]:
+    for first, second, number in [(0, 1, 13), (0, 2, 0), (0, 3, 0), (0, 4, 0)]:
+        plan = passes(8, 0xC, (first, second), (1, 7))
+        if number:
+            refused("%s, block 1 at %d and %d" % (name, first, second), sheet, plan, number, 0)
+        else:
+            allowed("%s, block 1 at %d and %d" % (name, first, second), sheet, plan, 0, 0, 8)
+    refused("%s, block 1 at 0 and 5" % name, sheet, passes(8, 0xC, (0, 5), (1, 7)), 13, 15)
+    allowed("%s, all passes wait" % name, sheet, passes(18, 0xC, (10, 12), (11, 17)), 0, 0, 18)
+    allowed("%s, block 2 waits between the passes of block 1" % name, sheet, passes(9, 0xC, (0, 4), (2, 8)), 0, 0, 9)
+    refused("%s, the passes of block 1 and block 2 overlap" % name, sheet, passes(7, 0xC, (0, 2), (0, 6)), 13, 0)
+allowed("no order, order A flown", WIDE, passes(9, 0xA, (0, 1), (2, 8)), 0, 0, 9)
+refused("order C given, order A flown", WIDE + order(0xC), passes(9, 0xA, (0, 1), (2, 8)), 13, 0)
+refused("order A given, order C flown", WIDE + order(0xA), passes(8, 0xC, (0, 2), (1, 7)), 13, 0)
+# Behind other sections.
+allowed("a window behind two sections", M + S + WIDE, BEFORE + passes(8, 0xC, (0, 2), (1, 7)), 36, 10, 8)
+refused("a delay outside its window behind two sections", M + S + WIDE, BEFORE + passes(8, 0xC, (0, 5), (1, 7)), 13, len(BEFORE) + 15)
+refused("an untrue figure behind two sections", M + S + WIDE, BEFORE + passes(7, 0xC, (0, 2), (1, 7)), 14, len(BEFORE))
+refused("an untrue mosaic figure and a delay outside its window", M + WIDE, batches(37) + BEST[7:] + passes(8, 0xC, (0, 5), (1, 7)), 14, 0)
+
+# The turn and windows: passes of 1 and windows from 0 to 20, a turn of 5. A gap of the turn is allowed, one a second shorter is 13 at the head.
+GAPS = flight(5) + window(1, 0, 20, 1) * 2
+for second, third, fourth, number in [(6, 12, 18, 0), (5, 12, 18, 13), (6, 11, 18, 13), (6, 12, 17, 13), (7, 13, 19, 0)]:
+    plan = passes(fourth + 1, 0xC, (0, third), (second, fourth))
+    if number:
+        refused("windows, passes at 0, %d, %d and %d, turn 5" % (second, third, fourth), GAPS + order(0xC), plan, number, 0)
+    else:
+        allowed("windows, passes at 0, %d, %d and %d, turn 5" % (second, third, fourth), GAPS + order(0xC), plan, 0, 0, fourth + 1)
+# A sheet whose longest delay is below the turn: no plan of it is allowed, and 11 is not given.
+NO_WINDOW = flight(5) + window(1, 0, 4, 1)
+refused("a longest delay below the turn", NO_WINDOW, passes(6, 2, (0, 5)), 13, 0)
+refused("a longest delay below the turn, the turn kept", NO_WINDOW, passes(7, 2, (0, 6)), 13, 15)
+refused("a longest delay below the turn, an order", NO_WINDOW + order(2), passes(6, 2, (0, 5)), 13, 0)
+refused("a longest delay below the turn, an empty plan", NO_WINDOW, b"", 12, 0)
+
 # The longest sections: full ones in which every time is 60,000. Without idle time, with the last member as late as it may be, and one later.
 TIME = sheets.MOST_TIME
 ALONE = [(k, (2 * k - 1) * TIME, (2 * k + 1) * TIME) for k in range(1, 41)]
@@ -298,6 +407,14 @@ refused("the longest flight, the last turn one second short", TURNED_FLIGHT, pas
 late = lambda over: [*TURNED_STARTS[:-1], (CEILING + over - 3 * TIME, CEILING + over - TIME)]
 allowed("the longest flight and the longest turn, up to the ceiling", TURNED_FLIGHT, passes(CEILING, BY_ONE, *late(0)), 0, 0, CEILING)
 refused("the longest flight and the longest turn, one past the ceiling", TURNED_FLIGHT, passes(CEILING + 1, BY_ONE, *late(1)), 13, 15 + 11 * 31)
+
+# 32 blocks of both kinds in order, each delay as long as it may be, and one second longer in the last one; the longest sheet.
+BOTH = flight() + (block(1, 1, 1) + window(1, 0, 1, 1)) * 16 + order(BY_ONE)
+EACH = [(3 * k, 3 * k + 2) for k in range(32)]
+allowed("32 blocks of both kinds", BOTH, passes(96, BY_ONE, *EACH), 0, 0, 96)
+refused("32 blocks of both kinds, the last delay one second long", BOTH, passes(97, BY_ONE, *EACH[:-1], (93, 96)), 13, 15 + 11 * 31)
+LONGEST_PLAN = batches(1680 * TIME, *ALONE) + jobs(189 * TIME, *IN_TURN) + passes(LAST_END, BY_ONE, *TURNED_STARTS)
+allowed("the longest sheet", sheets.LONGEST, LONGEST_PLAN, 1680 * TIME, 189 * TIME, LAST_END)
 
 LONG_PLAN = batches(1680 * TIME, *ALONE) + jobs(189 * TIME, *IN_TURN) + passes(96 * TIME, BY_ONE, *ONE_BY_ONE)
 allowed("the longest sections", sheets.LONG, LONG_PLAN, 1680 * TIME, 189 * TIME, 96 * TIME)

@@ -15,7 +15,7 @@ import tempfile
 import judge_cases as judged
 import sheet_cases as sheets
 from judge_cases import CEILING, batches, four, jobs, passes
-from sheet_cases import MOST_TIME, MOST_TURN, block, field, flight, job, mosaic, order, sorting, strip, word
+from sheet_cases import MOST_TIME, MOST_TURN, block, field, flight, job, mosaic, order, sorting, strip, window, word
 
 LEAST_ROOM = 3069
 FILL, BEHIND = b"\xA5", 16
@@ -133,6 +133,33 @@ printed(
     "F  1               0       60001",
     "F  2             601       60602",
 )
+# Nor is the window: the starts show the delay that is flown. Two plans of one sheet with other delays have other pages.
+printed(
+    "a window and an exact delay, order C", judged.WIDE + order(0xC), passes(8, 0xC, (0, 2), (1, 7)),
+    "f                              8",
+    "F  1               0           2",
+    "F  2               1           7",
+)
+printed(
+    "the same with the longest delay", judged.WIDE + order(0xC), passes(8, 0xC, (0, 4), (1, 7)),
+    "f                              8",
+    "F  1               0           4",
+    "F  2               1           7",
+)
+printed(
+    "a window and an exact delay behind two sections", judged.M + judged.S + judged.WIDE, judged.BEFORE + passes(9, 0xA, (0, 1), (2, 8)),
+    *MOSAIC_LINES,
+    *SORTING_LINES,
+    "f                              9",
+    "F  1               0           1",
+    "F  2               2           8",
+)
+printed(
+    "the widest window, flown at its longest delay, and the longest turn",
+    flight(MOST_TURN) + window(1, 0, MOST_TIME, 1), passes(60002, 2, (0, 60001)),
+    "f                          60002",
+    "F  1               0       60001",
+)
 
 # Numbers of one digit and of eight; a figure of nine.
 printed(
@@ -182,7 +209,7 @@ SOME_LINES = {
     92: "F 32         5580000     5700000",
 }
 
-# Every plan that is judged, and every sheet that is turned back. judge_cases.py has 6, 15 and 16 of a sheet beside plans that are 12, 13 and 14 themselves.
+# Every plan that is judged, and every sheet that is turned back. judge_cases.py has 6, 15, 16 and 17 of a sheet beside plans that are 12, 13 and 14.
 for name, sheet, plan, line in judged.CASES:
     number, place = map(int, line.split()[:2])
     if number == 0:
@@ -195,11 +222,16 @@ for name, sheet, line in sheets.CASES + sheets.LARGE:
         refused(name, sheet, judged.PLAN, number, place)
 refused("a plan with an order that is impossible", judged.A + order(0xC), passes(9, 0xA, (0, 1), (2, 8)), 13, 0)
 refused("a plan with a turn that is too short", judged.TURNED, passes(9, 0xC, (0, 6), (2, 8)), 13, 0)
+for name, delay, figure in [("below", 2, 5), ("above", 7, 10)]:
+    refused("a plan with a delay %s its window" % name, flight() + judged.SOME, passes(figure, 2, (0, 2 + delay)), 13, 15)
+refused("a plan for a sheet with 17", judged.WIDE + window(1, 5, 4, 1), passes(8, 0xC, (0, 2), (1, 7)), 17, len(judged.WIDE))
 
 # The program takes the first 65,536 bytes of each file, the function all of them: (sheet, plan, by the program, by the function).
 MEMBER = judged.BEST[-12:]
 LONG_FILES = [
     ("a field of the sheet past the bytes that are taken", field(0x10, bytes(65535)), judged.PLAN, (3, 0), (5, 0)),
+    ("a window block past the bytes that are taken", flight() + field(0x33, bytes(65535)), judged.PLAN, (3, 3), (5, 3)),
+    ("a window block up to the last byte that is taken", flight() + field(0x33, bytes(65530)), judged.PLAN, (5, 3), (5, 3)),
     ("a member past the bytes that are taken", judged.M, judged.BEST + MEMBER * 5457, (12, 7 + 12 * 5460), (13, len(judged.BEST))),
 ]
 
@@ -270,7 +302,7 @@ def main(printer, function):
     lines = lines_of(judged.LONG_PLAN).decode().splitlines()
     compare("the longest page", (len(lines), {at: lines[at] for at in SOME_LINES}), (93, SOME_LINES))
     numbers = sorted({number for _, _, _, number, _ in REFUSED})
-    compare("the numbers that are tried", numbers, [*range(3, 11), *range(12, 17)])
+    compare("the numbers that are tried", numbers, [*range(3, 11), *range(12, 18)])
     pairs = compare_pairs()
     for line in wrong:
         print(line)
