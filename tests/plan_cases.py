@@ -1,8 +1,10 @@
 #!/usr/bin/env python3
-"""Runs the program plan_sheet on sheets and compares what it writes: the plan of each worked sheet of 01, and the refusal of every sheet that sheet_cases.py turns back.
+"""Runs the program plan_sheet on sheets and compares what it writes: the plan of each worked sheet of 01, and the refusal of every sheet that sheet_cases.py
+turns back.
 Where a sheet has several best batchings or free pass orders, the choice is left to the program: then the figures of the plan and the bytes of its sorting are
-compared, and the program judge_plan must allow it. Of several best scanner lists one is due: its bytes are compared, and judge_plan must allow the others too.
-A written turn of 0 must give the plan that an empty head gives.
+compared, and the program judge_plan must allow it; of a flight with windows also that the starts are the least of the order that the plan has. Of several best
+scanner lists one is due: its bytes are compared, and judge_plan must allow the others too.
+A written turn of 0 must give the plan that an empty head gives, and a window of one value that of an exact delay.
 
     plan_cases.py PLANNER JUDGE
 """
@@ -16,12 +18,13 @@ import tempfile
 import judge_cases as judged
 import sheet_cases as sheets
 from judge_cases import batches, four, jobs, passes
-from sheet_cases import MOST_TURN, alternate, block, field, flight, job, mosaic, order, sorting, strip, word
+from sheet_cases import MOST_TURN, alternate, block, field, flight, job, mosaic, order, sorting, strip, window, word
 
 CASES = []
 BEST = []
 OTHERS = []
 SAME = []
+FLOWN = []
 
 
 def planned(name, sheet, plan):
@@ -48,11 +51,22 @@ def same(name, before, members):
     SAME.append((name, before + flight() + members, before + flight(0) + members))
 
 
-def starts_in_order(blocks, order_number, turn=0):
-    """The starts of a flight in an order with a turn, each pass as early as it can be; None where no timetable keeps the order."""
+# A block here is (a, delay, b), or (a, shortest delay, longest delay, b).
+def members_of(blocks):
+    return b"".join(block(*b) if len(b) == 3 else window(*b) for b in blocks)
+
+
+def same_windows(name, head, blocks, behind=b""):
+    """A flight of exact delays: the same with windows of one value, in every block and in every second one."""
+    of_one = [(a, l, l, b) for a, l, b in blocks]
+    for what, windows in [("in every block", of_one), ("in every second block", [of_one[k] if k % 2 else b for k, b in enumerate(blocks)])]:
+        SAME.append(("windows of one value %s: %s" % (what, name), head + members_of(blocks) + behind, head + members_of(windows) + behind))
+
+
+def exact_starts(blocks, order_number, turn=0):
+    """The starts of a flight of exact delays in an order with a turn, each pass as early as it can be; None where no timetable keeps the order."""
     n = len(blocks)
-    seconds = [order_number >> k & 1 for k in range(2 * n)]
-    turns = [(sum(seconds[:k]) if second else k - sum(seconds[:k]), second) for k, second in enumerate(seconds)]
+    turns = passes_in_order(n, order_number)
     starts = [0] * n  # of the first passes
     start = lambda block, second: starts[block] + (blocks[block][0] + blocks[block][1] if second else 0)
     for _ in range(n + 1):
@@ -65,9 +79,44 @@ def starts_in_order(blocks, order_number, turn=0):
     return None
 
 
+def passes_in_order(n, order_number):
+    """Each pass of an order: its block, and whether it is the second one."""
+    seconds = [order_number >> k & 1 for k in range(2 * n)]
+    return [(sum(seconds[:k]) if second else k - sum(seconds[:k]), second) for k, second in enumerate(seconds)]
+
+
+def starts_by_choice(blocks, order_number, turn=0):
+    """Every choice of delays tried: each pass at its earliest in any of them; None where no choice has a timetable."""
+    choices = [[(b[0], delay, b[-1]) for delay in range(b[1], b[-2] + 1)] for b in blocks]
+    found = [starts for choice in itertools.product(*choices) if (starts := exact_starts(choice, order_number, turn)) is not None]
+    return [tuple(map(min, zip(*of_block))) for of_block in zip(*found)] if found else None
+
+
+def starts_in_order(blocks, order_number, turn=0):
+    """The same where there are too many choices: passes are moved on until all rules hold; None where that does not end."""
+    n = len(blocks)
+    starts = [[0, 0] for _ in blocks]
+    for _ in range(2 * n + 1):
+        before, clear = [list(pair) for pair in starts], 0
+        for at, second in passes_in_order(n, order_number):
+            starts[at][second] = max(starts[at][second], clear)
+            clear = starts[at][second] + blocks[at][-1 if second else 0] + turn
+        for pair, b in zip(starts, blocks):
+            pair[1] = max(pair[1], pair[0] + b[0] + b[1])
+            pair[0] = max(pair[0], pair[1] - b[0] - b[-2])
+        if starts == before:
+            return [tuple(pair) for pair in starts]
+    return None
+
+
+def flown(name, blocks, turn=0, before=b"", plan=b""):
+    """A free flight with windows behind other sections and their plan: its least end, and the least starts of whichever order the plan has."""
+    FLOWN.append((name, before + flight(turn) + members_of(blocks), plan, blocks, turn, least_end(blocks, turn)))
+
+
 def end_of(blocks, starts):
     """The end of the last pass."""
-    return max(second + b for (_, _, b), (_, second) in zip(blocks, starts))
+    return max(second + b[-1] for b, (_, second) in zip(blocks, starts))
 
 
 def proper_orders(n):
@@ -310,6 +359,153 @@ refused("a delay below the turn, then an order that is not proper", judged.NEVER
 refused("a delay below the turn, then a mosaic", judged.NEVER + judged.M, 4, 14)
 refused("a delay below the turn, then a byte", judged.NEVER + b"\x31", 3, 14)
 
+# Windows. The two blocks of the reading: the delay of block 1 is 1, as order C needs it.
+planned("a window and an exact delay, order C", judged.WIDE + order(0xC), passes(8, 0xC, (0, 2), (1, 7)))
+planned("a window and an exact delay, order A", judged.WIDE + order(0xA), passes(9, 0xA, (0, 1), (2, 8)))
+planned("a window and an exact delay, no order", judged.WIDE, passes(8, 0xC, (0, 2), (1, 7)))
+planned("the same behind two sections", judged.M + judged.S + judged.WIDE + order(0xC), judged.BEFORE + passes(8, 0xC, (0, 2), (1, 7)))
+refused("the same with a window from 0 to 0", flight() + window(1, 0, 0, 1) + block(1, 5, 1) + order(0xC), 11, 23)
+# One block: the shortest delay, or the turn where that is longer. Where the longest delay is below the turn the flight is impossible.
+for turn in (1, 2, 256, 599, MOST_TURN):
+    for shortest, longest in [(0, turn), (turn - 1, turn + 1), (turn, turn), (turn, turn + 5), (turn + 1, turn + 1), (turn + 1, sheets.MOST_TIME)]:
+        delay = max(shortest, turn)
+        plan = passes(delay + 2, 2, (0, delay + 1))
+        planned("turn %d, a window from %d to %d" % (turn, shortest, longest), flight(turn) + window(1, shortest, longest, 1), plan)
+        planned("turn %d, a window from %d to %d, order 2" % (turn, shortest, longest), flight(turn) + window(1, shortest, longest, 1) + order(2), plan)
+    for shortest in {0, turn - 1}:
+        refused("turn %d, a window from %d to %d" % (turn, shortest, turn - 1), flight(turn) + window(1, shortest, turn - 1, 1), 11, 0)
+        refused("turn %d, a window from %d to %d, order 2" % (turn, shortest, turn - 1), flight(turn) + window(1, shortest, turn - 1, 1) + order(2), 11, 16)
+CASES.append(("a longest delay below the turn behind a mosaic", judged.M + judged.NO_WINDOW, bytes.fromhex("E0 06 00 0B 00 2A 00 00 00")))
+CASES.append(("the same with an order", judged.M + judged.NO_WINDOW + order(2), bytes.fromhex("E0 06 00 0B 00 3A 00 00 00")))
+# Any block may be the one with the short window, and the kinds may be mixed.
+for k in range(8):
+    kinds = [(1, 0, 600, 1) if i % 2 else (1, 600, 1) for i in range(8)]
+    kinds[k] = (1, 0, 599, 1)
+    refused("eight blocks of both kinds, turn 600, a longest delay of 599 of block %d" % (k + 1), flight(MOST_TURN) + members_of(kinds), 11, 0)
+kinds = [(1, 0, 600, 1) if i % 2 else (1, 600, 1) for i in range(8)]
+planned("eight blocks of both kinds, turn 600", flight(MOST_TURN) + members_of(kinds), passes(8 * 1202 - 600, alternate(8), *BY_TURNS))
+refused("nine blocks of both kinds, a longest delay below the turn", flight(MOST_TURN) + members_of(kinds) + window(), 10, 0)
+
+# Orders that no end of a window can keep, but a delay inside it. Between blocks with a delay of 10, all first passes first, the delay lies from 2 to 18.
+INNER = lambda *delays: [(1, 10, 1), (1, *delays, 1), (1, 10, 1)]
+for delays in [(0,), (1,), (19,), (60,), (0, 1), (19, 60)]:
+    sheet = flight() + members_of(INNER(*delays))
+    assert starts_by_choice(INNER(*delays), 0x38) is None
+    refused("three blocks, delays of 10, %s and 10, all first passes first" % " to ".join(map(str, delays)), sheet + order(0x38), 11, len(sheet))
+for delays in [(2,), (18,), (0, 2), (1, 3), (18, 19), (17, 60), (0, 60)]:
+    starts = starts_by_choice(INNER(*delays), 0x38)
+    name = "three blocks, delays of 10, %s and 10, all first passes first" % " to ".join(map(str, delays))
+    planned(name, flight() + members_of(INNER(*delays)) + order(0x38), passes(end_of(INNER(*delays), starts), 0x38, *starts))
+planned("three blocks, a delay of 10 inside 0 to 60", flight() + members_of(INNER(0, 60)) + order(0x38), passes(14, 0x38, (0, 11), (1, 12), (2, 13)))
+
+
+# Small windows in every order, with every choice of delays tried, and without an order.
+def every_order(name, blocks, turn):
+    sheet = flight(turn) + members_of(blocks)
+    for number in proper_orders(len(blocks)):
+        starts = starts_by_choice(blocks, number, turn)
+        assert starts == starts_in_order(blocks, number, turn)
+        if starts is None:
+            refused("%s, order %X" % (name, number), sheet + order(number), 11, len(sheet))
+        else:
+            planned("%s, order %X" % (name, number), sheet + order(number), passes(end_of(blocks, starts), number, *starts))
+    possible = all(turn <= b[-2] for b in blocks)
+    assert possible == (least_end(blocks, turn) is not None)
+    if possible:
+        flown(name + ", no order", blocks, turn)
+    else:
+        refused(name + ", no order", sheet, 11, 0)
+
+
+WINDOWS = [(0, 0), (0, 1), (0, 3), (1, 1), (1, 3), (3, 3)]
+for one, other in itertools.product(WINDOWS, repeat=2):
+    for turn in (0, 1):
+        every_order("windows %d to %d and %d to %d, turn %d" % (*one, *other, turn), [(1, *one, 2), (2, *other, 1)], turn)
+for blocks in [
+    [(1, 0, 3, 2), (2, 4, 1), (1, 1, 4, 1)],
+    [(2, 4, 1), (1, 2, 6, 1), (3, 4, 1)],
+    [(1, 0, 5, 1), (1, 0, 5, 1), (1, 0, 5, 1)],
+    [(3, 2, 5, 3), (1, 8, 1), (2, 0, 9, 1)],
+    [(1, 5, 6, 1), (2, 5, 6, 2), (1, 2, 3, 1)],
+]:
+    for turn in (0, 1, 2, 4):
+        every_order("blocks %s, turn %d" % (" ".join(map(str, blocks)), turn), blocks, turn)
+FOUR_KINDS = [(3, 2, 6, 1), (1, 7, 2), (1, 6, 9, 1), (1, 10, 1)]
+for turn in range(4):
+    every_order("four blocks of both kinds, turn %d" % turn, FOUR_KINDS, turn)
+
+# 000's eight blocks with windows about their delays, with the order of 000 and without one.
+for less, more, turn in [(1, 0, 0), (0, 1, 0), (2, 3, 0), (4, 100, 0), (2, 3, 1), (4, 100, 3)]:
+    blocks = [(a, l - less, l + more, b) for a, l, b in sheets.EIGHT]
+    name = "000's eight blocks, delays %d shorter to %d longer, turn %d" % (less, more, turn)
+    starts = starts_in_order(blocks, 0xF2C4, turn)
+    sheet = flight(turn) + members_of(blocks)
+    if starts is None:
+        refused(name + ", an order", sheet + order(0xF2C4), 11, len(sheet))
+    else:
+        planned(name + ", an order", sheet + order(0xF2C4), passes(end_of(blocks, starts), 0xF2C4, *starts))
+    flown(name, blocks, turn)
+flown("000's eight blocks, every second one with a window", [(a, l - 1, l + 2, b) if k % 2 else (a, l, b) for k, (a, l, b) in enumerate(sheets.EIGHT)])
+flown("a flight with windows behind two sections", FOUR_KINDS, 1, judged.M + judged.S, judged.BEFORE)
+
+# Eight blocks of both kinds without order. 16 passes of a second take 16 seconds; with delays of at least 7 in one way only.
+kinds = [(1, 7, 20, 1) if i % 2 else (1, 7, 1) for i in range(8)]
+planned("eight blocks of both kinds without a gap", flight() + members_of(kinds), passes(16, 0xFF00, *[(i, i + 8) for i in range(8)]))
+planned("eight windows without a gap", flight() + window(1, 7, T, 1) * 8, passes(16, 0xFF00, *[(i, i + 8) for i in range(8)]))
+flown("eight windows from 0 to 7", [(1, 0, 7, 1)] * 8)
+flown("eight windows from 0 to 60,000 and long passes", [(T, 0, T, T)] * 8)
+flown("eight windows from 0 to 60,000, turn 600", [(T, 0, T, 1)] * 8, MOST_TURN)
+refused("nine windows without order", flight() + window(1, 7, T, 1) * 9, 10, 0)
+
+# 32 blocks in order. All first passes first: between the two passes of a block there are 31 others of a second, in every delay of 31 seconds.
+AT_ONCE = passes(64, FIRSTS_FIRST, *[(k, 32 + k) for k in range(32)])
+planned("32 windows from 0 to 60,000, all first passes first", flight() + window(1, 0, T, 1) * 32 + order(FIRSTS_FIRST), AT_ONCE)
+planned("32 windows from 0 to 31, all first passes first", flight() + window(1, 0, 31, 1) * 32 + order(FIRSTS_FIRST), AT_ONCE)
+planned("32 blocks of both kinds, all first passes first", flight() + (block(1, 31, 1) + window(1, 0, T, 1)) * 16 + order(FIRSTS_FIRST), AT_ONCE)
+refused("32 windows from 0 to 30, all first passes first", flight() + window(1, 0, 30, 1) * 32 + order(FIRSTS_FIRST), 11, 3 + 11 * 32)
+refused("31 windows from 0 to 60,000 and one from 0 to 30", flight() + window(1, 0, T, 1) * 31 + window(1, 0, 30, 1) + order(FIRSTS_FIRST), 11, 3 + 11 * 32)
+# One after another, each at its shortest delay or, where that is below it, at the turn.
+ONES = lambda delay, turn: [(k * (2 + delay + turn), k * (2 + delay + turn) + 1 + delay) for k in range(32)]
+for shortest, turn, delay in [(0, 0, 0), (7, 0, 7), (0, 600, 600), (599, 600, 600), (601, 600, 601)]:
+    starts = ONES(delay, turn)
+    sheet = flight(turn) + window(1, shortest, T, 1) * 32 + order(judged.BY_ONE)
+    planned("32 windows from %d to 60,000, turn %d" % (shortest, turn), sheet, passes(starts[-1][1] + 1, judged.BY_ONE, *starts))
+# Two by two with the longest passes: the shortest delay is no hindrance.
+planned("32 windows two by two, time 60,000", flight() + window(T, 0, T, T) * 32 + order(judged.BY_TWO), passes(64 * T, judged.BY_TWO, *judged.TWO_BY_TWO))
+# A block with a delay of 1, then one with a window from 0 to 1: five seconds for both.
+IN_FIVE = [start for k in range(16) for start in ((5 * k, 5 * k + 2), (5 * k + 3, 5 * k + 4))]
+planned("32 blocks of both kinds", judged.BOTH, passes(80, judged.BY_ONE, *IN_FIVE))
+best("the longest sheet", sheets.LONGEST, SUM, 189 * T, judged.LAST_END, sorting_part=DESK_AFTER_DESK)
+
+# A window of one value means the same as an exact delay.
+for name, head, blocks, behind in [
+    ("one block", flight(), [(3, 4, 1)], b""),
+    ("one block, turn 4", flight(4), [(3, 4, 1)], b""),
+    ("one block, turn 5", flight(5), [(3, 4, 1)], b""),
+    ("two blocks", flight(), [(1, 2, 1)] * 2, b""),
+    ("two blocks, turn 1", flight(1), [(1, 2, 1)] * 2, b""),
+    ("order A", flight(), [(1, 0, 1), (1, 5, 1)], order(0xA)),
+    ("000's eight blocks", flight(), sheets.EIGHT, b""),
+    ("000's eight blocks, turn 3", flight(3), sheets.EIGHT, b""),
+    ("000's eight blocks and an order", flight(), sheets.EIGHT, order(0xF2C4)),
+    ("000's eight blocks one after another, turn 4", flight(4), sheets.EIGHT, order(alternate(8))),
+    ("eight equal blocks", flight(), [(5, 20, 5)] * 8, b""),
+    ("eight blocks with delays of 0", flight(), [(1, 0, 1)] * 8, b""),
+    ("nine blocks without order", flight(), [(1, 0, 1)] * 9, b""),
+    ("32 blocks", flight(), [(T, T, T)] * 32, order(judged.BY_TWO)),
+    ("32 blocks, turn 600", flight(MOST_TURN), [(T, T, T)] * 32, order(judged.BY_ONE)),
+    ("two blocks behind two sections", judged.M + judged.S + flight(), [(1, 2, 1)] * 2, b""),
+]:
+    same_windows(name, head, blocks, behind)
+
+# All other numbers go before 11, 17 too. The bytes of the whole answer.
+CASES.append(("a window from 5 to 4 behind a mosaic", judged.M + flight() + window(1, 5, 4, 1), bytes.fromhex("E0 06 00 11 00 2D 00 00 00")))
+refused("a longest delay below the turn, then 17", judged.NO_WINDOW + window(1, 5, 4, 1), 17, 16)
+refused("a longest delay below the turn, then a first pass of 0", judged.NO_WINDOW + window(0), 16, 16)
+refused("a longest delay below the turn, then an order that is not proper", judged.NO_WINDOW + order(1), 9, 16)
+refused("a window block past the bytes that are taken", flight() + field(0x33, bytes(65535)), 3, 3)
+refused("a window block up to the last byte that is taken", flight() + field(0x33, bytes(65530)), 5, 3)
+
 # 6, 15 and 16 go before 11.
 refused("no desk, order C cannot be kept", judged.M + sorting(0) + judged.A + order(0xC), 6, len(judged.M))
 refused("mount time 60,001, order C cannot be kept", mosaic(2, T + 1) + judged.M[6:] + judged.A + order(0xC), 15, 0)
@@ -362,8 +558,15 @@ def main(program, judge):
         plans = written(program, sheet), written(program, other)
         if plans[0] != plans[1]:
             wrong += 1
-            print("%s: sheets %s and %s\n  an empty head %s\n  a written 0   %s" % (name, sheet.hex(), other.hex(), plans[0].hex(), plans[1].hex()))
-    counts = len(CASES) + len(BEST) + len(SAME), program, len(OTHERS), wrong
+            print("%s: sheets %s and %s\n  the plan of the one %s\n  and of the other    %s" % (name, sheet.hex(), other.hex(), plans[0].hex(), plans[1].hex()))
+    for name, sheet, before, blocks, turn, end in FLOWN:
+        plan = written(program, sheet)
+        number = int.from_bytes(plan[len(before) + 7:len(before) + 15], "little")
+        starts = starts_in_order(blocks, number, turn) if number in proper_orders(len(blocks)) else None
+        if starts is None or plan != before + passes(end, number, *starts):
+            wrong += 1
+            print("%s: sheet %s\n  due     figure %d, starts %s\n  written %s" % (name, sheet.hex(), end, starts, plan.hex()))
+    counts = len(CASES) + len(BEST) + len(SAME) + len(FLOWN), program, len(OTHERS), wrong
     print("%d sheets planned or refused by %s, %d best sortings judged, %d wrong" % counts)
     sys.exit(1 if wrong else 0)
 
