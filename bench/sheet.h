@@ -59,7 +59,7 @@ static inline bool permitted(uint8_t tag, const struct reading *r) {
     }
 }
 
-/* A flight head is empty or has the turn. */
+/* A flight head is empty or has the turn. A window block and a pass order have 8 bytes. */
 static inline bool length_is_due(uint8_t tag, size_t length, size_t stations) {
     switch (tag) {
     case MOSAIC_HEAD: return length == 3;

@@ -329,7 +329,7 @@ refused("a delay outside its window and a byte behind the plan", flight() + MIXE
 refused("a block of both kinds missing", flight() + MIXED, passes(end, 0x2A, *starts[:2]), 13, 0)
 refused("a block of both kinds too many", flight() + MIXED, passes(end, 0x2A, *starts, (90, 93)), 13, 48)
 
-# 02's rule on the two blocks of the reading: the second pass of block 1 waits for the first of block 2. Any other delay of the window may be flown too.
+# A window and an exact delay. In order C the second pass of block 1 waits for the first of block 2; a longer delay of its window may be flown too.
 WIDE = flight() + window(1, 0, 3, 1) + block(1, 5, 1)
 for name, sheet in [("order C", WIDE + order(0xC)), ("no order", WIDE)]:
     for first, second, number in [(0, 1, 13), (0, 2, 0), (0, 3, 0), (0, 4, 0)]:

@@ -359,7 +359,7 @@ refused("a delay below the turn, then an order that is not proper", judged.NEVER
 refused("a delay below the turn, then a mosaic", judged.NEVER + judged.M, 4, 14)
 refused("a delay below the turn, then a byte", judged.NEVER + b"\x31", 3, 14)
 
-# Windows. The two blocks of the reading: the delay of block 1 is 1, as order C needs it.
+# Windows. In order C the second pass of block 1 waits for the first of block 2, so that its delay is 1, inside its window from 0 to 3.
 planned("a window and an exact delay, order C", judged.WIDE + order(0xC), passes(8, 0xC, (0, 2), (1, 7)))
 planned("a window and an exact delay, order A", judged.WIDE + order(0xA), passes(9, 0xA, (0, 1), (2, 8)))
 planned("a window and an exact delay, no order", judged.WIDE, passes(8, 0xC, (0, 2), (1, 7)))
@@ -506,7 +506,7 @@ refused("a longest delay below the turn, then an order that is not proper", judg
 refused("a window block past the bytes that are taken", flight() + field(0x33, bytes(65535)), 3, 3)
 refused("a window block up to the last byte that is taken", flight() + field(0x33, bytes(65530)), 5, 3)
 
-# 6, 15 and 16 go before 11.
+# 6, 15 and 16 go before 11 of an order that cannot be kept.
 refused("no desk, order C cannot be kept", judged.M + sorting(0) + judged.A + order(0xC), 6, len(judged.M))
 refused("mount time 60,001, order C cannot be kept", mosaic(2, T + 1) + judged.M[6:] + judged.A + order(0xC), 15, 0)
 refused("a second pass of 0, order C cannot be kept", judged.A[:-2] + word(0) + order(0xC), 16, len(judged.A) - 9)
