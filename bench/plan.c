@@ -66,7 +66,7 @@ static const struct family families[] = {
     {"15: turn too large", SEVULAMON_TIME_TOO_LARGE, TURN, 0, MOST_TIME, RANDOM, ONE_BY_ONE, long_turns},
     {"15: first time too large", SEVULAMON_TIME_TOO_LARGE, FIRST_TIME, 0, MOST_TIME, RANDOM, ONE_BY_ONE, long_times},
     {"16: last time of zero", SEVULAMON_TIME_OF_ZERO, LAST_TIME, 0, MOST_TIME, RANDOM, ONE_BY_ONE, long_times},
-    {"17: last window ends too early", LONGEST_BELOW_SHORTEST, LAST_WINDOW, 0, MOST_TIME, RANDOM, WIDE_WINDOWS, long_turns},
+    {"17: last window ends too early", SEVULAMON_LONGEST_BELOW_SHORTEST, LAST_WINDOW, 0, MOST_TIME, RANDOM, WIDE_WINDOWS, long_turns},
 };
 
 struct call {

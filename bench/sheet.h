@@ -12,9 +12,6 @@ enum sheet_tag {
     FLIGHT_HEAD = 0x30, FLIGHT_BLOCK = 0x31, FLIGHT_ORDER = 0x32, FLIGHT_WINDOW = 0x33
 };
 
-/* The number of a window whose longest delay is below its shortest. */
-enum { LONGEST_BELOW_SHORTEST = 17 };
-
 enum section { NO_SECTION, IN_MOSAIC, IN_SORTING, IN_FLIGHT, AFTER_ORDER };
 
 /* A section without members is absent. The flight's place is that of its order field, or of its head where there is none: the place of 11. */
@@ -172,7 +169,7 @@ static inline u64 field_number(uint8_t tag, const uint8_t *c, size_t length, con
     if (out_of_range != 0)
         return out_of_range;
     if (tag == FLIGHT_WINDOW && number_at(c + 4, 2) < number_at(c + 2, 2))
-        return LONGEST_BELOW_SHORTEST;
+        return SEVULAMON_LONGEST_BELOW_SHORTEST;
     if (!has_room(tag, c, s))
         return SEVULAMON_TOO_MANY;
     if (tag == FLIGHT_ORDER && !proper(s->flight.blocks, number_at(c, 8)))
