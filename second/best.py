@@ -76,19 +76,19 @@ def best_sorting(sheet):
     return rows[tuple(map(len, queues))][0][:2]
 
 
-def too_close(blocks, firsts, turn):
+def too_close(blocks, starts, turn):
     """The first and the second pass of two blocks without a turn between them, as (block of the second, block of the first), or None."""
-    for i, block in enumerate(blocks):
-        start = firsts[i] + distances.offset(block)
+    for i, (_, second) in enumerate(starts):
         for j in range(i + 1, len(blocks)):
-            if firsts[j] < start + block[2] + turn and start < firsts[j] + blocks[j][0] + turn:
+            first = starts[j][0]
+            if first < second + blocks[i][-1] + turn and second < first + blocks[j][0] + turn:
                 return i, j
     return None
 
 
 def kinds_in_turn(blocks, turn):
     """The distances where first passes take the blocks in turn, and second passes too, and each block's first pass comes before its second."""
-    far = distances.apart(len(blocks))
+    far = distances.of_blocks(blocks)
     for i in range(len(blocks)):
         far = distances.ask_passes(far, blocks, (i, 0), (i, 1), turn)
     for i, kind in itertools.product(range(len(blocks) - 1), (0, 1)):
@@ -103,11 +103,11 @@ def best_free_flight(blocks, turn):
         far = waiting.pop()
         if far is None:
             continue
-        firsts = distances.least(far, [0] * len(blocks))
-        end = distances.end(blocks, firsts)
+        starts = distances.least(far)
+        end = distances.end(blocks, starts)
         if best is not None and end >= best:
             continue
-        pair = too_close(blocks, firsts, turn)
+        pair = too_close(blocks, starts, turn)
         if pair is None:
             best = end
             continue
@@ -122,7 +122,7 @@ def best_flight(sheet):
     if sheet.order is None:
         return best_free_flight(sheet.blocks, sheet.turn)
     far = distances.in_order(sheet.blocks, sheet.order, sheet.turn)
-    return None if far is None else distances.end(sheet.blocks, distances.least(far, [0] * len(sheet.blocks)))
+    return None if far is None else distances.end(sheet.blocks, distances.least(far))
 
 
 def best(sheet):

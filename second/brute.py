@@ -2,7 +2,7 @@
 
 `of_choices` tries every batching, every interleaving and every proper order, each with its earliest starts. `of_timetables`, for tiny sheets, tries idle
 timetables too: in mosaic and sorting those that wait one minute at one or two starts, in flight every row of starts up to a time behind which no start
-is needed. That a flight without order is impossible is found by trying every proper order, never by its delays.
+is needed, with every delay of each window. That a flight without order is impossible is found by trying every proper order, never by its delays.
 """
 import itertools
 
@@ -63,16 +63,16 @@ def best_lists(sheet):
 
 
 def earliest_flights(sheet):
-    """Order and first starts, as early as the order allows, of every order that may be chosen and has a timetable."""
+    """Order and starts, as early as the order allows, of every order that may be chosen and has a timetable."""
     for order in proper_orders(len(sheet.blocks)) if sheet.order is None else [sheet.order]:
         far = distances.in_order(sheet.blocks, order, sheet.turn)
         if far is not None:
-            yield order, distances.least(far, [0] * len(sheet.blocks))
+            yield order, distances.least(far)
 
 
 def least_flight(sheet):
     """Over every order that may be chosen; None where none has a timetable."""
-    return min((distances.end(sheet.blocks, firsts) for _, firsts in earliest_flights(sheet)), default=None)
+    return min((distances.end(sheet.blocks, starts) for _, starts in earliest_flights(sheet)), default=None)
 
 
 def some_order(blocks, turn, far, last, firsts, seconds):
@@ -91,26 +91,44 @@ def some_order(blocks, turn, far, last, firsts, seconds):
 
 def possible(sheet):
     """Whether some proper order of a flight without one has a timetable."""
-    return some_order(sheet.blocks, sheet.turn, distances.apart(len(sheet.blocks)), None, 0, 0)
+    return some_order(sheet.blocks, sheet.turn, distances.of_blocks(sheet.blocks), None, 0, 0)
 
 
-def lawful_passes(blocks, firsts, turn):
-    """Whether first passes take the blocks in turn, second passes too, and of any two passes the later starts at least a turn after the other ends."""
-    seconds = [first + distances.offset(block) for first, block in zip(firsts, blocks)]
-    spans = sorted([(f, f + block[0]) for f, block in zip(firsts, blocks)] + [(s, s + block[2]) for s, block in zip(seconds, blocks)])
+def lawful_passes(blocks, starts, turn):
+    """Whether first passes take the blocks in turn, second passes too, and of any two passes the later starts at least a turn after the other ends. The delays
+    are not looked at."""
+    firsts, seconds = zip(*starts)
+    spans = sorted([(f, f + block[0]) for f, block in zip(firsts, blocks)] + [(s, s + block[-1]) for s, block in zip(seconds, blocks)])
     apart = all(end + turn <= start for (_, end), (start, _) in itertools.combinations(spans, 2))
-    return apart and sorted(firsts) == list(firsts) and sorted(seconds) == seconds
+    return apart and sorted(firsts) == list(firsts) and sorted(seconds) == list(seconds)
 
 
-def ends_by_order(blocks, turn):
-    """The least end of every order that has a timetable, by trying every row of rising starts. No block needs to start behind the time of all blocks in turn,
-    each delay no shorter than a turn and a turn behind each block."""
-    latest, ends = sum(first + max(delay, turn) + second + turn for first, delay, second in blocks), {}
-    for firsts in itertools.combinations(range(latest), len(blocks)):
-        if lawful_passes(blocks, firsts, turn):
-            order, end = distances.order_of(blocks, firsts), distances.end(blocks, firsts)
-            ends[order] = min(end, ends.get(order, end))
-    return ends
+def delays_of(block):
+    """Every delay of a block's window."""
+    return range(block[1], block[-2] + 1)
+
+
+def timetables(blocks, turn, latest, placed=()):
+    """Every row of starts that goes on with these, block by block, with every delay and every first start before `latest`."""
+    if len(placed) == len(blocks):
+        yield placed
+        return
+    block = blocks[len(placed)]
+    for first, delay in itertools.product(range(latest), delays_of(block)):
+        starts = (*placed, (first, first + block[0] + delay))
+        if lawful_passes(blocks, starts, turn):
+            yield from timetables(blocks, turn, latest, starts)
+
+
+def least_by_order(blocks, turn):
+    """Of every order that has a timetable the least end, and the least start of each pass, each for itself over all its timetables. No pass needs to start
+    behind the time of all blocks in turn, each delay the shortest or the turn and a turn behind each block."""
+    latest, found = sum(block[0] + max(block[1], turn) + block[-1] + turn for block in blocks), {}
+    for starts in timetables(blocks, turn, latest):
+        order, end = distances.order_of(starts), distances.end(blocks, starts)
+        least, known = found.get(order, (end, starts))
+        found[order] = min(end, least), [list(map(min, one, other)) for one, other in zip(starts, known)]
+    return found
 
 
 def of_sections(sheet, most, flight):
@@ -131,13 +149,14 @@ def best_plan(sheet):
     flights = list(earliest_flights(sheet)) if sheet.blocks else [(None, [])]
     if not flights:
         return None
-    order, firsts = min(flights, key=lambda flight: distances.end(sheet.blocks, flight[1]) if sheet.blocks else 0)
-    return timetable.plan_of(sheet, min(batches, key=timetable.mosaic_figure), jobs, order, firsts)
+    order, starts = min(flights, key=lambda flight: distances.end(sheet.blocks, flight[1]) if sheet.blocks else 0)
+    return timetable.plan_of(sheet, min(batches, key=timetable.mosaic_figure), jobs, order, starts)
 
 
-def of_timetables(sheet, ends=None):
-    """The same. `ends` is what ends_by_order gives for the sheet's blocks and turn."""
+def of_timetables(sheet, found=None):
+    """The same. `found` is what least_by_order gives for the sheet's blocks and turn."""
     flight = 0
     if sheet.blocks:
+        ends = {order: end for order, (end, _) in found.items()}
         flight = min(ends.values(), default=None) if sheet.order is None else ends.get(sheet.order)
     return of_sections(sheet, 2, flight)

@@ -31,18 +31,18 @@ def plan_due(sheet, desks, plan):
     places = {tag: members for tag, _, members in judge.parts_of(sheet, plan)[0]}
     batches = timetable.batches_of(sheet, [plan[at + 3] for at in places[0x90]]) if sheet.strips else []
     jobs = timetable.jobs_of(sheet, desks) if sheet.jobs else []
-    order, firsts = None, []
+    order, starts = None, []
     if sheet.blocks:
         order = judge.number(plan, places[0xB0][0] - 8, 8)
-        firsts = distances.least(distances.in_order(sheet.blocks, order, sheet.turn), [0] * len(sheet.blocks))
-    return timetable.plan_of(sheet, batches, jobs, order, firsts).bytes()
+        starts = distances.least(distances.in_order(sheet.blocks, order, sheet.turn))
+    return timetable.plan_of(sheet, batches, jobs, order, starts).bytes()
 
 
 def impossible(sheet, flight):
-    """Whether 11 is due, the least figure of the flight being this one. A flight without order is also asked whether the delays say the same: one of them is
-    shorter than the turn."""
+    """Whether 11 is due, the least figure of the flight being this one. A flight without order is also asked whether the delays say the same: the longest
+    of some block is shorter than the turn."""
     if sheet.blocks and sheet.order is None:
-        shorter = any(delay < sheet.turn for _, delay, _ in sheet.blocks)
+        shorter = any(distances.longest(block) < sheet.turn for block in sheet.blocks)
         assert (flight is None) == shorter and brute.possible(sheet) != shorter, "the second program's own methods differ on 11"
     return flight is None
 

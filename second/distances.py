@@ -1,42 +1,67 @@
-"""Least distances between the first passes of a flight.
+"""Least distances between the passes of a flight.
 
-A second pass starts exactly its block's first pass and delay after the first, so a timetable is the starts of the first passes, and "this pass ends
-a turn before that one starts" says that one block starts at least so much after another; of a block's own two passes it says that the delay is no shorter
-than the turn. `far[i][j]` is the most that the rules asked so far say of that kind: block j starts at least far[i][j] after block i. A new rule is followed
-through all pairs at once; no rounds are needed.
+A block is (first pass, delay, second pass) or (first pass, shortest delay, longest delay, second pass): a delay alone is the shortest and the longest. A pass
+is (block, 0 or 1 for the second). "This pass ends a turn before that one starts" says that one pass starts at least so much after another, and so does each
+end of a window: the second pass starts at least the first pass and the shortest delay after the first, and the first at most the first pass and the longest
+delay before the second. `far[p][q]` is the most that the rules asked so far say of that kind: pass q starts at least far[p][q] after pass p, the passes
+counted block by block. A new rule is followed through all pairs at once; no rounds are needed.
 """
+import functools
+
 NONE = float("-inf")
 
 
-def apart(n):
-    """The distances of n blocks of which nothing is asked."""
-    return [[0 if i == j else NONE for j in range(n)] for i in range(n)]
+def shortest(block):
+    return block[1]
 
 
-def ask(far, i, j, gap):
-    """The distances once block j also starts at least gap after block i, or None where no timetable does all that is asked."""
-    if far is None or far[j][i] + gap > 0:
+def longest(block):
+    return block[-2]
+
+
+def ask(far, before, after, gap):
+    """The distances once one pass also starts at least gap after another, or None where no timetable does all that is asked."""
+    if far is None:
         return None
-    if far[i][j] >= gap:
-        return far
-    return [[max(old, row[i] + gap + beyond) for old, beyond in zip(row, far[j])] for row in far]
+    p, q = index(before), index(after)
+    if far[q][p] + gap > 0:
+        return None
+    beyond = [(r, more) for r, more in enumerate(far[q]) if more != NONE]
+    return [farther(row, row[p] + gap, beyond) if row[p] + gap > row[q] else row for row in far]
 
 
-def offset(block):
-    """How much later than the first pass the second starts."""
-    return block[0] + block[1]
+def index(one):
+    """Of a pass."""
+    return 2 * one[0] + one[1]
+
+
+def farther(row, reached, beyond):
+    """A row of distances once a pass is so far away, from which others are farther."""
+    row = row[:]
+    for r, more in beyond:
+        if row[r] < reached + more:
+            row[r] = reached + more
+    return row
+
+
+def of_blocks(blocks):
+    """The distances of blocks of which nothing is asked but that each delay lies in its window."""
+    count = 2 * len(blocks)
+    far = [[0 if p == q else NONE for q in range(count)] for p in range(count)]
+    for i, block in enumerate(blocks):
+        far[2 * i][2 * i + 1] = block[0] + shortest(block)
+        far[2 * i + 1][2 * i] = -block[0] - longest(block)
+    return far
 
 
 def ask_passes(far, blocks, before, after, turn):
-    """The distances once one pass, (block, 0 or 1 for the second), ends a turn before another one starts."""
-    (i, second), (j, later) = before, after
-    end = offset(blocks[i]) + blocks[i][2] if second else blocks[i][0]
-    start = offset(blocks[j]) if later else 0
-    return ask(far, i, j, end + turn - start)
+    """The distances once one pass ends a turn before another one starts."""
+    i, second = before
+    return ask(far, before, after, blocks[i][-1 if second else 0] + turn)
 
 
 def passes_in(n, order):
-    """The passes of an order, each as (block, 0 or 1 for the second)."""
+    """The passes of an order."""
     taken, out = [0, 0], []
     for k in range(2 * n):
         kind = order >> k & 1
@@ -45,24 +70,32 @@ def passes_in(n, order):
     return out
 
 
-def in_order(blocks, order, turn):
-    """The distances of an order, or None where no timetable keeps it."""
-    far, passes = apart(len(blocks)), passes_in(len(blocks), order)
+@functools.lru_cache(maxsize=256)
+def in_order_of(blocks, order, turn):
+    """The distances of an order, once for each row of blocks."""
+    far, passes = of_blocks(blocks), passes_in(len(blocks), order)
     for before, after in zip(passes, passes[1:]):
         far = ask_passes(far, blocks, before, after, turn)
     return far
 
 
-def least(far, earliest):
-    """The least starts of the first passes, none before its entry in `earliest`."""
-    return [max(start + far[i][j] for i, start in enumerate(earliest)) for j in range(len(far))]
+def in_order(blocks, order, turn):
+    """The distances of an order, or None where no timetable keeps it."""
+    return in_order_of(tuple(map(tuple, blocks)), order, turn)
 
 
-def end(blocks, firsts):
-    return max(first + offset(block) + block[2] for first, block in zip(firsts, blocks))
+def least(far, earliest=None):
+    """The least starts, [first, second] of each block, none before its entry in `earliest`, which is 0 for all where it is not given."""
+    times = [0] * len(far) if earliest is None else [time for pair in earliest for time in pair]
+    starts = [max(time + row[q] for time, row in zip(times, far)) for q in range(len(far))]
+    return [list(pair) for pair in zip(starts[0::2], starts[1::2])]
 
 
-def order_of(blocks, firsts):
+def end(blocks, starts):
+    return max(second + block[-1] for (_, second), block in zip(starts, blocks))
+
+
+def order_of(starts):
     """The order in which the passes start."""
-    starts = [(first, 0) for first in firsts] + [(first + offset(block), 1) for first, block in zip(firsts, blocks)]
-    return sum(kind << k for k, (_, kind) in enumerate(sorted(starts)))
+    passes = [(first, 0) for first, _ in starts] + [(second, 1) for _, second in starts]
+    return sum(kind << k for k, (_, kind) in enumerate(sorted(passes)))

@@ -67,7 +67,7 @@ def order_kept(blocks, starts, order, turn):
     for i, second in distances.passes_in(len(blocks), order):
         if starts[i][second] < free:
             return False
-        free = starts[i][second] + blocks[i][2 if second else 0] + turn
+        free = starts[i][second] + blocks[i][-1 if second else 0] + turn
     return True
 
 
@@ -78,7 +78,7 @@ def judge_flight(sheet, plan, head, places):
         if len(starts) == len(blocks):
             return at, 0
         block = blocks[len(starts)]
-        if second - first != distances.offset(block) or second + block[2] > CEILING:
+        if not distances.shortest(block) <= second - first - block[0] <= distances.longest(block) or second + block[-1] > CEILING:
             return at, 0
         starts.append((first, second))
     order = number(plan, head + 7, 8)
@@ -86,7 +86,7 @@ def judge_flight(sheet, plan, head, places):
         return head, 0
     if not order_kept(blocks, starts, order, sheet.turn):
         return head, 0
-    return None, distances.end(blocks, [first for first, _ in starts])
+    return None, distances.end(blocks, starts)
 
 
 JUDGES = {0x90: judge_mosaic, 0xA0: judge_sorting, 0xB0: judge_flight}

@@ -14,6 +14,7 @@ import random
 
 import best
 import brute
+import distances
 import lengths
 import longest
 import page
@@ -56,10 +57,18 @@ def tiny_flights_with_turns():
 
 
 def tried_flights(blocks, orders, turn):
-    """A row of blocks with each of these orders; the ends of all its timetables are found once."""
-    ends = brute.ends_by_order(blocks, turn or 0)
+    """A row of blocks with each of these orders; all its timetables are tried once."""
+    found = brute.least_by_order(blocks, turn or 0)
+    assert found == least_by_distances(blocks, turn or 0), "the second program's own methods differ on least starts: %s, turn %s" % (blocks, turn)
     for number in orders:
-        yield PlanCase(sheets.flight(blocks, number, turn), least=lambda sheet: agreed(sheet, brute.of_timetables(sheet, ends)))
+        yield PlanCase(sheets.flight(blocks, number, turn), least=lambda sheet: agreed(sheet, brute.of_timetables(sheet, found)))
+
+
+def least_by_distances(blocks, turn):
+    """What brute.least_by_order finds, by the other method."""
+    fars = ((number, distances.in_order(blocks, number, turn)) for number in brute.proper_orders(len(blocks)))
+    starts = {number: distances.least(far) for number, far in fars if far is not None}
+    return {number: (distances.end(blocks, row), row) for number, row in starts.items()}
 
 
 def long_sheets():
@@ -115,9 +124,10 @@ def heads_turned_back():
 def every_start():
     """Judged with the true figure, where it is known from the starts whether the plan is lawful, judged with an untrue one, and printed."""
     for turn, blocks, firsts in turns.every_start():
-        sheet, plan = sheets.flight(blocks, turn=turn), turns.plan_of_starts(blocks, firsts)
-        yield AllowedCase(sheet, plan) if brute.lawful_passes(blocks, firsts, turn) else BrokenCase(sheet, plan, 0)
-        yield JudgeCase(sheet, turns.plan_of_starts(blocks, firsts, 1))
+        starts = timetable.passes_of(blocks, firsts)
+        sheet, plan = sheets.flight(blocks, turn=turn), turns.plan_of_starts(blocks, starts)
+        yield AllowedCase(sheet, plan) if brute.lawful_passes(blocks, starts, turn) else BrokenCase(sheet, plan, 0)
+        yield JudgeCase(sheet, turns.plan_of_starts(blocks, starts, 1))
         yield PageCase(sheet, plan)
 
 
@@ -125,7 +135,7 @@ def one_gap_short():
     """A plan with one gap of exactly the turn, and the same where the turn is a second longer; behind a mosaic too. Some of the sheets are planned."""
     before, planned = tiny.ONES["m"], tiny.HEADS["m"] + tiny.MEMBERS["m"]
     for turn, number, blocks, firsts, at in turns.one_gap_short():
-        plan = turns.plan_of_starts(blocks, firsts)
+        plan = turns.plan_of_starts(blocks, timetable.passes_of(blocks, firsts))
         kept, broken = sheets.flight(blocks, number, turn), sheets.flight(blocks, number, turn + 1)
         yield from (AllowedCase(kept, plan), BrokenCase(broken, plan, 0), PageCase(kept, plan), PageCase(broken, plan))
         yield from (AllowedCase(before + kept, planned + plan), BrokenCase(before + broken, planned + plan, len(planned)))

@@ -165,7 +165,7 @@ def flight_plans():
         for given in (order, None) if n == 8 else (order,):
             sheet = sheets.flight(blocks, given, turn)
             for gap in (0, 4 * MOST_TIME):
-                yield sheet, timetable.plan_of(reader.read(sheet), [], [], order, distances.least(far, [i * gap for i in range(n)]))
+                yield sheet, timetable.plan_of(reader.read(sheet), [], [], order, distances.least(far, [(i * gap, 0) for i in range(n)]))
 
 
 def ends_of(sheet, tag, members):
@@ -174,7 +174,7 @@ def ends_of(sheet, tag, members):
         return [finish for _, _, finish in members]
     if tag == 0xA0:
         return [begin + sheet.queue(desk)[number - 1][1] for desk, number, _, begin in members]
-    return [second + block[2] for (_, second), block in zip(members, sheet.blocks)]
+    return [second + block[-1] for (_, second), block in zip(members, sheet.blocks)]
 
 
 def moved(sheet, plan, section, first, by):
@@ -215,8 +215,8 @@ def all_at_ceiling():
     rows, desks, blocks = longest(40, 5), QUEUES[-1], longest(32, 3)
     sheet = mosaic(rows) + sorting(desks, longest(18, 2)) + sheets.flight(blocks, IN_PAIRS)
     parsed = reader.read(sheet)
-    firsts = distances.least(distances.in_order(blocks, IN_PAIRS, 0), [0] * 32)
-    plan = timetable.plan_of(parsed, timetable.batches_of(parsed, range(1, 41)), timetable.jobs_of(parsed, desks), IN_PAIRS, firsts)
+    starts = distances.least(distances.in_order(blocks, IN_PAIRS, 0))
+    plan = timetable.plan_of(parsed, timetable.batches_of(parsed, range(1, 41)), timetable.jobs_of(parsed, desks), IN_PAIRS, starts)
     for section, (tag, _, members) in enumerate(plan.sections):
         plan = moved(parsed, plan, section, 0, CEILING - ends_of(parsed, tag, members)[-1])
     yield sheet, plan, None

@@ -83,8 +83,8 @@ def full_page():
     """All 93 lines, in buffers about their length."""
     sheet = sheets.longest_planned()
     parsed = reader.read(sheet)
-    order, firsts = parsed.order, range(0, 64, 2)
-    plan = timetable.plan_of(parsed, timetable.batches_of(parsed, range(1, 41)), timetable.jobs_of(parsed, [1, 2, 3] * 6), order, firsts).bytes()
+    starts = timetable.passes_of(parsed.blocks, range(0, 64, 2))
+    plan = timetable.plan_of(parsed, timetable.batches_of(parsed, range(1, 41)), timetable.jobs_of(parsed, [1, 2, 3] * 6), parsed.order, starts).bytes()
     return ((sheet, plan, room) for room in (0, ROOM - LINE, ROOM - 1, ROOM, ROOM + 1, ROOM + LINE, 65536))
 
 
@@ -136,7 +136,7 @@ def changed(rng, sheet, plan):
         plans.shift(tag, members[first:rng.choice((first + 1, None))], by)
     head[0] = plans.figure_of(sheet, tag, members)
     if tag == 0xB0:
-        head[1] = distances.order_of(sheet.blocks, [start for start, _ in members])
+        head[1] = distances.order_of(members)
     return plan
 
 

@@ -37,45 +37,52 @@ def random_order(rng, n):
 def spans_of(blocks, firsts):
     """Start and end of every pass of the blocks that are placed."""
     pairs = timetable.passes_of(blocks, firsts)
-    return [(start, start + time) for (first, second), (a, _, b) in zip(pairs, blocks) for start, time in ((first, a), (second, b))]
+    return [(start, start + time) for (first, second), block in zip(pairs, blocks) for start, time in ((first, block[0]), (second, block[-1]))]
 
 
 def first_fit(blocks, firsts, start, turn):
-    """The earliest time from `start` on at which the next block follows the blocks placed and is a turn away from all their passes."""
+    """The earliest time from `start` on at which the next block, with its shortest delay, follows the blocks placed and is a turn away from all their passes."""
     block, spans, moved = blocks[len(firsts)], [(begin - turn, end + turn) for begin, end in spans_of(blocks, firsts)], True
-    gap = distances.offset(block)
+    gap = block[0] + distances.shortest(block)
     if spans:
         start = max(start, spans[-2][1], spans[-1][1] - gap)
     while moved:
         ends = [end for begin, end in spans if begin < start + block[0] and start < end]
-        ends += [end - gap for begin, end in spans if begin < start + gap + block[2] and start + gap < end]
+        ends += [end - gap for begin, end in spans if begin < start + gap + block[-1] and start + gap < end]
         moved = bool(ends)
         start = max(ends, default=start)
     return start
 
 
-def random_firsts(rng, blocks, turn):
-    """Starts of the first passes of a timetable in some order, with or without idle time, lawful where no delay is shorter than the turn."""
-    most, firsts = rng.choice((0, 0, 3, 30, MOST_TIME)), []
+def with_one_delay(rng, block, turn):
+    """The block with one delay of its window, no shorter than the turn where there is such a one: the shortest, the longest or any."""
+    longest = distances.longest(block)
+    shortest = min(longest, max(distances.shortest(block), turn))
+    return block[0], rng.choice((shortest, longest, rng.randint(shortest, longest))), block[-1]
+
+
+def random_starts(rng, blocks, turn):
+    """Starts of a timetable in some order, with or without idle time, lawful where no longest delay is shorter than the turn."""
+    blocks, most, firsts = [with_one_delay(rng, block, turn) for block in blocks], rng.choice((0, 0, 3, 30, MOST_TIME)), []
     for _ in blocks:
         firsts.append(first_fit(blocks, firsts, (firsts[-1] if firsts else 0) + rng.randint(0, most), turn))
-    return firsts
+    return timetable.passes_of(blocks, firsts)
 
 
-def waiting_firsts(rng, blocks, order, turn):
-    """Starts that keep an order, some blocks made to wait, or None where the order is impossible."""
+def waiting_starts(rng, blocks, order, turn):
+    """Starts that keep an order, some passes made to wait, or None where the order is impossible."""
     far, most = distances.in_order(blocks, order, turn), rng.choice((0, 3, 100, MOST_TIME))
-    return far and distances.least(far, [rng.choice((0, rng.randint(0, most))) for _ in blocks])
+    return far and distances.least(far, [(rng.choice((0, rng.randint(0, most))), rng.choice((0, rng.randint(0, most)))) for _ in blocks])
 
 
 def random_flight(rng, sheet):
-    """Order number and first starts: the given order, or a random one; where that is impossible, the order of a random timetable."""
+    """Order number and starts: the given order, or a random one; where that is impossible, the order of a random timetable."""
     order = random_order(rng, len(sheet.blocks)) if sheet.order is None else sheet.order
-    firsts = waiting_firsts(rng, sheet.blocks, order, sheet.turn)
-    if firsts is None:
-        firsts = random_firsts(rng, sheet.blocks, sheet.turn)
-        order = distances.order_of(sheet.blocks, firsts)
-    return order, firsts
+    starts = waiting_starts(rng, sheet.blocks, order, sheet.turn)
+    if starts is None:
+        starts = random_starts(rng, sheet.blocks, sheet.turn)
+        order = distances.order_of(starts)
+    return order, starts
 
 
 def idle_plan(rng, sheet):
@@ -87,13 +94,13 @@ def idle_plan(rng, sheet):
 
     batches = timetable.batches_of(sheet, random_lasts(rng, len(sheet.strips)), wait) if sheet.strips else []
     jobs = timetable.jobs_of(sheet, random_list(rng, sheet), wait) if sheet.jobs else []
-    order, firsts = random_flight(rng, sheet) if sheet.blocks else (None, [])
-    return timetable.plan_of(sheet, batches, jobs, order, firsts)
+    order, starts = random_flight(rng, sheet) if sheet.blocks else (None, [])
+    return timetable.plan_of(sheet, batches, jobs, order, starts)
 
 
 def lawful(sheet, plan):
     """Whether a plan with idle time is lawful."""
-    return not sheet.blocks or sheet.order in (None, plan.order) and all(delay >= sheet.turn for _, delay, _ in sheet.blocks)
+    return not sheet.blocks or sheet.order in (None, plan.order) and all(distances.longest(block) >= sheet.turn for block in sheet.blocks)
 
 
 # The places of the times in a member.
@@ -105,7 +112,7 @@ def figure_of(sheet, tag, members):
         return timetable.mosaic_figure(members)
     if tag == 0xA0:
         return timetable.sorting_figure(sheet, members)
-    return distances.end(sheet.blocks, [first for first, _ in members])
+    return distances.end(sheet.blocks, members)
 
 
 def last_end(sheet, tag, members):
@@ -212,9 +219,8 @@ def other_flight(rng, sheet, plan):
     """The flight in another order, lawful unless an order is given, and with that order's number."""
     tag, head, members = plan.sections[-1]
     if tag == 0xB0:
-        firsts = random_firsts(rng, sheet.blocks, sheet.turn)
-        members[:] = timetable.passes_of(sheet.blocks, firsts)
-        head[:] = [distances.end(sheet.blocks, firsts), distances.order_of(sheet.blocks, firsts)]
+        members[:] = random_starts(rng, sheet.blocks, sheet.turn)
+        head[:] = [distances.end(sheet.blocks, members), distances.order_of(members)]
 
 
 def turn_too_short(rng, sheet, plan):
@@ -222,9 +228,8 @@ def turn_too_short(rng, sheet, plan):
     tag, head, members = plan.sections[-1]
     far = distances.in_order(sheet.blocks, head[1], rng.choice((0, max(0, sheet.turn - 1)))) if tag == 0xB0 else None
     if far:
-        firsts = distances.least(far, [0] * len(sheet.blocks))
-        members[:] = timetable.passes_of(sheet.blocks, firsts)
-        head[0] = distances.end(sheet.blocks, firsts)
+        members[:] = distances.least(far)
+        head[0] = distances.end(sheet.blocks, members)
 
 
 def near_the_top(rng, sheet, plan):

@@ -3,7 +3,7 @@ import struct
 
 MOST_TIME, MOST_TURN = 60_000, 600
 HEADS = (0x10, 0x20, 0x30)
-MEMBER_OF = {0x11: 0x10, 0x21: 0x20, 0x31: 0x30}
+MEMBER_OF = {0x11: 0x10, 0x21: 0x20, 0x31: 0x30, 0x33: 0x30}
 
 
 class Refused(Exception):
@@ -17,8 +17,9 @@ class Refused(Exception):
 class Sheet:
     """What a sound sheet says. The members of an absent section are None.
 
-    strips: (station times, bench time); jobs: (desk, scan time, desk time); blocks: (first pass, delay, second pass). `turn` is 0 where the flight head is
-    empty; `flight_at` and `order_at` are the places of the flight head and of the order field.
+    strips: (station times, bench time); jobs: (desk, scan time, desk time); blocks: (first pass, delay, second pass) or, with a window, (first
+    pass, shortest delay, longest delay, second pass). `turn` is 0 where the flight head is empty; `flight_at` and `order_at` are the places of the flight head
+    and of the order field.
     """
 
     def __init__(self):
@@ -66,6 +67,11 @@ def time_fault(time, least, most=MOST_TIME):
     if time > most:
         return 15
     return 16 if time < least else 0
+
+
+def window_fault(shortest, longest=MOST_TIME):
+    """17 for a longest delay below the shortest, or 0."""
+    return 17 if longest < shortest else 0
 
 
 def first_fault(*numbers):
@@ -118,13 +124,13 @@ class Reader:
     def lengths_due(self, tag):
         if tag == 0x11:
             return (2 * self.sheet.stations + 2,)
-        return {0x10: (3,), 0x20: (1,), 0x21: (5,), 0x30: (0, 2), 0x31: (6,), 0x32: (8,)}[tag]
+        return {0x10: (3,), 0x20: (1,), 0x21: (5,), 0x30: (0, 2), 0x31: (6,), 0x32: (8,), 0x33: (8,)}[tag]
 
     def members_of(self, tag):
         return {0x10: self.sheet.strips, 0x20: self.sheet.jobs, 0x30: self.sheet.blocks}[tag]
 
     def take(self, tag, content, at):
-        """6, 15 or 16 of a field by its values, then 7 or 9, or 0 once the field is taken in."""
+        """6, 15 or 16 of a field by its values, then 17, then 7 or 9, or 0 once the field is taken in."""
         if tag == 0x10:
             return self.take_mosaic(content)
         if tag == 0x11:
@@ -133,8 +139,8 @@ class Reader:
             return self.take_sorting(content[0])
         if tag == 0x21:
             return self.take_job(content[0], *words(content, 1))
-        if tag == 0x31:
-            return self.take_block(*words(content, 0))
+        if tag in (0x31, 0x33):
+            return self.take_block(words(content, 0))
         if tag == 0x32:
             return self.take_order(int.from_bytes(content, "little"), at)
         return self.take_flight(content, at)
@@ -182,13 +188,15 @@ class Reader:
         self.sheet.turn, self.sheet.flight_at, self.sheet.blocks = turn, at, []
         return 0
 
-    def take_block(self, first, delay, second):
-        number = first_fault(time_fault(first, 1), time_fault(delay, 0), time_fault(second, 1))
+    def take_block(self, times):
+        """A block has one delay, or the shortest and the longest. 17 comes behind all four ranges."""
+        first, *delays, second = times
+        number = first_fault(time_fault(first, 1), *[time_fault(delay, 0) for delay in delays], time_fault(second, 1), window_fault(*delays))
         if number:
             return number
         if len(self.members) == 32:
             return 7
-        self.members.append((first, delay, second))
+        self.members.append(tuple(times))
         return 0
 
     def take_order(self, order, at):

@@ -27,8 +27,9 @@ def job(desk, scan, time):
     return field(0x21, struct.pack("<BHH", desk, scan, time))
 
 
-def block(first, delay, second):
-    return field(0x31, struct.pack("<3H", first, delay, second))
+def block(*times):
+    """First pass, delay, second pass; or first pass, shortest delay, longest delay, second pass."""
+    return field(0x31 if len(times) == 3 else 0x33, struct.pack("<%dH" % len(times), *times))
 
 
 def order(number):
@@ -222,7 +223,7 @@ def ordered_flight(rng, family, n):
         return flight(blocks, plans.random_order(rng, n), turn)
     if kind == "in turn":
         return flight(blocks, int("10" * n, 2), turn)
-    number = distances.order_of(blocks, plans.random_firsts(rng, blocks, turn or 0))
+    number = distances.order_of(plans.random_starts(rng, blocks, turn or 0))
     if kind == "delay one off":
         blocks = with_other_delay(rng, blocks)
     if kind == "turn one off":

@@ -45,8 +45,8 @@ def jobs_of(sheet, desks, wait=no_wait):
 
 
 def passes_of(blocks, firsts):
-    """First and second start of each block."""
-    return [[first, first + distances.offset(block)] for first, block in zip(firsts, blocks)]
+    """First and second start of each block, each delay the shortest of its window."""
+    return [[first, first + block[0] + distances.shortest(block)] for first, block in zip(firsts, blocks)]
 
 
 def mosaic_figure(batches):
@@ -81,13 +81,13 @@ class Plan:
         return b"".join(out)
 
 
-def plan_of(sheet, batches, jobs, order, firsts):
-    """The plan of a sheet with these timetables and their true figures."""
+def plan_of(sheet, batches, jobs, order, starts):
+    """The plan of a sheet with these timetables and their true figures. `starts` are the first and the second start of each block."""
     sections = []
     if sheet.strips:
         sections.append((0x90, [mosaic_figure(batches)], batches))
     if sheet.jobs:
         sections.append((0xA0, [sorting_figure(sheet, jobs)], jobs))
     if sheet.blocks:
-        sections.append((0xB0, [distances.end(sheet.blocks, firsts), order], passes_of(sheet.blocks, firsts)))
+        sections.append((0xB0, [distances.end(sheet.blocks, starts), order], starts))
     return Plan(sections, order)

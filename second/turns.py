@@ -44,8 +44,12 @@ def in_turn(n):
 def earliest_plan(blocks, number, turn):
     """The plan of a sheet with this flight alone, as early as the order allows. Where it is impossible with the turn, as if there were none."""
     far = distances.in_order(blocks, number, turn) or distances.in_order(blocks, number, 0)
-    firsts = distances.least(far, [0] * len(blocks))
-    return timetable.Plan([(0xB0, [distances.end(blocks, firsts), number], timetable.passes_of(blocks, firsts))], number).bytes()
+    return flight_plan(blocks, distances.least(far), number)
+
+
+def flight_plan(blocks, starts, number, more=0):
+    """The plan of a flight alone with these starts and this order number, and a figure that is so much more than the true one."""
+    return timetable.Plan([(0xB0, [distances.end(blocks, starts) + more, number], starts)], number).bytes()
 
 
 def all_turns():
@@ -98,7 +102,7 @@ OTHER_BEST_ORDER = [
 def other_best_order():
     """These flights with every turn from 0 on that leaves them possible, and one more."""
     for _, blocks in OTHER_BEST_ORDER:
-        shortest = min(delay for _, delay, _ in blocks)
+        shortest = min(map(distances.longest, blocks))
         yield from (flight(blocks, turn=turn) for turn in range(shortest + 2))
 
 
@@ -164,10 +168,9 @@ def changed_plans():
     return ((flight(TIGHT, 0b1100, 1), other) for other in tiny.changes(plan))
 
 
-def plan_of_starts(blocks, firsts, more=0):
-    """The plan of a flight with these starts, with the number of the order in which the passes start, and a figure that is so much more than the true one."""
-    number = distances.order_of(blocks, firsts)
-    return timetable.Plan([(0xB0, [distances.end(blocks, firsts) + more, number], timetable.passes_of(blocks, firsts))], number).bytes()
+def plan_of_starts(blocks, starts, more=0):
+    """The same, with the number of the order in which the passes start."""
+    return flight_plan(blocks, starts, distances.order_of(starts), more)
 
 
 def every_start():
@@ -233,7 +236,7 @@ def small_flight(rng):
     """With an order or without."""
     blocks = drawn_blocks(rng, rng.randint(1, 4))
     turn = drawn_turn(rng, blocks)
-    number = distances.order_of(blocks, plans.random_firsts(rng, blocks, turn))
+    number = distances.order_of(plans.random_starts(rng, blocks, turn))
     return flight(blocks, rng.choice((None, None, number, number, plans.random_order(rng, len(blocks)))), turn)
 
 

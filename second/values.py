@@ -104,8 +104,8 @@ def read_and_planned(fields):
     sheet = reader.read(b"".join(fields))
     batches = timetable.batches_of(sheet, range(1, len(sheet.strips) + 1)) if sheet.strips else []
     jobs = timetable.jobs_of(sheet, [desk for desk, _, _ in sheet.jobs]) if sheet.jobs else []
-    firsts = distances.least(distances.in_order(sheet.blocks, sheet.order, sheet.turn), [0] * len(sheet.blocks)) if sheet.blocks else []
-    plan = timetable.plan_of(sheet, batches, jobs, sheet.order, firsts).bytes()
+    starts = distances.least(distances.in_order(sheet.blocks, sheet.order, sheet.turn)) if sheet.blocks else []
+    plan = timetable.plan_of(sheet, batches, jobs, sheet.order, starts).bytes()
     assert judge.judge_plan(sheet, plan)[0] == 0, "the second program turns its own plan back"
     return sheet, plan
 

@@ -35,17 +35,20 @@ static bool move_in_order(const struct flight *f, const struct pass *passes, str
     return moved;
 }
 
-/* Moves the second pass of each block behind its first, and the first to its second. Tells whether one was moved. */
+/* Moves the second pass of each block to its shortest delay behind its first, and the first to its longest delay before its second. Tells whether one was
+ * moved. */
 static bool move_in_blocks(const struct flight *f, struct starts *s) {
     bool moved = false;
     for (size_t i = 0; i < f->blocks; i++) {
-        u64 *first = &s->of[0][i], *second = &s->of[1][i], apart = f->first[i] + f->delay[i];
-        if (*second < *first + apart) {
-            *second = *first + apart;
+        u64 *first = &s->of[0][i], *second = &s->of[1][i];
+        u64 least = f->first[i] + f->shortest[i];
+        u64 most = f->first[i] + f->longest[i];
+        if (*second < *first + least) {
+            *second = *first + least;
             moved = true;
         }
-        if (*first + apart < *second) {
-            *first = *second - apart;
+        if (*first + most < *second) {
+            *first = *second - most;
             moved = true;
         }
     }

@@ -119,8 +119,13 @@ static struct verdict judge_flight(const struct flight *f, const uint8_t *plan, 
         u64 first = number_at(plan + at + 3, 4), second = number_at(plan + at + 7, 4);
         if (k >= f->blocks)
             return broken(at);
+        u64 ended = first + f->first[k];
         end = second + f->second[k];
-        if (second != first + f->first[k] + f->delay[k] || end > CEILING)
+        if (second < ended + f->shortest[k])
+            return broken(at);
+        if (second > ended + f->longest[k])
+            return broken(at);
+        if (end > CEILING)
             return broken(at);
     }
     if (p.members < f->blocks)

@@ -1,7 +1,7 @@
 /* The model's reader: every check of a field in the order in which they are due, and what the field adds. */
 #include "sheet.h"
 
-enum tag { MOSAIC_HEAD = 0x10, MOSAIC_STRIP = 0x11, SORTING_HEAD = 0x20, SORTING_STRIP = 0x21, FLIGHT_HEAD = 0x30, BLOCK = 0x31, ORDER = 0x32 };
+enum tag { MOSAIC_HEAD = 0x10, MOSAIC_STRIP = 0x11, SORTING_HEAD = 0x20, SORTING_STRIP = 0x21, FLIGHT_HEAD = 0x30, BLOCK = 0x31, ORDER = 0x32, WINDOW = 0x33 };
 
 /* The head of the section that stands open, 0 where none does, its place and its members. */
 struct reading {
@@ -51,7 +51,9 @@ static bool permitted(uint8_t tag, const struct reading *r, const struct sheet *
         return tag > r->open;
     if (tag == ORDER)
         return r->open == FLIGHT_HEAD && r->members > 0;
-    return (tag == MOSAIC_STRIP || tag == SORTING_STRIP || tag == BLOCK) && tag == r->open + 1;
+    if (tag == BLOCK || tag == WINDOW)
+        return r->open == FLIGHT_HEAD;
+    return (tag == MOSAIC_STRIP || tag == SORTING_STRIP) && tag == r->open + 1;
 }
 
 /* Of a flight head the length without a turn. */
@@ -63,6 +65,7 @@ static size_t length_due(uint8_t tag, size_t stations) {
     case SORTING_STRIP: return 5;
     case FLIGHT_HEAD: return 0;
     case BLOCK: return 6;
+    case WINDOW: return 8;
     default: return 8;
     }
 }
@@ -100,6 +103,12 @@ static u64 strip_fault(const uint8_t *c, size_t stations) {
     return first_fault(fault, time_fault(c + 2 * stations, 1, MOST_TIME), 0);
 }
 
+/* The values of a block with a window: first pass, shortest delay, longest delay, second pass. */
+static u64 window_fault(const uint8_t *c) {
+    u64 before = first_fault(time_fault(c, 1, MOST_TIME), time_fault(c + 2, 0, MOST_TIME), time_fault(c + 4, 0, MOST_TIME));
+    return first_fault(before, time_fault(c + 6, 1, MOST_TIME), 0);
+}
+
 /* 6, 15 or 16 of the first value of a field, from left to right, that is out of its range, or 0. */
 static u64 value_fault(uint8_t tag, const uint8_t *c, size_t length, const struct sheet *s) {
     switch (tag) {
@@ -109,8 +118,14 @@ static u64 value_fault(uint8_t tag, const uint8_t *c, size_t length, const struc
     case SORTING_STRIP: return first_fault(count_fault(c[0], s->sorting.desks), time_fault(c + 1, 1, MOST_TIME), time_fault(c + 3, 1, MOST_TIME));
     case FLIGHT_HEAD: return length == 0 ? 0 : time_fault(c, 0, MOST_TURN);
     case BLOCK: return first_fault(time_fault(c, 1, MOST_TIME), time_fault(c + 2, 0, MOST_TIME), time_fault(c + 4, 1, MOST_TIME));
+    case WINDOW: return window_fault(c);
     default: return 0;
     }
+}
+
+/* Whether the longest delay of a window is below the shortest. */
+static bool window_empty(uint8_t tag, const uint8_t *c) {
+    return tag == WINDOW && number_at(c + 4, 2) < number_at(c + 2, 2);
 }
 
 static bool too_many(uint8_t tag, const uint8_t *c, const struct sheet *s) {
@@ -118,6 +133,7 @@ static bool too_many(uint8_t tag, const uint8_t *c, const struct sheet *s) {
     case MOSAIC_STRIP: return s->mosaic.strips == MOST_STRIPS;
     case SORTING_STRIP: return s->sorting.counts[c[0] - 1] == MOST_OF_DESK;
     case BLOCK: return s->flight.blocks == MOST_BLOCKS;
+    case WINDOW: return s->flight.blocks == MOST_BLOCKS;
     default: return false;
     }
 }
@@ -131,7 +147,7 @@ static struct refusal check_end(const struct reading *r, const struct sheet *s) 
     return (struct refusal){0, 0};
 }
 
-/* 4, 5, then 6, 15 or 16 by its values, 7 or 9 of a field, or 0. */
+/* 4, 5, then 6, 15 or 16 by its values, 17, 7 or 9 of a field, or 0. */
 static u64 check_field(uint8_t tag, const uint8_t *c, size_t length, const struct reading *r, const struct sheet *s) {
     if (!permitted(tag, r, s))
         return SEVULAMON_TAG_NOT_PERMITTED;
@@ -140,6 +156,8 @@ static u64 check_field(uint8_t tag, const uint8_t *c, size_t length, const struc
     u64 fault = value_fault(tag, c, length, s);
     if (fault != 0)
         return fault;
+    if (window_empty(tag, c))
+        return WINDOW_EMPTY;
     if (too_many(tag, c, s))
         return SEVULAMON_TOO_MANY;
     if (tag == ORDER && !proper(s->flight.blocks, number_at(c, 8)))
@@ -162,8 +180,17 @@ static void add_job(struct sorting *s, const uint8_t *c) {
 
 static void add_block(struct flight *f, const uint8_t *c) {
     f->first[f->blocks] = number_at(c, 2);
-    f->delay[f->blocks] = number_at(c + 2, 2);
+    f->shortest[f->blocks] = number_at(c + 2, 2);
+    f->longest[f->blocks] = f->shortest[f->blocks];
     f->second[f->blocks++] = number_at(c + 4, 2);
+}
+
+static void add_window(struct flight *f, const uint8_t *c) {
+    size_t i = f->blocks++;
+    f->first[i] = number_at(c, 2);
+    f->shortest[i] = number_at(c + 2, 2);
+    f->longest[i] = number_at(c + 4, 2);
+    f->second[i] = number_at(c + 6, 2);
 }
 
 /* What a field that passed its checks adds. */
@@ -181,6 +208,7 @@ static void add_field(struct sheet *s, uint8_t tag, const uint8_t *c, size_t len
         s->flight.head_place = at;
         break;
     case BLOCK: add_block(&s->flight, c); break;
+    case WINDOW: add_window(&s->flight, c); break;
     case ORDER:
         s->flight.ordered = true;
         s->flight.order = number_at(c, 8);

@@ -8,6 +8,9 @@
 
 typedef uint64_t u64;
 
+/* The number of a window whose longest delay is below its shortest. */
+enum { WINDOW_EMPTY = 17 };
+
 enum { MOST_TIME = 60000, MOST_TURN = 600, MOST_STRIPS = 40, MOST_DESKS = 3, MOST_OF_DESK = 6, MOST_BLOCKS = 32, FREE_BLOCKS = 8, MOST_STATIONS = 4 };
 
 struct mosaic {
@@ -20,10 +23,10 @@ struct sorting {
     u64 scan[MOST_DESKS][MOST_OF_DESK], desk[MOST_DESKS][MOST_OF_DESK];
 };
 
-/* The turn is 0 where the head is empty. */
+/* The turn is 0 where the head is empty. A block with one delay has that as the shortest and as the longest. */
 struct flight {
     size_t blocks, head_place, order_place;
-    u64 turn, first[MOST_BLOCKS], delay[MOST_BLOCKS], second[MOST_BLOCKS], order;
+    u64 turn, first[MOST_BLOCKS], shortest[MOST_BLOCKS], longest[MOST_BLOCKS], second[MOST_BLOCKS], order;
     bool ordered;
 };
 
