@@ -95,12 +95,12 @@ def possible(sheet):
 
 
 def lawful_passes(blocks, starts, turn):
-    """Whether first passes take the blocks in turn, second passes too, and of any two passes the later starts at least a turn after the other ends. The delays
-    are not looked at."""
+    """Whether first passes take the blocks in turn, second passes too, each block's first before its second, and of any two passes the later starts at least a
+    turn after the other ends. The delays are not looked at."""
     firsts, seconds = zip(*starts)
-    spans = sorted([(f, f + block[0]) for f, block in zip(firsts, blocks)] + [(s, s + block[-1]) for s, block in zip(seconds, blocks)])
-    apart = all(end + turn <= start for (_, end), (start, _) in itertools.combinations(spans, 2))
-    return apart and sorted(firsts) == list(firsts) and sorted(seconds) == list(seconds)
+    spans = [(f, f + block[0]) for f, block in zip(firsts, blocks)] + [(s, s + block[-1]) for s, block in zip(seconds, blocks)]
+    clear = all(apart(one, other, turn) for one, other in itertools.combinations(spans, 2))
+    return clear and sorted(firsts) == list(firsts) and sorted(seconds) == list(seconds) and all(first < second for first, second in starts)
 
 
 def delays_of(block):
@@ -108,16 +108,22 @@ def delays_of(block):
     return range(block[1], block[-2] + 1)
 
 
-def timetables(blocks, turn, latest, placed=()):
-    """Every row of starts that goes on with these, block by block, with every delay and every first start before `latest`."""
-    if len(placed) == len(blocks):
-        yield placed
+def apart(one, other, turn):
+    """Whether of two passes, each by start and end, the later starts at least a turn after the other ends."""
+    return one[1] + turn <= other[0] or other[1] + turn <= one[0]
+
+
+def timetables(blocks, turn, latest, starts=(), spans=()):
+    """Every row of starts that goes on with these, block by block, with every delay and every first start before `latest`. `spans` are the passes so far."""
+    if len(starts) == len(blocks):
+        yield starts
         return
-    block = blocks[len(placed)]
-    for first, delay in itertools.product(range(latest), delays_of(block)):
-        starts = (*placed, (first, first + block[0] + delay))
-        if lawful_passes(blocks, starts, turn):
-            yield from timetables(blocks, turn, latest, starts)
+    block, (first_before, second_before) = blocks[len(starts)], starts[-1] if starts else (-1, -1)
+    for first, delay in itertools.product(range(first_before + 1, latest), delays_of(block)):
+        second = first + block[0] + delay
+        own = (first, first + block[0]), (second, second + block[-1])
+        if second > second_before and apart(*own, turn) and all(apart(one, other, turn) for one in own for other in spans):
+            yield from timetables(blocks, turn, latest, (*starts, (first, second)), spans + own)
 
 
 def least_by_order(blocks, turn):

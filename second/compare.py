@@ -3,7 +3,8 @@
 A planning call is compared by value: number, place, length, every byte of the plan, and every other byte of the buffer and of the bytes behind it. Which of
 several best batchings and which of several best free pass orders the plan takes is left to the program; the scanner list is not. A judging call is compared
 by its five numbers. A page call is compared by number, place, length and every byte of the buffer and behind it; of two pages of one sheet it is also asked
-whether they are equal exactly where the plans are, and of a call for a sheet with a turn of 0 whether it answers as with an empty flight head.
+whether they are equal exactly where the plans are. Of a call for a sheet with a turn of 0, or with windows of one value, it is asked whether it answers as
+with an empty flight head, or with blocks of one delay.
 """
 import functools
 import itertools
@@ -214,14 +215,15 @@ class PagesCase:
         return "\n".join(one.shown() for one in self.pages)
 
 
-class ZeroCase:
-    """One call for a sheet with an empty flight head at this place, and for the sheet with a turn of 0 written there: the answers must be the same but for
-    places in the sheet behind the head, which are two higher."""
+class SameCase:
+    """One call for two sheets that mean the same. The fields at these places of the first are two bytes longer in the other: a flight head with a turn of 0 for
+    an empty one, a window of one value for a delay. The answers must be the same but for places in the sheet, which are two higher for each such field before
+    them."""
 
     calls = 2
 
-    def __init__(self, empty, written, head):
-        self.both, self.head = (empty, written), head
+    def __init__(self, one, other, longer):
+        self.both, self.longer = (one, other), longer
 
     def request(self):
         return b"".join(one.request() for one in self.both)
@@ -230,13 +232,13 @@ class ZeroCase:
         return sum(one.answer_length() for one in self.both)
 
     def fault(self, answer):
-        empty, written = self.both
-        one, other = answer[:empty.answer_length()], answer[empty.answer_length():]
+        first, second = self.both
+        one, other = answer[:first.answer_length()], answer[first.answer_length():]
         number, place = struct.unpack_from("<2Q", one)
-        higher = 2 if place > self.head and number not in PLAN_NUMBERS else 0
+        higher = 0 if number in PLAN_NUMBERS else 2 * sum(place > longer for longer in self.longer)
         if other != struct.pack("<2Q", number, place + higher) + one[16:]:
-            return "a turn of 0 and an empty head give different answers"
-        return empty.fault(one) or written.fault(other)
+            return "two sheets that mean the same give different answers"
+        return first.fault(one) or second.fault(other)
 
     def shown(self):
         return "\n".join(one.shown() for one in self.both)

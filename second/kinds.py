@@ -7,7 +7,7 @@ the middle one or the first, and up to 3 strips of each, where every interleavin
 small ones plans with any of the best lists are judged and printed.
 
 Flights have an empty head or a turn: of those that are drawn, in every kind, three of eight an empty head, the others 0, any turn, one up to the shortest
-delay or one next to it.
+of the blocks' longest delays or one next to it. Their blocks have one delay, a window, or are of both kinds.
 """
 import itertools
 import random
@@ -26,7 +26,8 @@ import timetable
 import tiny
 import turns
 import values
-from compare import AllowedCase, BrokenCase, JudgeCase, PageCase, PagesCase, PlanCase, ROOM, ZeroCase
+import windows
+from compare import AllowedCase, BrokenCase, JudgeCase, PageCase, PagesCase, PlanCase, ROOM, SameCase
 from reader import field
 
 CHUNK = 250
@@ -143,11 +144,15 @@ def one_gap_short():
             yield from map(PlanCase, (kept, broken, sheets.flight(blocks[:8], turn=turn), sheets.flight(blocks[:8], turn=turn + 1)))
 
 
+def same_cases(sheet, other, longer, plan):
+    """A sheet planned, judged and printed, each beside one that means the same and has longer fields at these places."""
+    yield SameCase(PlanCase(sheet), PlanCase(other), longer)
+    yield from (SameCase(case(sheet, plan), case(other, plan), longer) for case in (JudgeCase, PageCase))
+
+
 def zero_cases(sheet, head, plan):
-    """A sheet with an empty flight head planned, judged and printed, each beside the sheet with a turn of 0."""
-    other = turns.written(sheet, head)
-    yield ZeroCase(PlanCase(sheet), PlanCase(other), head)
-    yield from (ZeroCase(case(sheet, plan), case(other, plan), head) for case in (JudgeCase, PageCase))
+    """A sheet with an empty flight head beside the sheet with a turn of 0."""
+    return same_cases(sheet, turns.written(sheet, head), [head], plan)
 
 
 def turns_of_zero():
@@ -168,6 +173,57 @@ def turns_fixed():
     yield "every tiny plan with a turn", every_start()
     yield "plans with one gap between passes shorter than the others", one_gap_short()
     yield "a turn of 0 beside an empty head", turns_of_zero()
+
+
+def tiny_flights_with_windows():
+    for blocks, turn in windows.every_window():
+        yield from tried_flights(blocks, [None, *brute.proper_orders(len(blocks))], turn)
+
+
+def every_start_with_windows():
+    """Judged, some printed. What each plan must get is known from its delays and its passes."""
+    for number, (turn, blocks, starts) in enumerate(windows.every_start()):
+        sheet, plan, beyond = sheets.flight(blocks, turn=turn), turns.plan_of_starts(blocks, starts), windows.beyond_window(blocks, starts)
+        lawful = beyond is None and brute.lawful_passes(blocks, starts, turn)
+        yield AllowedCase(sheet, plan) if lawful else BrokenCase(sheet, plan, 0 if beyond is None else windows.place_of_member(beyond))
+        if lawful or number % 16 == 0:
+            yield from (PageCase(sheet, plan), JudgeCase(sheet, turns.plan_of_starts(blocks, starts, 1)))
+
+
+def ends_of_windows():
+    """Judged with the order given and without, and behind a mosaic, and printed; the sheets are planned too."""
+    before, planned = tiny.ONES["m"], tiny.HEADS["m"] + tiny.MEMBERS["m"]
+    for number, turn, blocks, starts, beyond in windows.ends_judged():
+        sheet, plan = sheets.flight(blocks, number, turn), turns.plan_of_starts(blocks, starts)
+        for start, head in ((b"", b""), (before, planned)):
+            place = None if beyond is None else len(head) + windows.place_of_member(beyond)
+            yield AllowedCase(start + sheet, head + plan) if beyond is None else BrokenCase(start + sheet, head + plan, place)
+        yield from (PageCase(sheet, plan), PlanCase(sheet))
+        if len(blocks) <= 8:
+            yield from (JudgeCase(sheets.flight(blocks, None, turn), plan), PlanCase(sheets.flight(blocks, None, turn)))
+
+
+def windows_of_one_value():
+    return itertools.chain.from_iterable(itertools.starmap(same_cases, windows.one_value()))
+
+
+def windows_fixed():
+    """Name and cases of those of flights with windows, which are the same for every seed too."""
+    yield "every tiny flight with windows", tiny_flights_with_windows()
+    yield "window blocks with values in and out of their ranges", all_calls(windows.out_of_range())
+    yield "window blocks that are the 33rd, cut, of a wrong length or not permitted", map(PlanCase, windows.wrong_twice())
+    yield "windows whose ends differ in one byte or both", all_calls(windows.ends_apart())
+    yield "every mixture of both kinds of blocks about their limits", all_calls(windows.counts())
+    yield "longest delays about the turn", all_calls(itertools.chain(windows.about_longest(), windows.within_another()))
+    yield "flights with windows that are turned back, with other fields before and behind them", all_calls(windows.other_faults())
+    yield "given orders with delays within windows", map(PlanCase, itertools.chain(windows.inside(), windows.close_steps()))
+    yield "free flights that need a delay within a window", (PlanCase(sheet, least=of_choices) for sheet in windows.within_is_best())
+    yield "every row of up to four fields with windows", map(PlanCase, windows.field_rows())
+    yield "every change of one byte of a flight with windows, and every beginning", map(PlanCase, windows.changes())
+    yield "every change of one byte of a plan with windows", itertools.starmap(JudgeCase, windows.changed_plans())
+    yield "every tiny plan with windows", every_start_with_windows()
+    yield "plans with a delay at an end of its window or beyond", ends_of_windows()
+    yield "windows of one value beside blocks of one delay", windows_of_one_value()
 
 
 def fixed():
@@ -365,6 +421,42 @@ def drawn_turns_of_zero(rng, count):
             yield from zero_cases(sheet[:head + 3] + plans.damaged(rng, sheet[head + 3:]), head, plan)
 
 
+def small_flights_with_windows(rng, count):
+    """Small flights with windows, every order tried; some also judged and printed."""
+    for number in range(share(count, 4)):
+        sheet = windows.small_flight(rng)
+        yield PlanCase(sheet, least=of_choices)
+        if number % 4 == 0:
+            yield from judged(rng, sheet)
+            yield from itertools.starmap(PageCase, itertools.chain(pages.drawn(rng, sheet), pages.best(sheet)))
+            yield from itertools.starmap(PagesCase, pages.pairs(rng, sheet))
+
+
+def free_flights_with_windows(rng, count):
+    """Eight blocks; of a few every order is tried."""
+    for number in range(share(count, 20)):
+        yield PlanCase(windows.free_flight(rng), **({"least": of_choices} if number % 16 == 0 else {}))
+
+
+def large_flights_with_windows(rng, count):
+    """32 blocks in order; some also judged."""
+    for number in range(share(count, 16)):
+        sheet = windows.large_flight(rng)
+        yield PlanCase(sheet)
+        if number % 8 == 0:
+            yield from judged(rng, sheet)
+
+
+def drawn_windows_of_one_value(rng, count):
+    """Sheets with blocks of one delay beside the same with windows of one value, with a plan for both."""
+    for draw, part in ((sheets.small_sheet, 8), (sheets.large_sheet, 80)):
+        for _ in range(share(count, part)):
+            sheet = draw(rng)
+            found = windows.with_one_value(rng, sheet)
+            if found:
+                yield from same_cases(*found, plans.idle_plan(rng, reader.read(found[0])).bytes())
+
+
 DRAWN = {
     "small sheets": small_sheets, "sheets with values out of range": out_of_range, "sheets with fields of other lengths": of_other_lengths,
     "plans for small sheets": plans_for_small, "mosaics of 40 strips": mosaics,
@@ -374,6 +466,8 @@ DRAWN = {
     "plans for full sheets": plans_for_full, "pages for small sheets": pages_for_small, "pages for full sheets": pages_for_full,
     "small flights with a turn": small_flights_with_turns, "flights of 8 free blocks that are impossible": impossible_flights,
     "sheets with a turn of 0 beside an empty head": drawn_turns_of_zero,
+    "small flights with windows": small_flights_with_windows, "flights of 8 free blocks with windows": free_flights_with_windows,
+    "flights of 32 blocks in order with windows": large_flights_with_windows, "sheets with windows of one value": drawn_windows_of_one_value,
 }
 
 
@@ -393,7 +487,7 @@ def rows_of(name, cases):
 
 def chunks(count, seed):
     """All cases, a row of each kind in turn, so that every kind is met early."""
-    waiting = [rows_of(name, cases) for name, cases in itertools.chain(fixed(), turns_fixed(), drawn(count, seed))]
+    waiting = [rows_of(name, cases) for name, cases in itertools.chain(fixed(), turns_fixed(), windows_fixed(), drawn(count, seed))]
     while waiting:
         kind = waiting.pop(0)
         row = next(kind, None)

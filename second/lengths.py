@@ -3,14 +3,15 @@
 A field of another length has its content cut, or bytes behind it.
 
 Sheets that are planned, judged and printed, with a plan that is allowed for the sheet without the change:
-- every field of mosaics of one to four stations, of sortings of one to three desks and of flights with and without a turn with 0 to 16 bytes, with 256 bytes
+- every field of mosaics of one to four stations, of sortings of one to three desks and of flights with and without a turn, with 0 to 16 bytes, with 256 bytes
   more than are due, and with as many as a length due says with its two bytes exchanged; the bytes behind the content are 0, 1 or FF.
 
 Sheets that are planned:
 - every field with a length of 0 to 300 that is stated only, so that the next field is read from another place;
 - strips of one to four stations behind heads of one to four, in the place of each of three strips;
 - each of the 256 tags at every place of a sheet, with contents of every length that some field has, and of one more;
-- a 41st strip, a 7th of a desk, a 33rd block and an order that is not proper, with 0 to 12 bytes;
+- a 41st strip, a 7th of a desk, a 33rd block of either kind, a window with its longest delay below the shortest and an order that is not proper, with 0 to
+  12 bytes;
 - a head with 0 to 4 bytes behind a section without members, behind nine blocks without order, and behind an order;
 - a field that is a byte short or long and another wrong field, before or behind it: the other has any of the numbers 3 to 5 and 7 to 10.
 
@@ -85,11 +86,12 @@ def every_tag():
 
 
 def one_too_many():
-    """A member more than its section may have, and an order that is not proper."""
+    """A member more than its section may have, a window with its longest delay below the shortest, and an order that is not proper."""
     for fields, at in full_sections():
         for length in range(13):
             yield b"".join([*fields[:at], of_length(fields[at - 1], length, 1), *fields[at:]])
     for length in range(13):
+        yield field(0x30) + of_length(block(1, 2, 1, 1), length, 1)
         yield field(0x30) + block(1, 0, 1) + of_length(order(0b01), length, 0)
 
 

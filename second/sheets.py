@@ -1,6 +1,6 @@
 """Sheets: their fields, random small ones, and full sections of several families.
 
-A family is a row of functions, each of which draws a time. A family of TIES, of sortings that have many best scanner lists, draws the strips of all desks
+A family is a row of functions, each of which draws a time. A drawn flight has blocks with one delay, with a window, or both kinds. A family of TIES, of sortings that have many best scanner lists, draws the strips of all desks
 together.
 """
 import struct
@@ -149,7 +149,7 @@ TIES = {
     "long equal desk times": of_own(strips_of(span(1, 2), span(20, 20))),
 }
 
-# First pass, delay, second pass.
+# First pass, delay, second pass. A window is made about the delay.
 FLIGHTS = {
     "equal times": (span(5, 5), span(20, 20), span(5, 5)),
     "small times": (span(1, 4), span(0, 9), span(1, 4)),
@@ -191,14 +191,22 @@ def tied_sorting(rng, family, counts):
     return sorting_head(len(counts)) + b"".join(job(desk, *next(queues[desk - 1])) for desk in mixed_desks(rng, counts))
 
 
+def with_window(rng, first, delay, second):
+    """The block with a window about its delay: of one value, of some more, or as wide as it can be."""
+    below, above = [rng.choice((0, 0, 1, rng.randint(0, 9), rng.randint(0, MOST_TIME))) for _ in range(2)]
+    return first, max(0, delay - below), min(MOST_TIME, delay + above), second
+
+
 def blocks_of(rng, family, n):
-    first, delay, second = FLIGHTS[family]
-    return [(first(rng), delay(rng), second(rng)) for _ in range(n)]
+    """Blocks with one delay, with a window, or of both kinds."""
+    (first, delay, second), chance = FLIGHTS[family], rng.choice((0, 0.5, 1))
+    blocks = [(first(rng), delay(rng), second(rng)) for _ in range(n)]
+    return [with_window(rng, *block) if rng.random() < chance else block for block in blocks]
 
 
 def turn_for(rng, blocks):
-    """None for an empty head, 0, any turn, one up to the shortest delay, or one next to it."""
-    shortest = min(MOST_TURN, *(delay for _, delay, _ in blocks))
+    """None for an empty head, 0, any turn, one up to the shortest of the blocks' longest delays, or one next to it."""
+    shortest = min(MOST_TURN, *map(distances.longest, blocks))
     near = min(MOST_TURN, max(0, shortest + rng.choice((-1, 0, 1))))
     return rng.choice((None, None, None, 0, rng.randint(0, MOST_TURN), rng.randint(0, shortest), rng.randint(0, shortest), near))
 
@@ -209,10 +217,12 @@ def free_flight(rng, family, n):
 
 
 def with_other_delay(rng, blocks):
-    """One delay is one shorter or longer."""
+    """One delay, or one end of a window, is one shorter or longer."""
     i = rng.randrange(len(blocks))
-    first, delay, second = blocks[i]
-    return blocks[:i] + [(first, min(MOST_TIME, max(0, delay + rng.choice((-1, 1)))), second)] + blocks[i + 1:]
+    first, *delays, second = blocks[i]
+    at = rng.randrange(len(delays))
+    delays[at] = min(MOST_TIME, max(0, delays[at] + rng.choice((-1, 1))))
+    return blocks[:i] + [(first, *sorted(delays), second)] + blocks[i + 1:]
 
 
 def ordered_flight(rng, family, n):

@@ -240,10 +240,15 @@ def small_flight(rng):
     return flight(blocks, rng.choice((None, None, number, number, plans.random_order(rng, len(blocks)))), turn)
 
 
+def with_longest(block, longest):
+    """The block with this longest delay, and with no shortest delay above it."""
+    return (block[0], *(min(delay, longest) for delay in block[1:-2]), longest, block[-1])
+
+
 def impossible_flight(rng):
-    """Eight blocks without order, some of which have a delay shorter than the turn."""
+    """Eight blocks without order, some of which have no delay as long as the turn."""
     turn, short = rng.choice((1, rng.randint(1, MOST_TURN), MOST_TURN)), rng.sample(range(8), rng.choice((1, 1, 2, 8)))
-    blocks = [(first, max(turn, delay), second) for first, delay, second in drawn_blocks(rng, 8)]
+    blocks = [with_longest(block, max(turn, distances.longest(block))) for block in drawn_blocks(rng, 8)]
     for i in short:
-        blocks[i] = (blocks[i][0], rng.choice((turn - 1, rng.randrange(turn))), blocks[i][2])
+        blocks[i] = with_longest(blocks[i], rng.choice((turn - 1, rng.randrange(turn))))
     return flight(blocks, turn=turn)

@@ -6,15 +6,16 @@ Sheets that are planned, judged and printed:
 - every field with values, of mosaics of one to four stations and of sortings of one to three desks: values as they were, 0, 1, the upper end, one more or
   the greatest number of their bytes, in every row of up to three values, and any two of more; and every row of values that are as they were or next to their
   range;
-- a 41st strip, a 7th of a desk and a 33rd block, with and without a turn, with every row of values that are right or next to their range.
+- a 41st strip, a 7th of a desk and a 33rd block, of either kind behind either and with and without a turn, with every row of values that are right or next to
+  their range.
 
-Sheets with one value out of its range, one for each field and number:
+Sheets with one value out of its range, one for each field and number, and with a window whose longest delay is below the shortest:
 - planned and printed into buffers one byte too small, and judged and printed with an empty plan and one that is cut short.
 
 Sheets that are planned:
 - fields with every row of values that are right or next to their range, when the field is cut short, has a byte less or more or a tag that is not permitted;
-- a field with one value out of its range put in at every place of a sheet;
-- a field with one value out of its range and another wrong field, before or behind it: the other has any of the numbers 3 to 10, 15 and 16.
+- such a field put in at every place of a sheet;
+- such a field and another wrong field, before or behind it: the other has any of the numbers 3 to 10 and 15 to 17.
 
 Drawn: a sheet with any values of one or two fields out of their ranges.
 """
@@ -41,7 +42,7 @@ def ranges_of(one, sheet):
         return [from_0] * sheet.stations + [from_1]
     if tag == 0x21:
         return [("B", 1, sheet.desks), from_1, from_1]
-    return {0x10: [("B", 1, 4), from_0], 0x20: [("B", 1, 3)], 0x31: [from_1, from_0, from_1]}.get(tag, [])
+    return {0x10: [("B", 1, 4), from_0], 0x20: [("B", 1, 3)], 0x31: [from_1, from_0, from_1], 0x33: [from_1, from_0, from_0, from_1]}.get(tag, [])
 
 
 def form_of(ranges):
@@ -84,14 +85,14 @@ def with_rows(one, sheet, *rows_of):
 
 
 def fields_of(stations, desks, turn=1):
-    """The fields of a sound sheet with all three sections."""
+    """The fields of a sound sheet with all three sections and both kinds of blocks."""
     strips = [strip([2, 1, 4, 3][:stations] + [bench]) for bench in (1, 3)]
-    jobs, blocks = [job(1, 2, 5), job(desks, 1, 1)], [block(1, 4, 1), block(2, 3, 1)]
+    jobs, blocks = [job(1, 2, 5), job(desks, 1, 1)], [block(1, 4, 1), block(2, 2, 4, 1)]
     return [mosaic_head(stations, 1), *strips, sorting_head(desks), *jobs, flight_head(turn), *blocks, order(0b1100)]
 
 
 # The last field of each tag that has values, by its index in fields_of.
-LAST = {0x10: 0, 0x11: 2, 0x20: 3, 0x21: 5, 0x30: 6, 0x31: 8}
+LAST = {0x10: 0, 0x11: 2, 0x20: 3, 0x21: 5, 0x30: 6, 0x31: 7, 0x33: 8}
 
 
 def replaced(fields, at, one):
@@ -114,7 +115,7 @@ def places():
     """The fields of a sheet and the index of one with values."""
     yield from ((fields_of(stations, 2), LAST[tag]) for stations in (1, 2, 3, 4) for tag in (0x10, 0x11))
     yield from ((fields_of(2, desks), LAST[tag]) for desks in (1, 2, 3) for tag in (0x20, 0x21))
-    yield from ((fields_of(2, 2), LAST[tag]) for tag in (0x30, 0x31))
+    yield from ((fields_of(2, 2), LAST[tag]) for tag in (0x30, 0x31, 0x33))
 
 
 def ends():
@@ -127,8 +128,10 @@ def ends():
 
 def full_sections():
     """The fields of a sheet with one full section, and the index at which one member more is put in."""
+    one, window, number = block(1, 1, 1), block(1, 1, 2, 1), order(int("10" * 32, 2))
     for turn in (None, 1):
-        yield [flight_head(turn)] + [block(1, 1, 1)] * 32 + [order(int("10" * 32, 2))], 33
+        yield from (([flight_head(turn), *blocks, number], 33) for blocks in ([one] * 32, [window] * 32))
+    yield from (([flight_head(), *blocks, number], 33) for blocks in ([window] * 31 + [one], [one] * 31 + [window]))
     for desks in (1, 2, 3):
         yield [sorting_head(desks)] + [job(desk, 1, 1) for desk in range(1, desks + 1)] * 6, 6 * desks + 1
     for stations in (1, 2, 3, 4):
@@ -155,14 +158,15 @@ def wrong_twice():
                 yield replaced(fields, at, other)
 
 
-# Fields of fields_of(2, 2) with one value out of its range, one for each number.
+# Fields of fields_of(2, 2) with one value out of its range, one for each number, and the window with its longest delay below the shortest.
 OUT_OF_RANGE = {
     0x10: [mosaic_head(5, 1), mosaic_head(2, OVER)],
     0x11: [strip([2, OVER, 1]), strip([2, 1, 0])],
     0x20: [sorting_head(4)],
     0x21: [job(3, 1, 1), job(2, OVER, 1), job(2, 1, 0)],
     0x30: [flight_head(MOST_TURN + 1)],
-    0x31: [block(2, OVER, 1), block(2, 3, 0)],
+    0x31: [block(1, OVER, 1), block(1, 4, 0)],
+    0x33: [block(2, 2, OVER, 1), block(2, 2, 4, 0), block(2, 4, 3, 1)],
 }
 
 
@@ -189,7 +193,7 @@ def wrong_otherwise(one):
         yield one + one
     if tag in MEMBER_OF:
         yield one * 41
-    if tag == 0x31:
+    if tag in (0x31, 0x33):
         yield one * 9 + field(0x30)
     if tag == 0x32:
         yield order(0b0011)
@@ -205,7 +209,7 @@ def two_wrong(wrong_of):
 
 
 def values_out(one):
-    """This field of fields_of(2, 2) with a value out of its range."""
+    """This field of fields_of(2, 2) as OUT_OF_RANGE has it."""
     return OUT_OF_RANGE.get(one[0], [])
 
 

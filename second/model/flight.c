@@ -41,8 +41,7 @@ static bool move_in_blocks(const struct flight *f, struct starts *s) {
     bool moved = false;
     for (size_t i = 0; i < f->blocks; i++) {
         u64 *first = &s->of[0][i], *second = &s->of[1][i];
-        u64 least = f->first[i] + f->shortest[i];
-        u64 most = f->first[i] + f->longest[i];
+        u64 least = f->first[i] + f->shortest[i], most = f->first[i] + f->longest[i];
         if (*second < *first + least) {
             *second = *first + least;
             moved = true;

@@ -121,9 +121,7 @@ static struct verdict judge_flight(const struct flight *f, const uint8_t *plan, 
             return broken(at);
         u64 ended = first + f->first[k];
         end = second + f->second[k];
-        if (second < ended + f->shortest[k])
-            return broken(at);
-        if (second > ended + f->longest[k])
+        if (second < ended + f->shortest[k] || second > ended + f->longest[k])
             return broken(at);
         if (end > CEILING)
             return broken(at);
