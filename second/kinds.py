@@ -217,7 +217,7 @@ def windows_fixed():
     yield "longest delays about the turn", all_calls(itertools.chain(windows.about_longest(), windows.within_another()))
     yield "flights with windows that are turned back, with other fields before and behind them", all_calls(windows.other_faults())
     yield "given orders with delays within windows", map(PlanCase, itertools.chain(windows.inside(), windows.close_steps()))
-    yield "free flights that need a delay within a window", (PlanCase(sheet, least=of_choices) for sheet in windows.within_is_best())
+    yield "free flights whose best order or delays depend on windows", (PlanCase(sheet, least=of_choices) for sheet in windows.free_by_windows())
     yield "every row of up to four fields with windows", map(PlanCase, windows.field_rows())
     yield "every change of one byte of a flight with windows, and every beginning", map(PlanCase, windows.changes())
     yield "every change of one byte of a plan with windows", itertools.starmap(JudgeCase, windows.changed_plans())

@@ -1,11 +1,12 @@
 """The longest sections: full ones in which every time is the greatest, the same with one time one less, and their plans up to the ceiling.
-The same for every seed.
+The same for every seed. A wide window is one of 0 to the greatest delay.
 
 Sheets that are planned:
 - mosaics of 40 strips, of one to four stations; sortings of 6, 6 + 6 and 6 + 6 + 6 strips, desk after desk and in turn; flights of 1 to 8 free blocks;
 - flights of 32 blocks: block after block, in pairs, both mixed, in orders that are impossible, and with the longest delays, all first passes first, these
   as long as the delays let them be and one second longer;
 - the same flights with the longest turn, in pairs with passes as long as delay and turns let them be and one second longer;
+- the flights of 1 to 8 and of 32 blocks with wide windows, with every other block of one delay, and with windows whose longest delay is one too short;
 - each of them with one time one less, at every place in turn; of the flights of 32 blocks those in two of the orders;
 - all three sections together, with several of these flights and with one time one less in each section.
 
@@ -79,6 +80,30 @@ def long_delays(members, time):
     return [[time, MOST_TIME, time] for _ in range(members)]
 
 
+def wide_windows(members, time):
+    """The same with wide windows."""
+    return [[time, 0, MOST_TIME, time] for _ in range(members)]
+
+
+def both_kinds(members, time):
+    """The same with every other block of one delay."""
+    return [row for pair in zip(wide_windows(members, time), long_delays(members, time)) for row in pair][:members]
+
+
+def flights_with_windows():
+    """Free ones, and those with one time one less; those of 32 blocks in every order, and with one longest delay one less."""
+    for n, turn, blocks_of in itertools.product(range(1, 9), (None, MOST_TURN), (wide_windows, both_kinds)):
+        yield sheets.flight(blocks_of(n, MOST_TIME), turn=turn)
+        yield from (sheets.flight(less, turn=turn) for less in one_less([[MOST_TIME, 1, MOST_TIME, MOST_TIME]] * n))
+    for (turn, fits), blocks_of in itertools.product(((None, MOST_TIME), (MOST_TURN, BESIDE_TURNS)), (wide_windows, both_kinds)):
+        yield from (sheets.flight(blocks_of(32, fits), order, turn) for order in POSSIBLE + IMPOSSIBLE)
+        for i, order in itertools.product(range(0, 32, 5), (IN_TURN, IN_PAIRS)):
+            blocks = blocks_of(32, fits)
+            blocks[i][-2] -= 1
+            yield sheets.flight(blocks, order, turn)
+    yield from (sheets.flight(wide_windows(32, BESIDE_TURNS + 1), order, MOST_TURN) for order in POSSIBLE)
+
+
 def free_flights():
     for n, turn in itertools.product(range(1, 9), (None, MOST_TURN)):
         yield sheets.flight(longest(n, 3), turn=turn)
@@ -88,9 +113,9 @@ def free_flights():
 
 
 def firsts_first(turn):
-    """The delay of block 1 takes in the first passes of the 31 others with 32 turns, or not quite."""
+    """The longest delay of block 1 takes in the first passes of the 31 others with 32 turns, or not quite."""
     fits = (MOST_TIME - 32 * (turn or 0)) // 31
-    return [sheets.flight(long_delays(32, time), FIRSTS_FIRST, turn) for time in (fits, fits + 1)]
+    return [sheets.flight(blocks_of(32, time), FIRSTS_FIRST, turn) for blocks_of in (long_delays, wide_windows) for time in (fits, fits + 1)]
 
 
 def ordered_flights():
@@ -116,6 +141,7 @@ def all_three():
     before = mosaic(strips) + sorting(desks, jobs)
     yield before + sheets.flight(blocks[:8])
     yield before + sheets.flight(blocks[:8], turn=MOST_TURN)
+    yield from (before + sheets.flight(both_kinds(32, MOST_TIME), order) for order in POSSIBLE)
     yield from (before + sheets.flight(blocks, order) for order in POSSIBLE)
     yield from (before + sheets.flight(long_delays(32, BESIDE_TURNS), order, MOST_TURN) for order in POSSIBLE)
     yield from (before + flight for flight in firsts_first(None) + firsts_first(MOST_TURN))
@@ -125,7 +151,7 @@ def all_three():
 
 
 def planned():
-    for section in (mosaics, sortings, free_flights, ordered_flights, all_three):
+    for section in (mosaics, sortings, free_flights, ordered_flights, flights_with_windows, all_three):
         yield from section()
 
 
@@ -159,8 +185,9 @@ def sorting_plans():
 
 def flight_plans():
     orders, turns = [(8, int("10" * 8, 2)), (8, int("1100" * 4, 2)), *((32, order) for order in POSSIBLE)], ((None, MOST_TIME), (MOST_TURN, BESIDE_TURNS))
-    for (n, order), (turn, fits) in itertools.product(orders, turns):
-        blocks = long_delays(n, fits)
+    kinds = [(long_delays, *one) for one in itertools.product(orders, turns)] + [(both_kinds, *one) for one in itertools.product(orders[1:4], turns)]
+    for blocks_of, (n, order), (turn, fits) in kinds:
+        blocks = blocks_of(n, fits)
         far = distances.in_order(blocks, order, turn or 0)
         for given in (order, None) if n == 8 else (order,):
             sheet = sheets.flight(blocks, given, turn)

@@ -41,7 +41,7 @@ def spans_of(blocks, firsts):
 
 
 def first_fit(blocks, firsts, start, turn):
-    """The earliest time from `start` on at which the next block, with its shortest delay, follows the blocks placed and is a turn away from all their passes."""
+    """The earliest time from `start` on at which the next block, with its shortest delay, follows the blocks placed and is a turn away from their passes."""
     block, spans, moved = blocks[len(firsts)], [(begin - turn, end + turn) for begin, end in spans_of(blocks, firsts)], True
     gap = block[0] + distances.shortest(block)
     if spans:
@@ -223,6 +223,16 @@ def other_flight(rng, sheet, plan):
         head[:] = [distances.end(sheet.blocks, members), distances.order_of(members)]
 
 
+def delay_at_an_end(rng, sheet, plan):
+    """The delay of one block is an end of its window, or one beyond it; the figure is that of the members then."""
+    tag, head, members = plan.sections[-1]
+    if tag == 0xB0:
+        i = rng.randrange(len(members))
+        block = sheet.blocks[i]
+        members[i][1] = members[i][0] + block[0] + rng.choice((distances.shortest(block) - rng.choice((0, 1)), distances.longest(block) + rng.choice((0, 1))))
+        head[0] = figure_of(sheet, tag, members)
+
+
 def turn_too_short(rng, sheet, plan):
     """The flight as early as its order allows with a turn one second shorter, or with none; the figure is that of the members then."""
     tag, head, members = plan.sections[-1]
@@ -250,7 +260,7 @@ def section_displaced(rng, sheet, plan):
 
 FAULTS = (
     one_off, member_moved, tail_moved, exchanged, times_exchanged, one_more, one_less, last_missing, renumbered, untrue, other_number, other_flight,
-    turn_too_short, near_the_top, section_displaced,
+    turn_too_short, delay_at_an_end, near_the_top, section_displaced,
 )
 
 

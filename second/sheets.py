@@ -1,7 +1,7 @@
 """Sheets: their fields, random small ones, and full sections of several families.
 
-A family is a row of functions, each of which draws a time. A drawn flight has blocks with one delay, with a window, or both kinds. A family of TIES, of sortings that have many best scanner lists, draws the strips of all desks
-together.
+A family is a row of functions, each of which draws a time. A family of TIES, of sortings that have many best scanner lists, draws the strips of all desks
+together. Flights that are drawn have blocks with one delay, with a window, or of both kinds.
 """
 import struct
 

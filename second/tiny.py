@@ -137,7 +137,8 @@ SMALL = mosaic_head(2, 1) + strip([2, 1, 1]) + strip([0, 3, 3]) + sorting_head(2
 
 def small_plan():
     sheet = reader.read(SMALL)
-    return timetable.plan_of(sheet, timetable.batches_of(sheet, [1, 2]), timetable.jobs_of(sheet, [2, 1]), 0xC, timetable.passes_of(sheet.blocks, [0, 1])).bytes()
+    starts = timetable.passes_of(sheet.blocks, [0, 1])
+    return timetable.plan_of(sheet, timetable.batches_of(sheet, [1, 2]), timetable.jobs_of(sheet, [2, 1]), 0xC, starts).bytes()
 
 
 def changes(data):

@@ -16,7 +16,8 @@ Sheets that are planned, judged and printed:
 
 Sheets that are planned:
 - given orders whose earliest starts take delays within a window: the worked one, pairs and steps of 2 to 32 blocks, with turns and behind other sections;
-- flights without order whose least figure needs a delay within a window, with every turn that leaves them possible, and one more;
+- flights without order whose least figure needs a delay within a window, or whose best order is another because of the longest delays, with every turn that
+  leaves them possible, and one more;
 - every row of none to four fields of a list with blocks of both kinds, right and wrong, heads and orders;
 - every change of one byte of a flight with a window, with an order and without, and every beginning of it.
 
@@ -146,8 +147,8 @@ def within_another():
 
 # Behind a flight that is impossible, or behind a window that is turned back.
 BEHIND = [
-    b"", block(1, 2, 1), block(1, 0, 2, 1), block(1, 2, 1, 1), block(1, 0, 0, 0), block(1, OVER, 0, 1), order(0b10), order(0b1010), order(0b0011), flight_head(),
-    flight_head(601), mosaic_head(1, 0), sorting_head(1), field(0x33), field(0x33, bytes(6)), field(0x99), block(1, 0, 2, 1)[:-1], b"\x33",
+    b"", block(1, 2, 1), block(1, 0, 2, 1), block(1, 2, 1, 1), block(1, 0, 0, 0), block(1, OVER, 0, 1), order(0b10), order(0b1010), order(0b0011),
+    flight_head(), flight_head(601), mosaic_head(1, 0), sorting_head(1), field(0x33), field(0x33, bytes(6)), field(0x99), block(1, 0, 2, 1)[:-1], b"\x33",
 ]
 
 
@@ -204,16 +205,27 @@ WITHIN_IS_BEST = [
 ]
 
 
-def within_is_best():
+# The same. Of all orders, those that would end first if windows had no longest delay are possible and end later than another.
+HELD_BY_LONGEST = [
+    (0, [(4, 5, 8, 1), (1, 12, 14, 1), (2, 4, 6, 2), (2, 8, 9, 1)]),
+    (0, [(5, 5, 8, 5), (2, 8, 3), (1, 2, 7, 1), (3, 12, 2)]),
+    (0, [(3, 9, 10, 5), (4, 9, 10, 5), (4, 7, 8, 3), (3, 10, 15, 1)]),
+    (0, [(4, 13, 14, 6), (4, 10, 6), (3, 8, 9, 3), (3, 13, 6)]),
+    (0, [(3, 7, 10, 2), (5, 10, 3), (1, 3, 8, 1), (1, 11, 16, 2)]),
+    (1, [(4, 12, 17, 5), (1, 9, 10, 3), (1, 3, 8, 4), (2, 12, 6)]),
+]
+
+
+def free_by_windows():
     """These flights with every turn from 0 on that leaves them possible, and one more; with their own turn behind other sections too."""
-    for own, blocks in WITHIN_IS_BEST:
+    for own, blocks in WITHIN_IS_BEST + HELD_BY_LONGEST:
         yield from (flight(blocks, turn=turn) for turn in range(min(map(distances.longest, blocks)) + 2))
         yield from (before + flight(blocks, turn=own) for before, _ in SECTIONS)
 
 
 FIELDS = [
-    mosaic_head(1, 0), strip([0, 1]), flight_head(), flight_head(1), block(1, 1, 1), block(1, 0, 2, 1), block(1, 2, 1, 1), block(1, 0, 0, 0), field(0x33, bytes(6)),
-    order(0b10), order(0b1010),
+    mosaic_head(1, 0), strip([0, 1]), flight_head(), flight_head(1), block(1, 1, 1), block(1, 0, 2, 1), block(1, 2, 1, 1), block(1, 0, 0, 0),
+    field(0x33, bytes(6)), order(0b10), order(0b1010),
 ]
 
 
@@ -290,7 +302,7 @@ def as_window(one):
 
 
 def beside(before, blocks, turn, behind, which):
-    """A sheet, the same with windows of one value for the blocks at these indices, and the places of these blocks in the first. `blocks` have one delay each."""
+    """A sheet, the same with windows of one value for the blocks at these indices, and the places of these blocks in the first. Each block has one delay."""
     head = before + flight_head(turn)
     others = [as_window(one) if i in which else one for i, one in enumerate(blocks)]
     return head + b"".join(block(*one) for one in blocks) + behind, head + b"".join(block(*one) for one in others) + behind, [len(head) + 9 * i for i in which]
