@@ -2,19 +2,19 @@
 
 Sheets whose least figures and least starts are found by trying every delay, every order and idle time:
 - one block: passes of 1 or 2, every window of 0 to 4, with turns of 0 to 4;
-- two blocks: passes of 1 and one of 2, every window of 0 to 3, one of 5 and one up to 5, with turns of 0 and 1; and some windows with a turn of 2;
+- two blocks: passes of 1, with a turn also of 2, every window of 0 to 3, one of 5 and one of 2 to 5, with turns of 0 and 1; and some with a turn of 2;
 - three blocks: passes of 1, windows and delays of a list, with turns of 0 and 1; all without order and with every proper order.
 
 Sheets that are planned, judged and printed:
-- blocks with every row of values of a list, in and out of their ranges, the longest delay below, at and above the shortest: alone, behind a block, and as the
-  33rd block; the same cut short, of a wrong length, and not permitted;
-- windows whose two ends differ in one byte, or in both and in other ways;
-- 7 to 9 and 31 to 34 blocks, with windows and without, in several mixtures, the last one good, 16 or 17, with and without an order and a head behind them;
-- flights that are impossible because of one window, at each place in turn: its longest delay is one below, at and one above the turn, with an order and
+- blocks with every row of values of a list, in and out of their ranges, the longest delay below, at and above the shortest, alone and behind a block;
+- windows whose two ends are the same or differ in one byte or in both;
+- 1, 2, 7 to 9 and 31 to 34 blocks of both kinds in several mixtures, the last one good, 16 or 17, with and without an order and a head behind them;
+- flights that are possible or not because of one window, at each place in turn: its longest delay is one below, at and one above the turn, with an order and
   without; and two blocks, one within the other, with a longest delay one below, at and one above what that takes;
-- the same and windows of number 17 before and behind other sections and wrong fields.
+- flights that are impossible because of a window, and windows of number 17, behind other sections and with other fields behind them.
 
 Sheets that are planned:
+- the blocks with every row of values that are the 33rd block, cut short, of a wrong length or not permitted;
 - given orders whose earliest starts take delays within a window: the worked one, pairs and steps of 2 to 32 blocks, with turns and behind other sections;
 - flights without order whose least figure needs a delay within a window, or whose best order is another because of the longest delays, with every turn that
   leaves them possible, and one more;
@@ -22,9 +22,9 @@ Sheets that are planned:
 - every change of one byte of a flight with a window, with an order and without, and every beginning of it.
 
 Plans that are judged and printed:
-- every row of small starts of one and two blocks with windows, with turns of 0 and 1, with the order and figure of these passes;
-- plans of 1 to 3, 8 and 32 blocks in several orders, with idle time, in which one delay, at each block in turn, is an end of its window, within it, or one
-  second beyond an end;
+- every row of small starts of one and two blocks with windows, with turns of 0 and 1, with the order and figure of these passes, some with an untrue figure;
+- plans of 1 to 3, 8 and 32 blocks in several orders, with idle time, in which one delay, at each block in turn, of 32 at five of them, is an end of its window,
+  within it, or one second beyond an end;
 - every change of one byte of a plan of a flight with windows.
 
 Windows of one value beside blocks of one delay: both sheets planned, judged and printed. The answers must be the same but for places.
@@ -145,7 +145,7 @@ def within_another():
             yield flight(blocks, number, turn), earliest_plan(blocks, kept, turn)
 
 
-# Behind a flight that is impossible, or behind a window that is turned back.
+# Behind a flight that is impossible, or behind a window of number 17. Some of it makes the flight whole, some has a number of its own.
 BEHIND = [
     b"", block(1, 2, 1), block(1, 0, 2, 1), block(1, 2, 1, 1), block(1, 0, 0, 0), block(1, OVER, 0, 1), order(0b10), order(0b1010), order(0b0011),
     flight_head(), flight_head(601), mosaic_head(1, 0), sorting_head(1), field(0x33), field(0x33, bytes(6)), field(0x99), block(1, 0, 2, 1)[:-1], b"\x33",
@@ -153,7 +153,7 @@ BEHIND = [
 
 
 def other_faults():
-    """A sheet and a plan: a window of number 17, or a flight that is impossible because of a window, with other fields before and behind it."""
+    """A sheet and a plan: a window of number 17, or a flight that is impossible because of a window, with other sections before it and fields behind it."""
     flights = [([(1, 2, 1, 1)], None), ([(1, 0, 1), (1, 2, 1, 1)], None), ([(1, 0, 1, 1)], 2), ([(1, 5, 1), (1, 0, 1, 1)], 2)]
     plan = earliest_plan([(1, 2, 1)], 0b10, 0)
     for (before, planned), (blocks, turn), behind in itertools.product(SECTIONS, flights, BEHIND):
@@ -255,9 +255,8 @@ def every_start():
         yield turn, [(2, *window, 1)], [[first, second]]
     kinds = [(1, 0, 2, 1), (1, 1, 3, 1), (1, 2, 1), (1, 3, 5, 1)]
     for one, other, turn in itertools.product(kinds, kinds, (0, 1)):
-        for firsts, delays in itertools.product(itertools.product(range(4), range(6)), itertools.product(range(-1, 5), range(7))):
-            if sum(firsts) % 2 == turn or firsts[0] == 0:
-                yield turn, [one, other], [[first, max(0, first + 1 + delay)] for first, delay in zip(firsts, delays)]
+        for firsts, delays in itertools.product(itertools.product(range(3), range(5)), itertools.product(range(-1, 5), range(7))):
+            yield turn, [one, other], [[first, first + 1 + delay] for first, delay in zip(firsts, delays)]
 
 
 def beyond_window(blocks, starts):
@@ -354,21 +353,37 @@ def small_flight(rng):
 
 
 def narrowed(rng, blocks, starts):
-    """The blocks with each window cut so that it still has the delay of these starts, on one side or on both, or by one second too many at one of them."""
+    """The blocks, all with windows, each cut on one side, on both or on none, so that it still has the delay of these starts."""
     out = []
     for one, (first, second) in zip(blocks, starts):
         delay = second - first - one[0]
-        ends = rng.choice(((one[1], one[-2]), (delay, one[-2]), (one[1], delay), (delay, delay)))
+        ends = rng.choice(((one[1], one[-2]), (one[1], one[-2]), (delay, one[-2]), (one[1], delay), (delay, delay)))
         out.append((one[0], *ends, one[-1]))
-    return sheets.with_other_delay(rng, out) if rng.random() < 0.3 else out
+    return out
+
+
+def at_the_edge(rng, blocks, number, turn):
+    """The blocks with one longest delay as short as the order lets it be, or a second shorter; or with one shortest delay as long, or a second longer. Where
+    there is such a block, one whose whole window the order does not allow."""
+    far = distances.in_order(blocks, number, turn)
+    ends = [(far[2 * i][2 * i + 1] - one[0], -far[2 * i + 1][2 * i] - one[0]) for i, one in enumerate(blocks)]
+    held = [i for i, one in enumerate(blocks) if ends[i] != one[1:-1]]
+    i = rng.choice(held or range(len(blocks)))
+    first, shortest, longest, second = blocks[i]
+    if ends[i][0] > shortest and rng.random() < 0.7:
+        longest = max(shortest, ends[i][0] - rng.choice((0, 1)))
+    else:
+        shortest = min(longest, ends[i][1] + rng.choice((0, 1)))
+    return [*blocks[:i], (first, shortest, longest, second), *blocks[i + 1:]]
 
 
 def large_flight(rng):
-    """32 blocks in the order of some timetable, with windows that it just keeps, or all but one."""
+    """32 blocks in the order of some timetable, with windows that it keeps; or with one window at the edge of what the order lets it be, or beyond."""
     blocks = drawn_windows(rng, 32)
     turn = min(MOST_TURN, min(map(distances.longest, blocks)), rng.choice((0, 0, 1, 600)))
     starts = plans.random_starts(rng, blocks, turn)
-    return flight(narrowed(rng, blocks, starts), distances.order_of(starts), turn)
+    blocks, number = narrowed(rng, blocks, starts), distances.order_of(starts)
+    return flight(at_the_edge(rng, blocks, number, turn) if rng.random() < 0.7 else blocks, number, turn)
 
 
 def free_flight(rng):
