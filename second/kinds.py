@@ -227,8 +227,12 @@ def windows_fixed():
 
 
 def fixed():
-    """Name and cases of the kinds that are the same for every seed."""
+    """Name and cases of the kinds that are the same for every seed. Those that find most wrong programs come first, so that wrong.py ends sooner."""
     yield "pages that are the same for every seed", itertools.starmap(PageCase, pages.fixed())
+    yield "every field with values at their ends and beyond", all_calls(values.ends())
+    yield "a member too many with values out of range", all_calls(values.one_too_many())
+    yield "values out of range with too small a buffer or a wrong plan", out_of_range_and_more()
+    yield "every number of members", map(PlanCase, tiny.counts())
     yield "every tiny mosaic", (PlanCase(sheet, least=of_timetables) for sheet in tiny.mosaics())
     yield "every tiny sorting", (PlanCase(sheet, least=of_timetables) for sheet in tiny.sortings())
     yield "every tiny flight", tiny_flights()
@@ -236,14 +240,10 @@ def fixed():
     yield "every number of strips with equal times", map(PlanCase, tiny.equal_strips())
     yield "every row of up to four fields", map(PlanCase, tiny.field_rows())
     yield "every row of up to five bytes", map(PlanCase, tiny.byte_rows())
-    yield "every number of members", map(PlanCase, tiny.counts())
     yield "every change of one byte of a sheet", map(PlanCase, tiny.changes(tiny.SMALL))
     yield "every beginning of a sheet", map(PlanCase, tiny.beginnings(tiny.SMALL))
     yield "every place with numbers about the bounds of times", map(PlanCase, tiny.bounds())
-    yield "every field with values at their ends and beyond", all_calls(values.ends())
-    yield "a member too many with values out of range", all_calls(values.one_too_many())
     yield "fields with values out of range that are also cut, of a wrong length or not permitted", map(PlanCase, values.wrong_twice())
-    yield "values out of range with too small a buffer or a wrong plan", out_of_range_and_more()
     yield "a field with a value out of range at every place", map(PlanCase, values.put_in())
     yield "a field with a value out of range and another wrong field", map(PlanCase, values.two_wrong(values.values_out))
     yield "every field with every other length", all_calls(lengths.other_length())

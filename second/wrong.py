@@ -16,7 +16,7 @@ import kinds
 from second import COUNT, SEED
 
 HERE = pathlib.Path(__file__).resolve().parent
-GCC = ["gcc", "-O2", "-I" + str(HERE.parent / "include"), "-I" + str(HERE / "model")]
+GCC = ["gcc", "-O1", "-I" + str(HERE.parent / "include"), "-I" + str(HERE / "model")]
 STRICT = ["-Wall", "-Wextra", "-Werror"]
 
 
