@@ -227,7 +227,7 @@ def windows_fixed():
 
 
 def fixed():
-    """Name and cases of the kinds that are the same for every seed. Those that find most wrong programs come first, so that wrong.py ends sooner."""
+    """Name and cases of the kinds that are the same for every seed. Some that find many wrong programs come first, so that wrong.py ends sooner."""
     yield "pages that are the same for every seed", itertools.starmap(PageCase, pages.fixed())
     yield "every field with values at their ends and beyond", all_calls(values.ends())
     yield "a member too many with values out of range", all_calls(values.one_too_many())

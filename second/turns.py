@@ -169,7 +169,7 @@ def changed_plans():
 
 
 def plan_of_starts(blocks, starts, more=0):
-    """The same, with the number of the order in which the passes start."""
+    """The plan of a flight alone with these starts and the number of the order in which they come, and a figure that is so much more than the true one."""
     return flight_plan(blocks, starts, distances.order_of(starts), more)
 
 

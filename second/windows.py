@@ -3,7 +3,7 @@
 Sheets whose least figures and least starts are found by trying every delay, every order and idle time:
 - one block: passes of 1 or 2, every window of 0 to 4, with turns of 0 to 4;
 - two blocks: passes of 1, with a turn also of 2, every window of 0 to 3, one of 5 and one of 2 to 5, with turns of 0 and 1; and some with a turn of 2;
-- three blocks: passes of 1, windows and delays of a list, with turns of 0 and 1; all without order and with every proper order.
+- three blocks: passes of 1, every window of 0 to 2, and windows and delays of two lists, with turns of 0 and 1; all without order and with every proper order.
 
 Sheets that are planned, judged and printed:
 - blocks with every row of values of a list, in and out of their ranges, the longest delay below, at and above the shortest, alone and behind a block;
@@ -62,7 +62,9 @@ def every_window():
         yield [(1, *one, 2), (2, *other, 1)] if turn else [(1, *one, 1), (1, *other, 1)], turn
     for one, other in itertools.product([(0, 1), (0, 3), (2, 2), (2, 6), (5, 7)], repeat=2):
         yield [(1, *one, 1), (2, *other, 2)], 2
-    for row in itertools.product([(1, 0, 2, 1), (1, 2, 1), (1, 1, 4, 1), (1, 4, 5, 1)], repeat=3):
+    for row in itertools.product(windows(2), repeat=3):
+        yield [(1, *window, 1) for window in row], None
+    for row in itertools.product([(1, 1, 4, 1), (1, 2, 1), (1, 4, 5, 1), (1, 0, 2, 1)], repeat=3):
         yield row, None
     for row in itertools.product([(1, 1, 3, 1), (1, 3, 5, 1), (1, 4, 1), (1, 0, 6, 1)], repeat=3):
         yield row, 1
