@@ -69,9 +69,9 @@
 #define SEVULAMON_PAGE_LENGTH 3069
 
 /* Bytes of stack that are enough for a thread that plans, and for one that only judges and prints
- * pages. Measured on full sheets (40 strips, 6 + 6 + 6 strips, 8 free blocks or 32 in order) by the
- * bytes of a painted stack that were changed: 96,700 for planning, 26,200 for judging, 26,400 for a
- * page, of which a thread that does nothing takes 4,500. The rest is slack. */
+ * pages. Measured on full sheets (40 strips, 6 + 6 + 6 strips, 8 free blocks or 32 in order, also
+ * with windows) by the bytes of a painted stack that were changed: 96,400 for planning, 27,500 for
+ * judging, 27,700 for a page, of which a thread that does nothing takes 4,500. The rest is slack. */
 #define SEVULAMON_PLAN_STACK 131072
 #define SEVULAMON_JUDGE_STACK 65536
 

@@ -157,7 +157,7 @@ static u64 check_field(uint8_t tag, const uint8_t *c, size_t length, const struc
     if (fault != 0)
         return fault;
     if (window_empty(tag, c))
-        return WINDOW_EMPTY;
+        return SEVULAMON_LONGEST_BELOW_SHORTEST;
     if (too_many(tag, c, s))
         return SEVULAMON_TOO_MANY;
     if (tag == ORDER && !proper(s->flight.blocks, number_at(c, 8)))

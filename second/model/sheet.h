@@ -8,9 +8,6 @@
 
 typedef uint64_t u64;
 
-/* The number of a window whose longest delay is below its shortest. */
-enum { WINDOW_EMPTY = 17 };
-
 enum { MOST_TIME = 60000, MOST_TURN = 600, MOST_STRIPS = 40, MOST_DESKS = 3, MOST_OF_DESK = 6, MOST_BLOCKS = 32, FREE_BLOCKS = 8, MOST_STATIONS = 4 };
 
 struct mosaic {

@@ -9,7 +9,7 @@ use mathlib.Core.Path.{_≡_, refl, sym, ap, ap₂, subst, _∙_}
 use mathlib.Core.Bool.{true, false, true≢false}
 use mathlib.Core.List.{List, _++_}
 use mathlib.Core.Logic.{inl, inr, ⊎-elim}
-use lib.ListN.{length, getD, drop}
+use lib.ListN.{length, drop}
 use native.Mathlib.Omega.{arith}
 use Rattle.field.specs.Bytes.{numberAt}
 use Rattle.field.specs.Field.{fieldAt}
@@ -25,7 +25,7 @@ use Rattle.sheet.specs.Among.{Among}
 use Rattle.sheet.specs.FieldTable.{TableRow, fieldTable, tableOf, lengthOf, lengthsDue, turnFlightHead, Value, valuesOf}
 use Rattle.sheet.specs.Contents.{RowOfLength, head-lengths, head-length, flight-head-values}
 use Rattle.sheet.specs.Causes.{NoMembers, OrderMissing, Permitted, FirstOut, CountOutOfRange, TimeTooLarge, TimeOfZero, TooMany, fieldRows, rowsAt}
-use Rattle.sheet.specs.Table.{Reached, RefusedFor, RefusedForValue, RefusedForWindow}
+use Rattle.sheet.specs.Table.{Reached, RefusedFor, RefusedForValue, RefusedForLongestBelowShortest}
 use Rattle.sheet.specs.Rows.{rowAt}
 use Rattle.sheet.specs.Decided.{whole-at-not-cut}
 use Rattle.sheet.specs.Theorems.{at-field}
@@ -33,13 +33,15 @@ use Rattle.sheet.specs.Refused.{sound-exactly, not-eleven}
 use Rattle.sheet.specs.Values.{count-exactly, too-large-exactly, zero-exactly, window-exactly}
 use Rattle.sheet.specs.Sections.{inFlight}
 use Rattle.sheet.specs.Checks.{endsSection}
-use Rattle.sheet.specs.Decode.{zeros, nextMembers}
+use Rattle.sheet.specs.Decode.{zeros, exactBlock, nextMembers}
 use Rattle.sheet.specs.Stores.{length-zeros}
 use Rattle.sheet.specs.Sound.{SheetSound}
 use Rattle.sheet.specs.FlightPlaces.{FieldRead, HeadRead, head-read, order-read, blockAt, BlockRead, block-read}
 use Rattle.sheet.specs.MovedPlaces.{movedPlace, SameButPlaces}
 use Rattle.sheet.specs.WrittenZero.{withEmptyHead, withWrittenZero, written-zero}
 use Rattle.sheet.specs.OneValue.{withExactDelay, withOneValue, one-value}
+use Rattle.sheet.specs.SectionLaws.{BlockSound}
+use Rattle.sheet.specs.declared.Block.{Block}
 use Rattle.sheet.specs.declared.Reading.{Reading}
 use Rattle.sheet.specs.declared.FlightSection.{FlightSection}
 use Rattle.sheet.specs.declared.Sheet.{Sheet}
@@ -80,7 +82,7 @@ use Rattle.judge_laws.specs.Theorems.{fault-judged, judged-fault, judged-sheet-
 use Rattle.mosaic.specs.Plan.{lasts}
 use Rattle.mosaic.specs.Theorems.{mosaic-ceiling}
 use Rattle.sorting.specs.Theorems.{sorting-ceiling}
-use Rattle.flight.specs.Chosen.{ShortDelay}
+use Rattle.flight.specs.Chosen.{LongestBelowTurn}
 use Rattle.flight.specs.Choice.{oneByOne, chosenOrder}
 use Rattle.flight.specs.Theorems.{flight-ceiling, flight-figure, flight-least, flight-unsearched}
 use Rattle.planner.specs.Call.{chosenPlan, clearedTo, tableAfter, Called}
@@ -395,9 +397,9 @@ module _ (sheet : List ℕ) (sound : readSheet sheet .number ≡ 0) where
           none-keeps qs lawful (subst (λ (v : ℕ). Keeps (readSheet sheet .flight) v qs) (allowed .as-given o) keeps)
       possible (Impossible.no-order-given o none-keeps) qs lawful keeps = none-keeps w (allowed .proper) qs lawful keeps
 
--- REQ 02. A page call: the sheet, the plan and the page buffer at entry, the page buffer at exit, and the answer. Page.antt of crate page says what the page of a
--- timetable is, line by line, and Line.antt of crate page_lines what a line is, column by column. `written r pageAfter` is what the call has written: the first
--- bytes of the buffer, as many as the answer says.
+-- REQ 02. A page call: the sheet, the plan and the page buffer at entry, the page buffer at exit, and the answer. Page.antt of crate page says what the page of
+-- a timetable is, line by line, and Line.antt of crate page_lines what a line is, column by column. `written r pageAfter` is what the call has written: the
+-- first bytes of the buffer, as many as the answer says.
 module _ (sheet plan page pageAfter : List ℕ) (r : Answer) (call : Paged sheet plan page pageAfter r) where
   -- "Number 2 is given also for a page buffer below 3,069 bytes, before the judge is tried."
   pub small-page-is-two : length page < pageLength → r ≡ answer bufferTooSmall 0 0
@@ -483,8 +485,8 @@ module _ (sheet p q page₁ page₂ after₁ after₂ : List ℕ) (r₁ r₂ : A
           plan-determined (readSheet sheet) (read-sound sheet (a .sound)) (a .allowed .plan) (b .allowed .plan) (a .allowed .lawful) (b .allowed .lawful)
           (sym (a .allowed .layout) ∙ e ∙ b .allowed .layout)
 
--- REQ 03. "Among best sorting plans take the one whose scanner list has the lower desk number at the first place where they part." What a scanner list is, which
--- of two comes before the other, and what is asked of the sorting that is taken is said in ScannerList.antt of crate rules. An accepted planning call:
+-- REQ 03. "Among best sorting plans take the one whose scanner list has the lower desk number at the first place where they part." What a scanner list is,
+-- which of two comes before the other, and what is asked of the sorting that is taken is said in ScannerList.antt of crate rules. An accepted planning call:
 module _ (sheet plan table planAfter tableEnd : List ℕ) (r : Answer) (call : Called sheet plan table planAfter tableEnd r) (z : r .number ≡ 0)
     (ours : AllowedFor sheet (written r planAfter)) where
   -- Our sorting is what is to be taken ..
@@ -519,8 +521,8 @@ same-sheet-same-list sheet p q a b s t =
     ap (sortingFields (readSheet sheet .sorting)) (taken-determined sheet (a .sound) (a .allowed .plan .jobs) (b .allowed .plan .jobs) s t)
 
 -- REQ 04. "Keep 6 for station, desk and other counts. Within a field values are examined from left to right. New numbers: 15, a time above its upper end; 16, a
--- time of zero where at least 1 is due; both in the place of 6." FieldTable.antt of crate sheet says which values a field has, counts and times; Causes.antt there
--- when one is out of its range, and how; Table.antt, when a sheet is refused for a value (`RefusedForValue`). A planning call:
+-- time of zero where at least 1 is due; both in the place of 6." FieldTable.antt of crate sheet says which values a field has, counts and times; Causes.antt
+-- there when one is out of its range, and how; Table.antt, when a sheet is refused for a value (`RefusedForValue`). A planning call:
 module _ (sheet plan table planAfter tableEnd : List ℕ) (r : Answer) (call : Called sheet plan table planAfter tableEnd r) where
   -- with buffers large enough the number is given where the sheet is refused for this (`Why`, by the place), with its place, and not otherwise
   pub record GivenFor (number : ℕ) (Why : ℕ → Type 0) : Type 0 where
@@ -614,8 +616,9 @@ module _ (sheet plan page pageAfter : List ℕ) (r : Answer) (call : Paged sheet
 -- `sheet_lengths::length_due`. The field table is `fieldTable` (sheet, FieldTable.antt), a list of rows; `lengthOf` a row's content is the sum of its widths.
 -- A call of `length_due`: a tag, the number of stations in the head of the mosaic, and the answer; `GivesLength` is its contract (sheet_lengths, Lengths.antt).
 module _ (tag stations : ℕ) (due : LengthDue) (call : GivesLength tag stations due) where
-  -- "Show that the cases give the field table's length for each tag in it": the length of each row of the tag is among those that the answer means (`lengthsGiven`),
-  -- and each of those is a row's. Every tag but that of the flight head has one row at most, and its length; the flight head has two rows since Req 06. The tag 33 has a row since Req 07.
+  -- "Show that the cases give the field table's length for each tag in it": the length of each row of the tag is among those that the answer means
+  -- (`lengthsGiven`), and each of those is a row's. Every tag but that of the flight head has one row at most, and its length; the flight head has two rows
+  -- since Req 06. The tag 33 has a row since Req 07.
   pub length-by-list : (desks : ℕ) (r : TableRow) → Among r (fieldTable stations desks) → tag ≡ r .tag → Among (lengthOf (r .content)) (lengthsGiven due)
   length-by-list desks r a e = row-length tag stations due call desks r a (omega arith)
 
@@ -645,14 +648,15 @@ module _ (tag stations : ℕ) (due : LengthDue) (call : GivesLength tag stations
   no-length-of-another-tag = other-tag-none tag stations due call
 
 -- REQ 06. "The flight head may carry two bytes, the turn g, 0 to 600 seconds; an empty head means 0." The rows of the field table (sheet, FieldTable.antt) have
--- both heads, and `turnOf` (sheet, Decode.antt) the turn of each. What the turn asks is said in Flight.antt of crate rules (`clearAt`, `AllApart`); all that is said
--- above of allowed plans, of least figures and of starts is said of these rules: "The leastness of figure and starts is read with g in the rules."
+-- both heads, and `turnOf` (sheet, Decode.antt) the turn of each. What the turn asks is said in Flight.antt of crate rules (`clearAt`, `AllApart`); all that is
+-- said above of allowed plans, of least figures and of starts is said of these rules: "The leastness of figure and starts is read with g in the rules."
 module _ (sheet : List ℕ) (sound : readSheet sheet .number ≡ 0) where
   -- The turn of a sound sheet with a flight is the one that its flight head gives, and at most 600.
   pub turn-of-the-head : 1 ≤ readSheet sheet .flight .blocks → HeadRead sheet (readSheet sheet .flight) × (readSheet sheet .flight .turn ≤ mostTurn)
   turn-of-the-head some = (head-read sheet sound some, read-sound sheet sound .flight .most-turn)
 
-  -- "Each pass starts at least g after the pass before it ends, whichever blocks they belong to": so it is in every timetable, for the passes in the order kept ..
+  -- "Each pass starts at least g after the pass before it ends, whichever blocks they belong to": so it is in every timetable, for the passes in the order kept
+  -- ..
   pub turn-before-each-pass : (w : ℕ) (ps : List Passes) → Proper (readSheet sheet .flight .blocks) w → FlightLawful (readSheet sheet .flight) ps
       → Keeps (readSheet sheet .flight) w ps → NextApart (readSheet sheet .flight) w ps
   turn-before-each-pass w ps proper law keeps = neighbours-apart (readSheet sheet .flight) w ps proper law keeps
@@ -740,8 +744,8 @@ module _ (sheet plan table planAfter tableEnd : List ℕ) (r : Answer) (call : C
   five-for-another-length large len place f h₀ h₂ =
       turned-back sheet plan table planAfter tableEnd r call lengthWrong place (TurnedBack.in-sheet large (head-length-wrong sheet len place f h₀ h₂))
 
-  -- "A flight without an order can now be impossible as well: 11 is then given at the flight head, with buffers large enough exactly when the sheet is otherwise
-  -- sound and no proper order has a timetable." Where the sheet gives no order:
+  -- "A flight without an order can now be impossible as well: 11 is then given at the flight head, with buffers large enough exactly when the sheet is
+  -- otherwise sound and no proper order has a timetable." Where the sheet gives no order:
   pub record ElevenAtHead : Type 0 where
     pub large : Large plan table
     pub sound : readSheet sheet .number ≡ 0
@@ -806,8 +810,8 @@ module _ (sheet plan table planAfter tableEnd : List ℕ) (r : Answer) (call : C
 
   -- A flight without an order is impossible exactly where some block's delay, since Req 07 its longest one, is below g ..
   pub free-eleven-by-the-delays : readSheet sheet .flight .ordered ≡ false
-      → (r .number ≡ orderImpossible → ShortDelay (readSheet sheet .flight))
-      × (Large plan table → readSheet sheet .number ≡ 0 → ShortDelay (readSheet sheet .flight)
+      → (r .number ≡ orderImpossible → LongestBelowTurn (readSheet sheet .flight))
+      × (Large plan table → readSheet sheet .number ≡ 0 → LongestBelowTurn (readSheet sheet .flight)
       → r ≡ answer orderImpossible (readSheet sheet .flight .place) 0)
   free-eleven-by-the-delays free = (
     λ e. let p = eleven-only-then sheet plan table planAfter tableEnd r call e in free-impossible-exactly sheet (p .1) free .0 (p .2),
@@ -815,9 +819,9 @@ module _ (sheet plan table planAfter tableEnd : List ℕ) (r : Answer) (call : C
   )
 
   -- .. and then no order is searched for: that of the blocks one after the other is the only one tried.
-  pub no-search-for-a-short-delay : readSheet sheet .flight .ordered ≡ false → readSheet sheet .number ≡ 0 → ShortDelay (readSheet sheet .flight)
+  pub no-search-below-the-turn : readSheet sheet .flight .ordered ≡ false → readSheet sheet .number ≡ 0 → LongestBelowTurn (readSheet sheet .flight)
       → chosenOrder (readSheet sheet .flight) ≡ oneByOne (readSheet sheet .flight .blocks)
-  no-search-for-a-short-delay free sound short = flight-unsearched (readSheet sheet .flight) (read-sound sheet sound .flight) free short
+  no-search-below-the-turn free sound short = flight-unsearched (readSheet sheet .flight) (read-sound sheet sound .flight) free short
 
 -- A judging call gives 15 and 5 for such a head in the same way, and it never gives 11.
 module _ (sheet plan : List ℕ) (j : Judged) (call : j ≡ judged sheet plan) where
@@ -832,8 +836,8 @@ module _ (sheet plan : List ℕ) (j : Judged) (call : j ≡ judged sheet plan) w
   pub judge-never-gives-eleven : j .number ≡ orderImpossible → ⊥
   judge-never-gives-eleven = rw call (λ e. not-eleven sheet _ _ (judged-sheet-only sheet plan orderImpossible (omega arith) (λ l m. omega arith) e) refl)
 
--- "a turn too short is 13 at the head": the sheet is sound, the plan laid out, no section before has a fault and every block follows, but some two passes of the
--- plan are less than g apart. Then the judge gives 13 at the plan's flight head, before 14.
+-- "a turn too short is 13 at the head": the sheet is sound, the plan laid out, no section before has a fault and every block follows, but some two passes of
+-- the plan are less than g apart. Then the judge gives 13 at the plan's flight head, before 14.
 pub short-turn-is-thirteen : (sheet plan : List ℕ) (j : Judged) → j ≡ judged sheet plan → readSheet sheet .number ≡ 0 → LaidOut (readSheet sheet) plan
     → ((i : ℕ) → 1 ≤ i → i < 3 → present (readSheet sheet) i ≡ true → (n p : ℕ) → SectionFault (readSheet sheet) plan i n p → ⊥)
     → present (readSheet sheet) 3 ≡ true
@@ -877,21 +881,34 @@ module _ (before rest : List ℕ) (st : Reading) (reached : Reached (withEmptyHe
       × ((readSheet (withEmptyHead before rest) .number ≡ 0 → ⊥) → k ≡ turnedBack (j .number) (movedPlace (length before) (j .place)))
   written-zero-judged plan j k judging also = judged-same _ _ _ (written-zero before rest st reached here) plan j k judging also
 
--- REQ 07. "For slow divers the biologists accept any interval between two bounds." When a delay lies in the window of its block is said in Flight.antt of crate rules
--- (`DelayKept`); all that is said above of allowed plans, of least figures, of starts and of 11 is said of these rules. A sound sheet:
-module _ (sheet : List ℕ) (sound : readSheet sheet .number ≡ 0) where
-  -- "A block of tag 33 carries a, shortest delay, longest delay, b": each block was read from a field of tag 33 (`windowBlock` of sheet, Decode.antt) or of tag 31
-  -- (`exactBlock`), whose window has one value.
-  pub block-of-a-field : (i : ℕ) → i < readSheet sheet .flight .blocks → BlockRead sheet (blockAt (readSheet sheet .flight) i)
-  block-of-a-field = block-read sheet sound
+-- REQ 07. "For slow divers the biologists accept any interval between two bounds." When a delay lies in the window of its block is said in Flight.antt of crate
+-- rules (`DelayKept`); all that is said above of allowed plans, of least figures, of starts and of 11 is said of these rules.
+-- "A block of tag 33 carries a, shortest delay, longest delay, b, each as in 31": block i of a sound sheet was read from a field of tag 33 (`windowBlock` of
+-- sheet, Decode.antt) or of tag 31 (`exactBlock`, whose window has one value), the block behind i others; its times are within the ranges of 31, and its window
+-- is not empty.
+pub block-of-a-field : (sheet : List ℕ) → readSheet sheet .number ≡ 0 → (i : ℕ) → i < readSheet sheet .flight .blocks
+    → BlockRead sheet i (blockAt (readSheet sheet .flight) i) × BlockSound (blockAt (readSheet sheet .flight) i)
+block-of-a-field sheet sound i l =
+    let f = read-sound sheet sound .flight in (
+      block-read sheet sound i l,
+      record {
+        first = record { at-least = f .least-first i l; at-most = f .most-first i };
+        most-delay = f .most-delay i;
+        window = f .window i;
+        second = record { at-least = f .least-second i l; at-most = f .most-second i };
+      },
+    )
 
-  -- "an exact delay being a window of one value": where both bounds are l, the rule of 01 holds, "A second pass starts exactly l after its first ends"
-  pub exact-where-one-value : (i l : ℕ) (p : Passes) → getD (readSheet sheet .flight .shortest) i 0 ≡ l → getD (readSheet sheet .flight .longest) i 0 ≡ l
-      → (DelayKept (readSheet sheet .flight) i p → p .second ≡ secondDue (readSheet sheet .flight) i p l)
-      × (p .second ≡ secondDue (readSheet sheet .flight) i p l → DelayKept (readSheet sheet .flight) i p)
-  exact-where-one-value i l p lo hi = exact-delay (readSheet sheet .flight) i l p lo hi
+-- "an exact delay being a window of one value": of a block that was read from a field of tag 31 the rule is 01's, "A second pass starts exactly l after its
+-- first ends", with the delay l of that field
+pub exact-delay-of-31 : (sheet : List ℕ) (f : FlightSection) (i at : ℕ) (p : Passes) → blockAt f i ≡ exactBlock sheet (at + 3)
+    → (DelayKept f i p → p .second ≡ secondDue f i p (numberAt sheet (at + 3 + 2) 2))
+    × (p .second ≡ secondDue f i p (numberAt sheet (at + 3 + 2) 2) → DelayKept f i p)
+unfolding exactBlock
+exact-delay-of-31 sheet f i at p e = exact-delay f i _ p (ap (λ (b : Block). b .shortest) e) (ap (λ (b : Block). b .longest) e)
 
--- "31 and 33 may be mixed": wherever the one is permitted the other is, and they are counted together, also up to the 33rd.
+-- "31 and 33 may be mixed": wherever the one is permitted the other is, and they are counted together, for 7 too. The order field and 10 ask the count alone
+-- (`Permitted.flight-order`, `ManyBlocks`).
 pub both-blocks-permitted : (section members : ℕ)
     → (Permitted flightBlockTag section members → Permitted flightWindowBlockTag section members)
     × (Permitted flightWindowBlockTag section members → Permitted flightBlockTag section members)
@@ -926,9 +943,9 @@ both-blocks-counted members ofDesk = (
     many tag (TooMany.block e h) l = h
     many tag (TooMany.window-block e h) l = h
 
--- "With a given order, each first and each second pass starts no later than in any allowed plan": `each-pass-earliest` (demand 3). "and 11 means that no choice of
--- delays works". A choice of delays has one in the window of each block (`DelaysChosen`); it works with an order where the flight with these exact delays
--- (`withDelays`; rules_laws, Delays.antt) has a timetable that keeps the order.
+-- "With a given order, each first and each second pass starts no later than in any allowed plan": `each-pass-earliest` (demand 3); without one, for the order
+-- that is taken, `passes-early`. "and 11 means that no choice of delays works". A choice of delays has one in the window of each block (`DelaysChosen`); it
+-- works with an order where the flight with these exact delays (`withDelays`; rules_laws, Delays.antt) has a timetable that keeps the order.
 abbrev pub NoChoiceWorks : FlightSection → ℕ → Type 0
 NoChoiceWorks f w = (delays : List ℕ) → DelaysChosen f delays → NoTimetable (withDelays delays f) w
 
@@ -951,6 +968,18 @@ module _ (sheet plan table planAfter tableEnd : List ℕ) (r : Answer) (call : C
         λ large sound none. at-order .1 large sound (exactly .1 none),
       )
 
+  -- and of a flight without an order, that with no proper order any does
+  pub free-eleven-where-no-choice-works : readSheet sheet .flight .ordered ≡ false
+      → (r .number ≡ orderImpossible → (w : ℕ) → Proper (readSheet sheet .flight .blocks) w → NoChoiceWorks (readSheet sheet .flight) w)
+      × (Large plan table → readSheet sheet .number ≡ 0
+      → ((w : ℕ) → Proper (readSheet sheet .flight .blocks) w → NoChoiceWorks (readSheet sheet .flight) w)
+      → r ≡ answer orderImpossible (readSheet sheet .flight .place) 0)
+  free-eleven-where-no-choice-works free =
+      let at-head = eleven-at-the-flight-head sheet plan table planAfter tableEnd r call free in (
+        λ e w proper. no-choice-exactly (readSheet sheet .flight) w .0 (at-head .0 e .none w proper),
+        λ large sound none. at-head .1 large sound (λ w proper. no-choice-exactly (readSheet sheet .flight) w .1 (none w proper)),
+      )
+
   -- The figure of our flight is the least over all orders that the sheet allows, all choices of delays and all idle times.
   pub least-over-all-delays : r .number ≡ 0 → (ours : AllowedFor sheet (written r planAfter)) (c w : ℕ) (delays : List ℕ) (ps : List Passes)
       → OrderAllowed (readSheet sheet .flight) w → DelaysChosen (readSheet sheet .flight) delays
@@ -970,30 +999,36 @@ module _ (sheet plan table planAfter tableEnd : List ℕ) (r : Answer) (call : C
       ))
 
   -- "17, longest below shortest, right after the ranges of the same field and before 7": where every value of the field is within its range, and it is a window
-  -- whose longest delay is below the shortest (`RefusedForWindow` of sheet, Table.antt), whatever the row of 7 says, and not otherwise
-  pub seventeen-for-a-window : GivenFor sheet plan table planAfter tableEnd r call longestBelowShortest (RefusedForWindow sheet)
-  seventeen-for-a-window =
-      given-for sheet plan table planAfter tableEnd r call longestBelowShortest (RefusedForWindow sheet) (omega arith) (λ e. omega arith) (window-exactly sheet)
+  -- whose longest delay is below the shortest (`RefusedForLongestBelowShortest` of sheet, Table.antt), whatever the row of 7 says, and not otherwise
+  pub seventeen-for-longest-below-shortest : GivenFor sheet plan table planAfter tableEnd r call longestBelowShortest (RefusedForLongestBelowShortest sheet)
+  seventeen-for-longest-below-shortest =
+      given-for sheet plan table planAfter tableEnd r call longestBelowShortest (RefusedForLongestBelowShortest sheet) (omega arith) (λ e. omega arith) (window-exactly sheet)
 
 -- A judging call and a page call give it in the same way.
-pub judged-seventeen : (sheet plan : List ℕ) (j : Judged) (call : j ≡ judged sheet plan) → JudgedFor sheet plan j call longestBelowShortest (RefusedForWindow sheet)
+pub judged-seventeen : (sheet plan : List ℕ) (j : Judged) (call : j ≡ judged sheet plan) → JudgedFor sheet plan j call longestBelowShortest (RefusedForLongestBelowShortest sheet)
 judged-seventeen sheet plan j call =
-    judged-for sheet plan j call longestBelowShortest (RefusedForWindow sheet) (omega arith) (λ l m. omega arith) (window-exactly sheet)
+    judged-for sheet plan j call longestBelowShortest (RefusedForLongestBelowShortest sheet) (omega arith) (λ l m. omega arith) (window-exactly sheet)
 
 pub paged-seventeen : (sheet plan page pageAfter : List ℕ) (r : Answer) (call : Paged sheet plan page pageAfter r)
-    → PagedFor sheet plan page pageAfter r call longestBelowShortest (RefusedForWindow sheet)
+    → PagedFor sheet plan page pageAfter r call longestBelowShortest (RefusedForLongestBelowShortest sheet)
 paged-seventeen sheet plan page pageAfter r call =
-    paged-for sheet plan page pageAfter r call longestBelowShortest (RefusedForWindow sheet) (omega arith)
+    paged-for sheet plan page pageAfter r call longestBelowShortest (RefusedForLongestBelowShortest sheet) (omega arith)
     (judged-seventeen sheet plan (judged sheet plan) refl)
 
--- "The judge accepts any delay in the window": every plan that obeys the rules is allowed (demand 2), and of a block the rules ask this alone: its delay is at least
--- the shortest and at most the longest. "and no other": in what it allows every delay lies in its window ..
-pub allowed-delays : (sheet plan : List ℕ) (a : AllowedFor sheet plan) (i : ℕ) → i < readSheet sheet .flight .blocks
-    → DelayKept (readSheet sheet .flight) i (passesAt (a .allowed .plan .passes) i)
-allowed-delays sheet plan a i l = a .allowed .lawful .flight .delay-kept i l
+-- "The judge accepts any delay in the window": whatever delays are chosen in the windows, a timetable with them obeys the rules, and every plan that does is
+-- allowed (`allows-what-obeys`, demand 2)
+pub any-delay-in-the-window : (f : FlightSection) (delays : List ℕ) (ps : List Passes) → DelaysChosen f delays → FlightLawful (withDelays delays f) ps
+    → FlightLawful f ps
+any-delay-in-the-window f delays ps chosen law = kept-choice f ps delays chosen law
 
--- .. and a plan is turned back with 13 at the first block whose delay does not: the sheet is sound, the plan laid out, no section before has a fault and every block
--- before this one follows.
+-- "and no other": in what it allows every delay lies in its window ..
+pub no-other-delay : (sheet plan : List ℕ) (j : Judged) (call : j ≡ judged sheet plan) (bytes : AreBytes plan) (z : j .number ≡ 0) (i : ℕ)
+    → i < readSheet sheet .flight .blocks
+    → DelayKept (readSheet sheet .flight) i (passesAt (allows-nothing-else sheet plan j call bytes z .allowed .plan .passes) i)
+no-other-delay sheet plan j call bytes z i l = allows-nothing-else sheet plan j call bytes z .allowed .lawful .flight .delay-kept i l
+
+-- .. and a plan is turned back with 13 at the first block whose delay does not: the sheet is sound, the plan laid out, no section before has a fault and every
+-- block before this one follows.
 pub delay-outside-is-thirteen : (sheet plan : List ℕ) (j : Judged) → j ≡ judged sheet plan → readSheet sheet .number ≡ 0 → LaidOut (readSheet sheet) plan
     → ((i : ℕ) → 1 ≤ i → i < 3 → present (readSheet sheet) i ≡ true → (n p : ℕ) → SectionFault (readSheet sheet) plan i n p → ⊥)
     → present (readSheet sheet) 3 ≡ true

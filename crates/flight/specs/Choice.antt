@@ -1,5 +1,5 @@
 -- The plan: its order, which is the given one or the one that the search takes, and the least starts in that order. Where no order is given and none is
--- possible, which the delays tell, there is no search.
+-- possible, which the longest delays tell, there is no search.
 use mathlib.Core.Path.{_≡_}
 use mathlib.Core.Bool.{Bool, true, false, _&&_}
 use mathlib.Core.List.{List}
@@ -25,8 +25,8 @@ unfoldable pub oneByOne : ℕ → ℕ
 oneByOne zero = 0
 oneByOne (suc i) = oneByOne i + 2 ^ (2 * i + 1)
 
--- The order of a flight without a given one. Where a longest delay is shorter than the turn no order is possible (`flight-free` of Theorems.antt): then none is searched
--- for, and that of the blocks one after the other is taken, which like every order is impossible.
+-- The order of a flight without a given one. Where a longest delay is shorter than the turn no order is possible (`flight-free` of Theorems.antt): then none is
+-- searched for, and that of the blocks one after the other is taken, which like every order is impossible.
 unfoldable pub freeOrder : FlightSection → ℕ
 freeOrder f =
     elim (delaysFit f (f .blocks)) [ true ↦ searched (ordersOf f) (2 * f .blocks) 0 noIncumbent .order | false ↦ oneByOne (f .blocks) ]

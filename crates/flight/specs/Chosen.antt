@@ -39,28 +39,28 @@ delays-long f (suc k) e i l = go (ℕ-discrete i k) (both (delaysFit f k) (leb (
     go (no q) p before = before (p .0) i (omega arith)
 
 -- a block whose longest delay is shorter than the turn
-pub record ShortDelay (f : FlightSection) : Type 0 where
+pub record LongestBelowTurn (f : FlightSection) : Type 0 where
   pub block : ℕ
   pub known : block < f .blocks
   pub short : getD (f .longest) block 0 < f .turn
 
-pub delay-short : (f : FlightSection) (k : ℕ) → k ≤ f .blocks → delaysFit f k ≡ false → ShortDelay f
+pub delay-short : (f : FlightSection) (k : ℕ) → k ≤ f .blocks → delaysFit f k ≡ false → LongestBelowTurn f
 unfolding delaysFit
 delay-short f zero l e = absurd (true≢false e)
 delay-short f (suc k) l e = go (delaysFit f k) refl e (delay-short f k (omega arith))
   where
-    go : (b : Bool) → delaysFit f k ≡ b → b && leb (f .turn) (getD (f .longest) k 0) ≡ false → (delaysFit f k ≡ false → ShortDelay f) → ShortDelay f
+    go : (b : Bool) → delaysFit f k ≡ b → b && leb (f .turn) (getD (f .longest) k 0) ≡ false → (delaysFit f k ≡ false → LongestBelowTurn f) → LongestBelowTurn f
     go false q e before = before q
     go true q e before = record { block = k; known = omega arith; short = omega (arith, leb-false (f .turn) (getD (f .longest) k 0) e) }
 
-pub short-unfit : (f : FlightSection) → ShortDelay f → delaysFit f (f .blocks) ≡ false
+pub short-unfit : (f : FlightSection) → LongestBelowTurn f → delaysFit f (f .blocks) ≡ false
 short-unfit f s = go (delaysFit f (f .blocks)) refl
   where
     go : (b : Bool) → delaysFit f (f .blocks) ≡ b → b ≡ false
     go true e = absurd (omega (arith, s .short, delays-long f (f .blocks) e (s .block) (s .known)))
     go false e = refl
 
--- In any timetable a block's own passes are the turn apart.
+-- In any timetable a block's own passes are the turn apart, so its longest delay is at least the turn.
 pub own-apart : {c : ℕ} (f : FlightSection) → FlightSound f → (ps : List Passes) → FlightUnder c f ps → (i : ℕ) → i < f .blocks
     → f .turn ≤ getD (f .longest) i 0
 unfolding secondDue
@@ -121,7 +121,7 @@ module _ (f : FlightSection) where
         go true e = refl
         go false e = let s = delay-short f (f .blocks) (omega arith) e in absurd (omega (arith, s .short, possible-long w proper possible (s .block) (s .known)))
 
-    -- .. and where every delay is, the search finds an order.
+    -- .. and where every longest delay is, the search finds an order.
     found : delaysFit f (f .blocks) ≡ true → result .possible ≡ true
     found long =
         as-good (oneByOne (f .blocks)) (one-by-one-proper (f .blocks)) (one-by-one-possible f sound (delays-long f (f .blocks) long)) .some
@@ -159,14 +159,14 @@ module _ (f : FlightSection) where
         go false e = free-possible e (possible-fits w (allowed .proper) possible)
 
     -- So a flight without an order is possible exactly where no longest delay is shorter than the turn.
-    pub impossible-short : f .ordered ≡ false → isPossible f ≡ false → ShortDelay f
+    pub impossible-short : f .ordered ≡ false → isPossible f ≡ false → LongestBelowTurn f
     impossible-short e none = go (delaysFit f (f .blocks)) refl
       where
-        go : (b : Bool) → delaysFit f (f .blocks) ≡ b → ShortDelay f
+        go : (b : Bool) → delaysFit f (f .blocks) ≡ b → LongestBelowTurn f
         go true d = absurd (true≢false (sym (free-possible e d) ∙ none))
         go false d = delay-short f (f .blocks) (omega arith) d
 
-    pub short-impossible : ShortDelay f → isPossible f ≡ false
+    pub short-impossible : LongestBelowTurn f → isPossible f ≡ false
     unfolding isPossible
     short-impossible s = go (possibleIn f (chosenOrder f)) refl
       where

@@ -16,7 +16,7 @@ use Rattle.flight_order.specs.Ceiling.{latestEnd}
 use Rattle.flight_order.specs.Timetable.{leastPasses}
 use Rattle.flight_order.specs.Planned.{possible-lawful, possible-keeps, kept-possible, least-earliest, least-figure, figure-below, least-ends}
 use Rattle.flight.specs.Choice.{oneByOne, chosenOrder, isPossible, leastFigure, chosenPasses}
-use Rattle.flight.specs.Chosen.{ShortDelay, short-unfit, chosen-none, chosen-proper, chosen-allowed, chosen-least, allowed-possible, impossible-short}
+use Rattle.flight.specs.Chosen.{LongestBelowTurn, short-unfit, chosen-none, chosen-proper, chosen-allowed, chosen-least, allowed-possible, impossible-short}
 use Rattle.flight.specs.Chosen.{short-impossible}
 
 module _ (f : FlightSection) (sound : FlightSound f) where
@@ -79,11 +79,11 @@ module _ (f : FlightSection) (sound : FlightSound f) where
       go none false e = refl
 
   -- 02, Req 06. Where no order is given, the plan is not possible exactly where some block's longest delay is shorter than the turn ..
-  pub flight-free : f .ordered ≡ false → (isPossible f ≡ false → ShortDelay f) × (ShortDelay f → isPossible f ≡ false)
+  pub flight-free : f .ordered ≡ false → (isPossible f ≡ false → LongestBelowTurn f) × (LongestBelowTurn f → isPossible f ≡ false)
   flight-free e = (impossible-short f sound e, short-impossible f sound)
 
   -- .. and then no order is searched for: that of the blocks one after the other is taken, which is not possible either.
-  pub flight-unsearched : f .ordered ≡ false → ShortDelay f → chosenOrder f ≡ oneByOne (f .blocks)
+  pub flight-unsearched : f .ordered ≡ false → LongestBelowTurn f → chosenOrder f ≡ oneByOne (f .blocks)
   flight-unsearched e short = chosen-none f e (short-unfit f short)
 
   -- The ceiling is never met: every pass of the plan ends by `latestEnd`, 32 times both passes and the longest delay of a block, and 63 turns.

@@ -72,10 +72,10 @@ fn delays_fit(f: FlightSection) -> bool
     ensures { λ r. ⌜ r ≡ delaysFit f (f .blocks) ⌝ }
 {
     let n = f.blocks;
-    let longest = f.longest;
+    let upper = f.longest;
     let mut i: usize = 0;
     while i < n {
-        if longest[i] < f.turn {
+        if upper[i] < f.turn {
             return false;
         }
         i += 1;

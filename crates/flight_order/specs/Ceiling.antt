@@ -1,5 +1,5 @@
--- The least starts never reach the ceiling: the last pass ends no later than all passes and delays of all blocks take, one after the other, with a turn between
--- any two passes.
+-- The least starts never reach the ceiling: the last pass ends no later than all passes and shortest delays of all blocks take, one after the other, with a
+-- turn between any two passes.
 use mathlib.Core.Path.{_≡_}
 use mathlib.Core.Bool.{cond, true}
 use Prim.Native.Nat.{ℕ, zero, suc, _+_, _-_, _*_, _≤_, _<_}

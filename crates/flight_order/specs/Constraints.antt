@@ -1,7 +1,8 @@
 -- The constraints of a flight in one pass order. The passes are numbered (crate order, Passes): the first pass of block i is pass i, its second pass is
 -- pass n + i.
--- A delay may be anything from `shortest` to `longest` (02, Req 07; an exact delay is a window of one value), and `turn` passes between the end of a pass and the
--- start of the next (02, Req 06). In the literature: coupled tasks on one machine with minimum and maximum time lags; a turn is a minimum time lag between passes.
+-- A delay may be anything from `shortest` to `longest` (02, Req 07; an exact delay is a window of one value), and `turn` passes between the end of a pass and
+-- the start of the next (02, Req 06). In the literature: coupled tasks on one machine with minimum and maximum time lags; a turn is a minimum time lag between
+-- passes.
 use mathlib.Core.Bool.{Bool, cond}
 use mathlib.Core.List.{List}
 use Prim.Native.Nat.{ℕ, _+_, _-_, _*_}

@@ -6,7 +6,6 @@ use mathlib.Core.List.{List}
 use Prim.Native.Nat.{ℕ, _+_, _-_, _*_, _≤_, _<_}
 use native.Mathlib.Decide.{ℕ-discrete}
 use native.Mathlib.Omega.{arith}
-use lib.ListN.{getD}
 use Rattle.order.specs.Order.{Proper}
 use Rattle.order.specs.Passes.{passAt, timeOf}
 use Rattle.order.specs.PassLaws.{pass-known, position, last-pass}

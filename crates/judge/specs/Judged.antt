@@ -1,5 +1,5 @@
 -- What the judge answers. "The judge .. checks the sheet (3 to 10), then all of 12, then section by section 13 on its members in order, 13 at its
--- head, then 14. The first field that breaks a rule ends the judging." 15 and 16 of 02 (Req 04) are numbers of the sheet, too.
+-- head, then 14. The first field that breaks a rule ends the judging." 15 and 16 of 02 (Req 04) and 17 (Req 07) are numbers of the sheet, too.
 use Prim.Native.Nat.{ℕ, zero, suc, _+_}
 use mathlib.Core.Bool.{true, false, cond}
 use mathlib.Core.List.{List}

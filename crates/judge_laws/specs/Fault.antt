@@ -1,7 +1,7 @@
 -- The faults that the judge names, each with its number and its place (01, "Turned back"). "It checks the sheet (3 to 10), then all of 12, then section by
--- section 13 on its members in order, 13 at its head, then 14." 15 and 16 of 02 (Req 04) and 17 (Req 07) are numbers of the sheet, too. What a member and a head are judged by are
--- the rules as they run over the members (running, Running.antt).
--- Where a section's head and members stand is `partAt`, the judge's count; that they are the fields which are due there is `section-due` (DueLaws.antt).
+-- section 13 on its members in order, 13 at its head, then 14." 15 and 16 of 02 (Req 04) and 17 (Req 07) are numbers of the sheet, too. What a member and a
+-- head are judged by are the rules as they run over the members (running, Running.antt). Where a section's head and members stand is `partAt`, the judge's
+-- count; that they are the fields which are due there is `section-due` (DueLaws.antt).
 use Prim.Native.Nat.{ℕ, _+_, _≤_, _<_}
 use mathlib.Core.Path.{_≡_}
 use mathlib.Core.Bool.{true, false, cond}

@@ -2,7 +2,7 @@
 -- plan.
 -- 01: "The judge takes a sheet and a plan and gives the figure of each section, 0 for an absent section".
 use Prim.Native.Nat.{ℕ, _≤_, _<_}
-use mathlib.Core.Path.{_≡_, sym, ap, _∙_}
+use mathlib.Core.Path.{_≡_, ap, _∙_}
 use mathlib.Core.Bool.{Bool, cond}
 use mathlib.Core.List.{List}
 use native.Mathlib.Omega.{arith}
@@ -123,8 +123,8 @@ figures-given sheet plan a =
           (ap (λ (j : Judged). j .flight) e);
     }
 
--- Each number is given with its place where the fault lies, and not otherwise: 3 to 10, 15 and 16 in the sheet, 12 only for the layout, 13 at a member or at a
--- head, 14 at a head whose figure is untrue (Fault.antt).
+-- Each number is given with its place where the fault lies, and not otherwise: 3 to 10 and 15 to 17 in the sheet, 12 only for the layout, 13 at a member or at
+-- a head, 14 at a head whose figure is untrue (Fault.antt).
 pub fault-judged : (sheet plan : List ℕ) (number place : ℕ) → Fault sheet plan number place → judged sheet plan ≡ turnedBack number place
 fault-judged sheet plan number place f = fault-turned-back sheet plan number place f
 

@@ -26,7 +26,7 @@ use Rattle.mosaic.specs.Plan.{lasts}
 use Rattle.mosaic.specs.Theorems.{mosaic-lawful, mosaic-figure, mosaic-least, mosaic-earliest}
 use Rattle.sorting.specs.Theorems.{sorting-lawful, sorting-figure, sorting-least, sorting-earliest, sorting-taken, sorting-taken-once}
 use Rattle.flight.specs.Choice.{isPossible, chosenOrder}
-use Rattle.flight.specs.Chosen.{ShortDelay, chosen-given}
+use Rattle.flight.specs.Chosen.{LongestBelowTurn, chosen-given}
 use Rattle.flight.specs.Theorems.{flight-lawful, flight-figure, flight-least, flight-earliest, flight-impossible, flight-free}
 use Rattle.planner.specs.Call.{chosenPlan}
 
@@ -85,7 +85,7 @@ module _ (sheet : List ℕ) (sound : readSheet sheet .number ≡ 0) where
 
   -- .. and where no order is given, exactly where some block's longest delay is shorter than the turn (02, Req 06) ..
   pub free-impossible-exactly : readSheet sheet .flight .ordered ≡ false
-      → (Impossible (readSheet sheet) → ShortDelay (readSheet sheet .flight)) × (ShortDelay (readSheet sheet .flight) → Impossible (readSheet sheet))
+      → (Impossible (readSheet sheet) → LongestBelowTurn (readSheet sheet .flight)) × (LongestBelowTurn (readSheet sheet .flight) → Impossible (readSheet sheet))
   free-impossible-exactly free = (
     λ none. flight-free (readSheet sheet .flight) (whole .flight) free .0 (impossible-exactly .1 none),
     λ short. impossible-exactly .0 (flight-free (readSheet sheet .flight) (whole .flight) free .1 short),

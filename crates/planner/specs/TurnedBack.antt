@@ -22,7 +22,7 @@ pub data TurnedBack (sheet plan table : List ℕ) (number place : ℕ) : Type 0 
   table-small : length table < tableLength → number ≡ tableTooSmall → place ≡ 0 → TurnedBack sheet plan table number place
   -- "plan buffer below 1,095 bytes"
   buffer-small : tableLength ≤ length table → length plan < planLength → number ≡ bufferTooSmall → place ≡ 0 → TurnedBack sheet plan table number place
-  -- 3 to 10, 15 and 16: a cause of the sheet, at the first field that has one (sheet, Causes.antt and Table.antt)
+  -- 3 to 10 and 15 to 17: a cause of the sheet, at the first field that has one (sheet, Causes.antt and Table.antt)
   in-sheet : Large plan table → RefusedFor sheet number place → TurnedBack sheet plan table number place
   -- "no timetable keeps the given order", at the order field, of a sheet that is otherwise sound; 02, Req 06: "no proper order has a timetable", at the flight
   -- head. The reading fixes the place (`withFlightHead`, `withOrder` of sheet, Decode.antt).
@@ -65,8 +65,8 @@ module _ (sheet plan table planAfter tableEnd : List ℕ) (r : Answer) (call : C
       go (Outcome.impossible l s i e p t) = TurnedBack.impossible l s (impossible-exactly sheet s .0 i) (number-is _ _ _ e) (place-is _ _ _ e)
       go (Outcome.accepted l s i e p t) = absurd (h (number-is _ _ _ e))
 
-  -- 11 is given exactly where the buffers are large enough, the sheet is otherwise sound, and no timetable keeps the order that it gives or, where it gives none,
-  -- a proper one.
+  -- 11 is given exactly where the buffers are large enough, the sheet is otherwise sound, and no timetable keeps the order that it gives or, where it gives
+  -- none, a proper one.
   pub eleven-only : r .number ≡ orderImpossible → Large plan table × (readSheet sheet .number ≡ 0) × Impossible (readSheet sheet)
   eleven-only e = go (turned-back-only (λ z. omega arith))
     where

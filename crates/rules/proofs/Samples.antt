@@ -237,8 +237,8 @@ all-tested (c ∷ cs) e =
 pub samples-hold : AllSay samples
 samples-hold = all-tested samples samples-tested
 
--- Which of two scanner lists comes before the other: desk 1 against desk 3 at the first place where they part, desk 3 against desk 1 at the last. A beginning of
--- a list does not come before it: they part nowhere.
+-- Which of two scanner lists comes before the other: desk 1 against desk 3 at the first place where they part, desk 3 against desk 1 at the last. A beginning
+-- of a list does not come before it: they part nowhere.
 abbrev listBefore : List ℕ
 listBefore = 1 ∷ 2 ∷ 1 ∷ 3 ∷ []
 

@@ -1,7 +1,7 @@
 -- A window is a choice of exact delays (02, Req 07: "an exact delay being a window of one value"): a timetable of a flight is one of the same flight with some
 -- choice of delays in its windows, and conversely.
 -- The idea: the delays chosen are those that lie between the two starts of each block.
-use Prim.Native.Nat.{ℕ, _+_, _-_, _*_, _≤_, _<_}
+use Prim.Native.Nat.{ℕ, _+_, _-_, _≤_, _<_}
 use mathlib.Core.Path.{_≡_, refl}
 use mathlib.Core.List.{List}
 use native.Mathlib.Omega.{arith}

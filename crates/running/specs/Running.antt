@@ -61,7 +61,7 @@ pub data SortingRuns (s : SortingSection) : Desks → List Job → Type 0 where
   none : {d : Desks} → AllDone s d → SortingRuns s d []
   more : {d : Desks} {j : Job} {js : List Job} → JobFollows s d j → SortingRuns s (afterJob s d j) js → SortingRuns s d (j ∷ js)
 
--- The passes of block i keep its delay and end by the ceiling.
+-- The passes of block i have a delay in its window and end by the ceiling.
 pub record BlockFollows (f : FlightSection) (i : ℕ) (p : Passes) : Type 0 where
   pub known : i < f .blocks
   pub delay-kept : DelayKept f i p

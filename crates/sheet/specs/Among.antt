@@ -31,7 +31,7 @@ false-not-among n [] e a = a
 false-not-among n (m ∷ numbers) e (inl h) = true≢false (sym (eq-eqb m n (sym h)) ∙ neither (eqb m n) (isAmong n numbers) e .0)
 false-not-among n (m ∷ numbers) e (inr a) = false-not-among n numbers (neither (eqb m n) (isAmong n numbers) e .1) a
 
--- a number that cannot be missing from a list is among its numbers
+-- of a number that is among them the test says so
 pub among-true : (n : ℕ) (numbers : List ℕ) → Among n numbers → isAmong n numbers ≡ true
 among-true n numbers a = go (isAmong n numbers) refl
   where
@@ -39,6 +39,7 @@ among-true n numbers a = go (isAmong n numbers) refl
     go true e = refl
     go false e = absurd (false-not-among n numbers e a)
 
+-- a number that cannot be missing from a list is among its numbers
 pub among-else : (n : ℕ) (numbers : List ℕ) → ((Among n numbers → ⊥) → ⊥) → Among n numbers
 among-else n numbers h = go (isAmong n numbers) refl
   where

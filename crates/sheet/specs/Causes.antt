@@ -1,6 +1,6 @@
--- The causes of the table "Turned back", rows 3 to 10, and of 15 and 16 of 02 (Req 04), in their words, where a reading stands; and the rows that the sheet is
--- checked for there.
--- The tests by which the reader finds them are in Checks.antt; Decided.antt and Ranges.antt show that these tests decide the causes.
+-- The causes of the table "Turned back", rows 3 to 10, and of 15 to 17 of 02 (Req 04, Req 07), in their words, where a reading stands; and the rows that the
+-- sheet is checked for there. The tests by which the reader finds them are in Checks.antt; Decided.antt and Ranges.antt show that these tests decide the
+-- causes.
 use Prim.Native.Nat.{ℕ, _+_, _≤_, _<_}
 use mathlib.Core.Path.{_≡_}
 use mathlib.Core.List.{List, [], _∷_}
@@ -112,8 +112,8 @@ pub record OrderNotProper (tag blocks order : ℕ) : Type 0 where
 
 -- The rows that a field of a tag and a content length is checked for, in the order of the checks: "each field for 3, then 8 or 10 if its tag ends the
 -- section before, then 4, 5, 6, 7, 9"; 15 and 16 "both in the place of 6". At most one of the causes of 5, 6, 15 and 16 lies in a field (one whose length is
--- wrong has no values), so the order of these four rows among themselves decides nothing. 17 stands "right after the ranges of the same field and before 7". "Place is the offset of the tag of the field named": the head of
--- the section for 8 and 10, else the field.
+-- wrong has no values), so the order of these four rows among themselves decides nothing. 17 stands "right after the ranges of the same field and before 7".
+-- "Place is the offset of the tag of the field named": the head of the section for 8 and 10, else the field.
 abbrev pub cutRow : List ℕ → Reading → Row
 cutRow s st = row fieldCut (st .at) (FieldCut s (st .at))
 

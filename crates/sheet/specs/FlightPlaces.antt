@@ -1,7 +1,7 @@
--- Where the flight's head and its order field stand in a sheet (02, Req 06: 11 is given at one or the other), what turn the head gives, and which field each block
--- was read from (Req 07).
--- The idea: the place that the reading keeps is that of the field which it has just passed, and the fields between change neither it nor the turn; a block is added
--- behind those before it.
+-- Where the flight's head and its order field stand in a sheet (02, Req 06: 11 is given at one or the other), what turn the head gives, and which field each
+-- block was read from (Req 07).
+-- The idea: the place that the reading keeps is that of the field which it has just passed, and the fields between change neither it nor the turn; a block is
+-- added behind those before it.
 use Prim.Native.Nat.{ℕ, _+_, _≤_, _<_}
 use mathlib.Core.Path.{_≡_, refl, sym, ap, subst, _∙_}
 use mathlib.Core.Bool.{true, false, true≢false}
@@ -19,8 +19,8 @@ use Rattle.sheet.specs.Tags.{mosaicHeadTag, mosaicStripTag, sortingHeadT
 use Rattle.sheet.specs.Tags.{flightWindowBlockTag}
 use Rattle.sheet.specs.Sections.{inFlight, afterOrder}
 use Rattle.sheet.specs.Among.{Among}
-use Rattle.sheet.specs.FieldTable.{tableOf, lengthsDue}
-use Rattle.sheet.specs.Contents.{head-length}
+use Rattle.sheet.specs.FieldTable.{tableOf, lengthOf, lengthsDue, flightBlock, flightWindowBlock}
+use Rattle.sheet.specs.Contents.{head-length, sole-length, flight-block-content, flight-window-block-content}
 use Rattle.sheet.specs.Causes.{Permitted, fieldRows}
 use Rattle.sheet.specs.Rows.{NoCause}
 use Rattle.sheet.specs.Table.{Reached}
@@ -177,10 +177,11 @@ module _ (s : List ℕ) where
 abbrev pub blockAt : FlightSection → ℕ → Block
 blockAt f i = record { first = getD (f .first) i 0; shortest = getD (f .shortest) i 0; longest = getD (f .longest) i 0; second = getD (f .second) i 0 }
 
--- the field that a block was read from: one of tag 31, whose delay is exact, or one of tag 33, which carries "a, shortest delay, longest delay, b"
-pub data BlockRead (s : List ℕ) (b : Block) : Type 0 where
-  exact : (len at : ℕ) → FieldRead s flightBlockTag len at → b ≡ exactBlock s (at + 3) → BlockRead s b
-  window : (len at : ℕ) → FieldRead s flightWindowBlockTag len at → b ≡ windowBlock s (at + 3) → BlockRead s b
+-- the field that block i, from 0, was read from, i blocks having been read before it: one of tag 31, whose delay is exact, or one of tag 33, which carries
+-- "a, shortest delay, longest delay, b"
+pub data BlockRead (s : List ℕ) (i : ℕ) (b : Block) : Type 0 where
+  exact : (at : ℕ) (field : FieldRead s flightBlockTag 6 at) → field .reading .flight .blocks ≡ i → b ≡ exactBlock s (at + 3) → BlockRead s i b
+  window : (at : ℕ) (field : FieldRead s flightWindowBlockTag 8 at) → field .reading .flight .blocks ≡ i → b ≡ windowBlock s (at + 3) → BlockRead s i b
 
 -- a block that is added, and those before it
 module _ (b : Block) (f : FlightSection) (k : FlightWithin mostBlocks f) (room : f .blocks < mostBlocks) where
@@ -205,7 +206,7 @@ module _ (b : Block) (f : FlightSection) (k : FlightWithin mostBlocks f) (room :
       )
 
 module _ (s : List ℕ) (st : Reading) (tag len : ℕ) (r : Reached s st) (e : fieldAt s (st .at) ≡ Whole tag len) (c : NoCause (fieldRows s st tag len))
-    (before : (i : ℕ) → i < st .flight .blocks → BlockRead s (blockAt (st .flight) i)) where
+    (before : (i : ℕ) → i < st .flight .blocks → BlockRead s i (blockAt (st .flight) i)) where
   next : FlightSection
   next = nextFlight s (st .at + 3) tag len (st .at) (st .flight)
 
@@ -213,11 +214,31 @@ module _ (s : List ℕ) (st : Reading) (tag len : ℕ) (r : Reached s st) (e : f
   unfolding next nextReading
   most = reached-progress s (nextReading s st tag len) (past-field tag len r e c) .kept .flight .most-blocks
 
-  read-here : (t : ℕ) → tag ≡ t → FieldRead s t len (st .at)
-  read-here t q = subst (λ x. FieldRead s x len (st .at)) q (record { reading = st; reached = r; place-is = refl; whole = e; passes = c })
+  read-here : (t n : ℕ) → tag ≡ t → len ≡ n → FieldRead s t n (st .at)
+  read-here t n q h = record {
+    reading = st;
+    reached = r;
+    place-is = refl;
+    whole = subst (λ x. fieldAt s (st .at) ≡ Whole x n) q (subst (λ x. fieldAt s (st .at) ≡ Whole tag x) h e);
+    passes = subst (λ x. NoCause (fieldRows s st x n)) q (subst (λ x. NoCause (fieldRows s st tag x)) h c);
+  }
 
-  with-one-more : (b : Block) → next ≡ withBlock b (st .flight) → BlockRead s b → (i : ℕ) → Dec (i ≡ st .flight .blocks) → i < next .blocks
-      → BlockRead s (blockAt next i)
+  due-at : (t : ℕ) → tag ≡ t → Among len (lengthsDue t (tableOf st))
+  due-at t q = subst (λ x. Among len (lengthsDue x (tableOf st))) q (passed-rows s st tag len c .length-ok)
+
+  exact-length : tag ≡ flightBlockTag → len ≡ 6
+  unfolding flightBlock lengthOf
+  exact-length q =
+      sole-length flightBlockTag len _ flightBlock (flight-block-content (st .mosaic .stations) (st .sorting .desks)) (due-at flightBlockTag q)
+
+  window-length : tag ≡ flightWindowBlockTag → len ≡ 8
+  unfolding flightWindowBlock lengthOf
+  window-length q =
+      sole-length flightWindowBlockTag len _ flightWindowBlock (flight-window-block-content (st .mosaic .stations) (st .sorting .desks))
+      (due-at flightWindowBlockTag q)
+
+  with-one-more : (b : Block) → next ≡ withBlock b (st .flight) → BlockRead s (st .flight .blocks) b → (i : ℕ) → Dec (i ≡ st .flight .blocks)
+      → i < next .blocks → BlockRead s i (blockAt next i)
   unfolding withBlock
   with-one-more b q here i (yes h) l =
       let one-more = ap (λ (f : FlightSection). f .blocks) q in
@@ -226,8 +247,8 @@ module _ (s : List ℕ) (st : Reading) (tag len : ℕ) (r : Reached s st) (e : f
       let one-more = ap (λ (f : FlightSection). f .blocks) q in
       rw (q, block-before b (st .flight) (reached-progress s st r .kept .flight) (omega (arith, most, one-more)) i h) (before i (omega (arith, one-more)))
 
-  next-blocks-read : (i : ℕ) → i < next .blocks → BlockRead s (blockAt next i)
-  unfolding next nextFlight withFlightHead withOrder
+  next-blocks-read : (i : ℕ) → i < next .blocks → BlockRead s i (blockAt next i)
+  unfolding next nextFlight withFlightHead withOrder read-here
   next-blocks-read i l =
       go (ℕ-discrete tag flightHeadTag) (ℕ-discrete tag flightBlockTag) (ℕ-discrete tag flightWindowBlockTag) (ℕ-discrete tag flightOrderTag) l
     where
@@ -235,12 +256,14 @@ module _ (s : List ℕ) (st : Reading) (tag len : ℕ) (r : Reached s st) (e : f
       same f q l = rw q at l
 
       go : Dec (tag ≡ flightHeadTag) → Dec (tag ≡ flightBlockTag) → Dec (tag ≡ flightWindowBlockTag) → Dec (tag ≡ flightOrderTag) → i < next .blocks
-          → BlockRead s (blockAt next i)
+          → BlockRead s i (blockAt next i)
       go (yes q) d₂ d₃ d₄ l = absurd (omega (arith, same (withFlightHead s (st .at + 3) len (st .at)) (rw q) l))
       go (no n₁) (yes q) d₃ d₄ l =
-          with-one-more (exactBlock s (st .at + 3)) (rw q) (BlockRead.exact len (st .at) (read-here flightBlockTag q) refl) i (ℕ-discrete i _) l
+          with-one-more (exactBlock s (st .at + 3)) (rw q) (BlockRead.exact (st .at) (read-here flightBlockTag 6 q (exact-length q)) refl refl) i
+          (ℕ-discrete i _) l
       go (no n₁) (no n₂) (yes q) d₄ l =
-          with-one-more (windowBlock s (st .at + 3)) (rw q) (BlockRead.window len (st .at) (read-here flightWindowBlockTag q) refl) i (ℕ-discrete i _) l
+          with-one-more (windowBlock s (st .at + 3)) (rw q) (BlockRead.window (st .at) (read-here flightWindowBlockTag 8 q (window-length q)) refl refl) i
+          (ℕ-discrete i _) l
       go (no n₁) (no n₂) (no n₃) (yes q) l = rw q (before i (same (withOrder s (st .at + 3) (st .at) (st .flight)) (rw q) l))
       go (no n₁) (no n₂) (no n₃) (no n₄) l =
           let none : next ≡ st .flight =
@@ -248,16 +271,16 @@ module _ (s : List ℕ) (st : Reading) (tag len : ℕ) (r : Reached s st) (e : f
           rw none (before i (same (st .flight) none l))
 
 module _ (s : List ℕ) where
-  all-blocks-read : (st : Reading) → Reached s st → (i : ℕ) → i < st .flight .blocks → BlockRead s (blockAt (st .flight) i)
+  all-blocks-read : (st : Reading) → Reached s st → (i : ℕ) → i < st .flight .blocks → BlockRead s i (blockAt (st .flight) i)
   unfolding startReading noFlight nextReading next
   all-blocks-read st at-start i l = absurd (omega arith)
   all-blocks-read st (past-field {st = st₀} tag len r e c) i l = next-blocks-read s st₀ tag len r e c (λ j h. all-blocks-read st₀ r j h) i l
 
   -- Of a sheet that is read with number 0, each block of the flight was read from a field of the one tag or the other.
-  pub block-read : readSheet s .number ≡ 0 → (i : ℕ) → i < readSheet s .flight .blocks → BlockRead s (blockAt (readSheet s .flight) i)
+  pub block-read : readSheet s .number ≡ 0 → (i : ℕ) → i < readSheet s .flight .blocks → BlockRead s i (blockAt (readSheet s .flight) i)
   unfolding refused accepted
   block-read z = go (readSheet s) (read-outcome s) z
     where
-      go : (x : Sheet) → Outcome s x → x .number ≡ 0 → (i : ℕ) → i < x .flight .blocks → BlockRead s (blockAt (x .flight) i)
+      go : (x : Sheet) → Outcome s x → x .number ≡ 0 → (i : ℕ) → i < x .flight .blocks → BlockRead s i (blockAt (x .flight) i)
       go x (is-accepted st r c e) z = rw e (all-blocks-read st r)
       go x (is-refused st number place r c e) z = absurd (refused-some s st _ number place c (sym (ap (λ y. y .number) e) ∙ z))

@@ -448,39 +448,33 @@ module _ (before rest : List ℕ) (tag tag′ : ℕ) (content content′ : List 
       place = place ∙ sym (stays (length before) _ place-here);
     }
 
+    field-here : fieldAt (withField before tag content rest) (st .at) ≡ Whole tag (length content)
+    field-here = field-there before tag content rest told (st .at) e
+
+    longer-here : fieldAt (withField before tag′ content′ rest) (st .at) ≡ Whole tag′ (length content′)
+    longer-here = field-there before tag′ content′ rest told′ (st .at) e
+
     go-on : Dec (fieldNumber (withField before tag content rest) st tag (length content) ≡ 0)
         → SameButPlaces (length before) (readSheet (withField before tag content rest)) (readSheet (withField before tag′ content′ rest))
     unfolding rowsAt nextReading
     go-on (yes z) =
         later-same (withField before tag content rest) (withField before tag′ content′ rest) (length before) (length before + 3 + length content) (omega arith)
         longer same-behind (suc (length (withField before tag content rest))) behindField behindLonger (begun z)
-        (past-field tag (length content) r here (answer-passes _ _ _ (field-answers (withField before tag content rest) st tag (length content) here) z))
-        (past-field tag′ (length content′) reached-there there
-        (answer-passes _ _ _ (field-answers (withField before tag′ content′ rest) st tag′ (length content′) there) (sym number ∙ z)))
+        (past-field tag (length content) r field-here (answer-passes _ _ _ (field-answers (withField before tag content rest) st tag (length content) field-here) z))
+        (past-field tag′ (length content′) reached-there longer-here
+        (answer-passes _ _ _ (field-answers (withField before tag′ content′ rest) st tag′ (length content′) longer-here) (sym number ∙ z)))
         (omega arith)
-      where
-        here : fieldAt (withField before tag content rest) (st .at) ≡ Whole tag (length content)
-        here = field-there before tag content rest told (st .at) e
-
-        there : fieldAt (withField before tag′ content′ rest) (st .at) ≡ Whole tag′ (length content′)
-        there = field-there before tag′ content′ rest told′ (st .at) e
     go-on (no z) =
         rw (
           read-refused (withField before tag content rest) st _ _ r
-              (at-field (withField before tag content rest) st (Whole tag (length content)) _ _ here
-              (answer-fails _ _ _ (field-answers (withField before tag content rest) st tag (length content) here) z)),
+              (at-field (withField before tag content rest) st (Whole tag (length content)) _ _ field-here
+              (answer-fails _ _ _ (field-answers (withField before tag content rest) st tag (length content) field-here) z)),
           read-refused (withField before tag′ content′ rest) st _ _ reached-there
-              (at-field (withField before tag′ content′ rest) st (Whole tag′ (length content′)) _ _ there
-              (answer-fails _ _ _ (field-answers (withField before tag′ content′ rest) st tag′ (length content′) there) (λ x. z (number ∙ x)))),
+              (at-field (withField before tag′ content′ rest) st (Whole tag′ (length content′)) _ _ longer-here
+              (answer-fails _ _ _ (field-answers (withField before tag′ content′ rest) st tag′ (length content′) longer-here) (λ x. z (number ∙ x)))),
           ← number,
         )
         (refused-same (length before) _ _ _ (sym (stays (length before) _ (refusal-here _))))
-      where
-        here : fieldAt (withField before tag content rest) (st .at) ≡ Whole tag (length content)
-        here = field-there before tag content rest told (st .at) e
-
-        there : fieldAt (withField before tag′ content′ rest) (st .at) ≡ Whole tag′ (length content′)
-        there = field-there before tag′ content′ rest told′ (st .at) e
 
     pub replaced-same : SameButPlaces (length before) (readSheet (withField before tag content rest)) (readSheet (withField before tag′ content′ rest))
     replaced-same = go-on (ℕ-discrete _ 0)

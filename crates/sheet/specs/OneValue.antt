@@ -1,13 +1,14 @@
--- A window of one value is an exact delay (02, Req 07: "an exact delay being a window of one value"): with a block of tag 33 whose two bounds are the same, and
--- with a block of tag 31 in its place, the same sheet is read with the same number and the same sections, and the places of later fields are two higher.
+-- A window of one value is an exact delay (02, Req 07: "an exact delay being a window of one value"): with a block of tag 31, and with one of tag 33 in its
+-- place whose two bounds are its delay, the same sheet is read with the same number and the same sections, and in the second the places of later fields are two
+-- higher.
 -- The idea: both blocks have the same values, the delay once or twice, and add the same block (MovedPlaces.antt has what follows behind them).
 use Prim.Native.Nat.{ℕ, zero, suc, _+_, _≤_}
-use mathlib.Core.Path.{_≡_, refl, sym, ap, subst, _∙_}
-use mathlib.Core.Bool.{Bool, true, false, cond}
+use mathlib.Core.Path.{_≡_, refl, sym, ap, _∙_}
+use mathlib.Core.Bool.{Bool, true, false}
 use mathlib.Core.List.{List, [], _∷_, _++_}
 use mathlib.Core.Logic.{inl}
 use native.Mathlib.Omega.{arith}
-use lib.Dec.{leb, ltb, eqb}
+use lib.Dec.{ltb, eqb}
 use lib.ListN.{length}
 use borrow.Author.Tests.{eqb-true, le-leb}
 use Rattle.base.specs.Branch.{check}
@@ -16,15 +17,15 @@ use Rattle.sheet.specs.Limits.{mostBlocks}
 use Rattle.sheet.specs.Tags.{flightBlockTag, flightWindowBlockTag}
 use Rattle.sheet.specs.Refusals.{tagNotPermitted, tooMany}
 use Rattle.sheet.specs.Sections.{inFlight}
-use Rattle.sheet.specs.Among.{Among, isAmong, among-true}
+use Rattle.sheet.specs.Among.{Among, among-true}
 use Rattle.sheet.specs.FieldTable.{tableOf, lengthOf, lengthsOf, lengthsDue, flightBlock, flightWindowBlock, valuesOf}
 use Rattle.sheet.specs.Contents.{flight-block-content, flight-window-block-content, flight-block-values, flight-window-block-values}
 use Rattle.sheet.specs.Rows.{firstFailure}
-use Rattle.sheet.specs.Checks.{endsSection, sectionFilled, orderGiven, permitted, valueNumber, valueNumbers, rangeNumber, windowOrdered, hasRoom, orderProper}
+use Rattle.sheet.specs.Checks.{endsSection, sectionFilled, orderGiven, permitted, valueNumbers, rangeNumber, windowOrdered, hasRoom, orderProper}
 use Rattle.sheet.specs.Table.{Reached}
 use Rattle.sheet.specs.Decode.{exactBlock, windowBlock, withBlock, nextMosaic, nextSorting, nextFlight, nextSection, nextMembers, nextHead, nextReading}
 use Rattle.sheet.specs.Read.{contentChecks, fieldChecks, fieldNumber, readSheet}
-use Rattle.sheet.specs.SameContent.{withPlace, Alike, first-number, same-number}
+use Rattle.sheet.specs.SameContent.{same-number}
 use Rattle.sheet.specs.MovedPlaces.{SameButPlaces, withField, content-from, head-before, place-before, replaced-same}
 use Rattle.sheet.specs.declared.Block.{Block}
 use Rattle.sheet.specs.declared.Reading.{Reading}

@@ -1,6 +1,6 @@
 -- A sheet is refused where a reading has passed every field before, the cause of a row lies there, and that of no row before it. The rows are those of
 -- Causes.antt. Refused.antt shows that `readSheet` refuses exactly there, and that a sheet is sound exactly where `RefusedFor` holds of no number and place;
--- Values.antt, that `RefusedForValue` is what 6, 15 and 16 say, and `RefusedForWindow` what 17 says.
+-- Values.antt, that `RefusedForValue` is what 6, 15 and 16 say, and `RefusedForLongestBelowShortest` what 17 says.
 use Prim.Native.Nat.{ℕ, _+_}
 use mathlib.Core.Path.{_≡_}
 use mathlib.Core.List.{List}
@@ -54,12 +54,12 @@ RefusedForValue s Out place = RefusedForContent s (ValueOut s Out) place
 
 -- 17 (02, Req 07), "right after the ranges of the same field": all its values are within their ranges, and it is a window whose longest delay is below the
 -- shortest
-pub record WindowReversed (s : List ℕ) (st : Reading) (tag len : ℕ) : Type 0 where
+pub record LongestBelowInRange (s : List ℕ) (st : Reading) (tag len : ℕ) : Type 0 where
   pub in-range : InRange (fieldValues s (st .at + 3) tag len (tableOf st))
-  pub reversed : LongestBelowShortest tag (numberAt s (st .at + 3 + 2) 2) (numberAt s (st .at + 3 + 4) 2)
+  pub below : LongestBelowShortest tag (numberAt s (st .at + 3 + 2) 2) (numberAt s (st .at + 3 + 4) 2)
 
-abbrev pub RefusedForWindow : List ℕ → ℕ → Type 0
-RefusedForWindow s place = RefusedForContent s (WindowReversed s) place
+abbrev pub RefusedForLongestBelowShortest : List ℕ → ℕ → Type 0
+RefusedForLongestBelowShortest s place = RefusedForContent s (LongestBelowInRange s) place
 
 -- a sheet is read to its end
 pub record Complete (s : List ℕ) (st : Reading) : Type 0 where

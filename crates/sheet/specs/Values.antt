@@ -1,5 +1,5 @@
 -- 6, 15 and 16 are each given exactly where the first value that is not within its range is out of it in their way (`RefusedForValue`), and 17 exactly where
--- every value is within its range and a window's longest delay is below its shortest (`RefusedForWindow`).
+-- every value is within its range and a window's longest delay is below its shortest (`RefusedForLongestBelowShortest`).
 -- The idea: each of the four numbers stands in one row alone, and where its cause lies, no row before it fails.
 use Prim.Native.Nat.{ℕ, _+_, _<_}
 use mathlib.Core.Path.{_≡_, refl, sym, ap, subst}
@@ -12,14 +12,14 @@ use Rattle.field.specs.Field.{fieldAt}
 use Rattle.field.specs.declared.Field.{Field}
 use Rattle.field.specs.declared.Field.the-variants.{End, Cut, Whole}
 use Rattle.sheet.specs.Refusals.{outOfRange, timeTooLarge, timeOfZero, longestBelowShortest}
-use Rattle.sheet.specs.FieldTable.{tableOf, lengthsDue, Value, fieldValues}
+use Rattle.sheet.specs.FieldTable.{tableOf, lengthsDue, Value}
 use Rattle.sheet.specs.Among.{isAmong, among-else}
 use Rattle.sheet.specs.Rows.{Row, rowAt, Fails, firstFailure}
 use Rattle.sheet.specs.RowLaws.{passes-zero, fails-number, answer-fails, numbersOf, withoutRow, fails-other, fails-at, given-passes, given-fails}
-use Rattle.sheet.specs.Causes.{CountOutOfRange, TimeTooLarge, TimeOfZero, FirstOut, fieldRows, endRows, rowsAt}
+use Rattle.sheet.specs.Causes.{CountOutOfRange, TimeTooLarge, TimeOfZero, fieldRows, endRows, rowsAt}
 use Rattle.sheet.specs.Checks.{valueNumber}
 use Rattle.sheet.specs.Read.{contentChecks, fieldChecks, fieldNumber, placeOf}
-use Rattle.sheet.specs.Table.{RefusedFor, RefusedForContent, ValueOut, RefusedForValue, WindowReversed, RefusedForWindow}
+use Rattle.sheet.specs.Table.{RefusedFor, RefusedForContent, ValueOut, RefusedForValue, LongestBelowInRange, RefusedForLongestBelowShortest}
 use Rattle.sheet.specs.Ranges.{count-number, too-large-number, zero-number, first-out-number, range-passes}
 use Rattle.sheet.specs.Decided.{members-given, order-given, permitted-given, length-given, window-given, field-answers}
 use Rattle.sheet.specs.Theorems.{at-field}
@@ -64,15 +64,15 @@ value-refused Out number gives some at-field-itself s place f =
     (given-passes _ _ _ _ refl (passes-zero _ _ _ (length-given (f .len) (lengthsDue (f .tag) (tableOf (f .reading)))) (λ n. n (f .length-due)))
     (given-fails _ number _ (sym (first-out-number Out number some gives _ (f .fault))) (λ z. omega arith)))
 
-window-refused : (s : List ℕ) (place : ℕ) → RefusedForWindow s place → RefusedFor s longestBelowShortest place
+window-refused : (s : List ℕ) (place : ℕ) → RefusedForLongestBelowShortest s place → RefusedFor s longestBelowShortest place
 unfolding contentChecks check placeOf
 window-refused s place f =
     let st = f .reading in
-    content-refused (WindowReversed s) longestBelowShortest (omega arith) (λ head at. refl) s place f
+    content-refused (LongestBelowInRange s) longestBelowShortest (omega arith) (λ head at. refl) s place f
     (given-passes _ _ _ _ refl (passes-zero _ _ _ (length-given (f .len) (lengthsDue (f .tag) (tableOf st))) (λ n. n (f .length-due)))
     (given-passes _ _ _ _ refl (range-passes _ (f .fault .in-range))
     (given-fails _ longestBelowShortest _
-    (sym (fails-number _ _ _ (window-given (f .tag) (numberAt s (st .at + 3 + 2) 2) (numberAt s (st .at + 3 + 4) 2)) (f .fault .reversed)))
+    (sym (fails-number _ _ _ (window-given (f .tag) (numberAt s (st .at + 3 + 2) 2) (numberAt s (st .at + 3 + 4) 2)) (f .fault .below)))
     (λ z. omega arith))))
 
 -- .. and the number, which stands in row k alone, is given there only
@@ -134,10 +134,10 @@ module _ (s : List ℕ) (place : ℕ) where
     refused-content (ValueOut s TimeOfZero) timeOfZero 7 (omega arith) s place (λ st. refl) (λ st. refl) (λ st tag len. refl) (λ st tag len. refl) (λ st tag len before c. c),
   )
 
-  pub window-exactly : (RefusedForWindow s place → RefusedFor s longestBelowShortest place) × (RefusedFor s longestBelowShortest place → RefusedForWindow s place)
+  pub window-exactly : (RefusedForLongestBelowShortest s place → RefusedFor s longestBelowShortest place) × (RefusedFor s longestBelowShortest place → RefusedForLongestBelowShortest s place)
   unfolding rowsAt endRows fieldRows rowAt withoutRow numbersOf isAmong
   window-exactly = (
     window-refused s place,
-    refused-content (WindowReversed s) longestBelowShortest 8 (omega arith) s place (λ st. refl) (λ st. refl) (λ st tag len. refl) (λ st tag len. refl)
-        (λ st tag len before c. record { in-range = in-range _ (before 5 (omega arith)) (before 6 (omega arith)) (before 7 (omega arith)); reversed = c }),
+    refused-content (LongestBelowInRange s) longestBelowShortest 8 (omega arith) s place (λ st. refl) (λ st. refl) (λ st tag len. refl) (λ st tag len. refl)
+        (λ st tag len before c. record { in-range = in-range _ (before 5 (omega arith)) (before 6 (omega arith)) (before 7 (omega arith)); below = c }),
   )

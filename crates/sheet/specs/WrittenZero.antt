@@ -1,9 +1,10 @@
 -- A written turn of 0 is an empty flight head (02, Req 06: "an empty head means 0"): with the one or the other, the same sheet is read with the same number and
 -- the same sections, and the places of later fields are two higher.
--- The idea: both heads are refused or pass by the section before them alone, and begin a flight with a turn of 0 (MovedPlaces.antt has what follows behind them).
+-- The idea: both heads are refused or pass by the section before them alone, and begin a flight with a turn of 0 (MovedPlaces.antt has what follows behind
+-- them).
 use Prim.Native.Nat.{ℕ, _+_}
 use mathlib.Core.Path.{_≡_, refl, sym, ap, subst, _∙_}
-use mathlib.Core.Bool.{Bool, true, false, cond}
+use mathlib.Core.Bool.{cond}
 use mathlib.Core.List.{List, [], _∷_}
 use mathlib.Core.Logic.{inl, inr}
 use native.Mathlib.Omega.{arith}

@@ -31,8 +31,8 @@ pub struct Block {
     pub second: u64,
 }
 
-// The flight section: the turn between passes; first pass, shortest delay, longest delay and second pass of each block; the order number where one is given; and
-// the place that is returned where no timetable is possible, that of the order field, or of the head where no order is given.
+// The flight section: the turn between passes; first pass, shortest delay, longest delay and second pass of each block; the order number where one is given;
+// and the place that is returned where no timetable is possible, that of the order field, or of the head where no order is given.
 pub struct FlightSection {
     pub blocks: usize,
     pub turn: u64,

@@ -96,7 +96,7 @@ fn is_permitted(tag: u8, section: u64, members: usize) -> bool
 
 // Whether the window of a block that has one is not empty. The field's content begins at c.
 fn window_ordered(s: &[u8], c: usize, tag: u8) -> bool
-    requires { ⌜ c + 4 < 2 ^ 64 ⌝ }
+    requires { ⌜ c + 8 < 2 ^ 64 ⌝ }
     ensures { λ r. ⌜ r ≡ windowOrdered tag (numberAt (now (s .entry)) (c + 2) 2) (numberAt (now (s .entry)) (c + 4) 2) ⌝ }
 {
     if tag == FLIGHT_WINDOW_BLOCK {

@@ -1,5 +1,5 @@
-// The refusal number that the values of a field give by their ranges (01, the table of tags; 02, Req 04), 0 where each is in its range: one function a tag. Values are
-// examined from left to right, and the first one out of its range decides.
+// The refusal number that the values of a field give by their ranges (01, the table of tags; 02, Req 04), 0 where each is in its range: one function a tag.
+// Values are examined from left to right, and the first one out of its range decides.
 use field::byte;
 use field::number;
 use sheet::limits::MOST_DESKS;

@@ -51,19 +51,19 @@ module _ (s : List ℕ) (st : Reading) (tag len : ℕ) (k : Kept s st) (w : st .
   desk-strip-fits : tag ≡ sortingStripTag → stripsOfDesk (st .sorting .counts) (numberAt s (st .at + 3) 1) < mostStripsOfDesk
   desk-strip-fits e = below _ _ (λ m. p .room-ok (TooMany.strip-of-desk e m))
 
+  -- a block of either tag
+  fits-in-flight : eqb (st .section) inFlight ≡ true → (mostBlocks ≤ st .members → ⊥) → st .flight .blocks < mostBlocks
+  fits-in-flight h few =
+      let r : st .members < mostBlocks = below (st .members) mostBlocks few in
+      omega (arith, k .in-flight (eqb-true (st .section) inFlight h) .0)
+
   block-fits : tag ≡ flightBlockTag → st .flight .blocks < mostBlocks
   unfolding permitted
-  block-fits e =
-      let h : st .section ≡ inFlight = eqb-true (st .section) inFlight (rw e at (permitted-true tag (st .section) (st .members) (p .tag-ok))) in
-      let r : st .members < mostBlocks = below (st .members) mostBlocks (λ m. p .room-ok (TooMany.block e m)) in
-      omega (arith, k .in-flight h .0)
+  block-fits e = fits-in-flight (rw e at (permitted-true tag (st .section) (st .members) (p .tag-ok))) (λ m. p .room-ok (TooMany.block e m))
 
   window-block-fits : tag ≡ flightWindowBlockTag → st .flight .blocks < mostBlocks
   unfolding permitted
-  window-block-fits e =
-      let h : st .section ≡ inFlight = eqb-true (st .section) inFlight (rw e at (permitted-true tag (st .section) (st .members) (p .tag-ok))) in
-      let r : st .members < mostBlocks = below (st .members) mostBlocks (λ m. p .room-ok (TooMany.window-block e m)) in
-      omega (arith, k .in-flight h .0)
+  window-block-fits e = fits-in-flight (rw e at (permitted-true tag (st .section) (st .members) (p .tag-ok))) (λ m. p .room-ok (TooMany.window-block e m))
 
   pub next-pre : length s * 1 < 2 ^ 63 → NextReadingPre s st tag len
   next-pre big =

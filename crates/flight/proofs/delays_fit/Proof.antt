@@ -6,10 +6,10 @@ use Rattle.flight.proofs.delays_fit.Statement.{statement}
 use Rattle.flight.proofs.delays_fit.Tie as tie
 
 abbrev Inv-loop : tie.InvT-loop
-Inv-loop f n longest i₀ i = FitSoFar f n longest i
+Inv-loop f n upper i₀ i = FitSoFar f n upper i
 
 abbrev μ-loop : tie.MeasureT-loop
-μ-loop f n longest i₀ i = n - i
+μ-loop f n upper i₀ i = n - i
 
 loop-holds : tie.Need-loop-holds Inv-loop μ-loop
 loop-holds c = search fit-none

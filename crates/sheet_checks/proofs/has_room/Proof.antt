@@ -3,8 +3,8 @@ use mathlib.Core.Path.{_≡_}
 use Prim.Native.Nat.{ℕ}
 use lib.Dec.{ltb}
 use Rattle.base.specs.Branch.{branches}
-use Rattle.sheet.specs.Limits.{mostStrips}
-use Rattle.sheet.specs.Tags.{mosaicStripTag}
+use Rattle.sheet.specs.Limits.{mostStrips, mostBlocks}
+use Rattle.sheet.specs.Tags.{mosaicStripTag, flightWindowBlockTag}
 use Rattle.sheet.specs.Checks.{hasRoom}
 use Rattle.sheet_checks.proofs.has_room.Statement.{statement}
 use Rattle.sheet_checks.proofs.has_room.Tie as tie
@@ -24,9 +24,12 @@ returns-3 : tie.Need-returns-3
 unfolding hasRoom
 returns-3 c = search branches depth 14
 
-returns-4 : tie.Need-returns-4
+window-blocks : (tag members ofDesk : ℕ) → tag ≡ flightWindowBlockTag → ltb members mostBlocks ≡ hasRoom tag members ofDesk
 unfolding hasRoom
-returns-4 c = search branches depth 14
+window-blocks tag members ofDesk e = rw e
+
+returns-4 : tie.Need-returns-4
+returns-4 c = search window-blocks
 
 returns-5 : tie.Need-returns-5
 unfolding hasRoom

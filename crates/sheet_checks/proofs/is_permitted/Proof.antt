@@ -2,12 +2,12 @@
 use mathlib.Core.Path.{_≡_}
 use mathlib.Core.Bool.{Bool, false}
 use Prim.Native.Nat.{ℕ}
-use lib.Dec.{ltb}
+use lib.Dec.{eqb, ltb}
 use borrow.Author.Tests.{ne-eqb}
 use Rattle.base.specs.Branch.{branches}
 use Rattle.sheet.specs.Tags.{mosaicHeadTag, mosaicStripTag, sortingHeadTag, sortingStripTag, flightHeadTag, flightBlockTag, flightOrderTag}
 use Rattle.sheet.specs.Tags.{flightWindowBlockTag}
-use Rattle.sheet.specs.Sections.{inSorting}
+use Rattle.sheet.specs.Sections.{inSorting, inFlight}
 use Rattle.sheet.specs.Checks.{orderPermitted, permitted}
 use borrow.Author.Needs.{needs}
 use Rattle.sheet_checks.proofs.is_permitted.Statement.{statement}
@@ -43,9 +43,12 @@ returns-6 : tie.Need-returns-6
 unfolding permitted
 returns-6 c = search branches depth 14
 
-returns-7 : tie.Need-returns-7
+window-block : (tag section members : ℕ) → tag ≡ flightWindowBlockTag → eqb section inFlight ≡ permitted tag section members
 unfolding permitted
-returns-7 c = search branches depth 14
+window-block tag section members e = rw e
+
+returns-7 : tie.Need-returns-7
+returns-7 c = search window-block
 
 order-field : (tag section members : ℕ) (r : Bool) → tag ≡ flightOrderTag → r ≡ orderPermitted section members → r ≡ permitted tag section members
 unfolding permitted
