@@ -151,14 +151,14 @@ length-given len due = gives-check _ _ _ (false-not-among len due) (λ e n. n (t
 
 -- 17
 module _ (tag shortest longest : ℕ) where
+  below-false : LongestBelowShortest tag shortest longest → windowOrdered tag shortest longest ≡ false
+  unfolding windowOrdered
+  below-false c = rw (c .is-window) (lt-leb _ _ (c .below))
+
   false-below : windowOrdered tag shortest longest ≡ false → LongestBelowShortest tag shortest longest
   unfolding windowOrdered
   false-below e =
       ⊎-elim (λ h. record { is-window = h .0; below = leb-false _ _ (h .1) }) (λ n. absurd (true≢false n)) (split tag flightWindowBlockTag _ _ false e)
-
-  below-false : LongestBelowShortest tag shortest longest → windowOrdered tag shortest longest ≡ false
-  unfolding windowOrdered
-  below-false c = rw (c .is-window) (lt-leb _ _ (c .below))
 
   pub window-given : Gives (check (windowOrdered tag shortest longest) longestBelowShortest 0) longestBelowShortest
       (LongestBelowShortest tag shortest longest)
