@@ -396,15 +396,19 @@ def ordered_flights(rng, count):
     return of_families(rng, 2 * count, sheets.FLIGHTS, sheets.ordered_flight, 32)
 
 
-def small_flights_with_turns(rng, count):
-    """Small flights with a turn, every order tried; some also judged and printed."""
+def small_flights(rng, count, draw):
+    """Small flights, every order tried; some also judged and printed."""
     for number in range(share(count, 4)):
-        sheet = turns.small_flight(rng)
+        sheet = draw(rng)
         yield PlanCase(sheet, least=of_choices)
         if number % 4 == 0:
             yield from judged(rng, sheet)
             yield from itertools.starmap(PageCase, itertools.chain(pages.drawn(rng, sheet), pages.best(sheet)))
             yield from itertools.starmap(PagesCase, pages.pairs(rng, sheet))
+
+
+def small_flights_with_turns(rng, count):
+    return small_flights(rng, count, turns.small_flight)
 
 
 def impossible_flights(rng, count):
@@ -422,14 +426,7 @@ def drawn_turns_of_zero(rng, count):
 
 
 def small_flights_with_windows(rng, count):
-    """Small flights with windows, every order tried; some also judged and printed."""
-    for number in range(share(count, 4)):
-        sheet = windows.small_flight(rng)
-        yield PlanCase(sheet, least=of_choices)
-        if number % 4 == 0:
-            yield from judged(rng, sheet)
-            yield from itertools.starmap(PageCase, itertools.chain(pages.drawn(rng, sheet), pages.best(sheet)))
-            yield from itertools.starmap(PagesCase, pages.pairs(rng, sheet))
+    return small_flights(rng, count, windows.small_flight)
 
 
 def free_flights_with_windows(rng, count):

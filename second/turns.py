@@ -156,16 +156,16 @@ def field_rows():
 TIGHT = [(1, 4, 1), (2, 3, 1)]
 
 
-def changes():
+def changes(blocks=TIGHT):
     for number in (None, 0b1100):
-        yield from tiny.changes(flight(TIGHT, number, 1))
-        yield from tiny.beginnings(flight(TIGHT, number, 1))
+        yield from tiny.changes(flight(blocks, number, 1))
+        yield from tiny.beginnings(flight(blocks, number, 1))
 
 
-def changed_plans():
+def changed_plans(blocks=TIGHT):
     """A sheet and a plan, judged."""
-    plan = earliest_plan(TIGHT, 0b1100, 1)
-    return ((flight(TIGHT, 0b1100, 1), other) for other in tiny.changes(plan))
+    plan = earliest_plan(blocks, 0b1100, 1)
+    return ((flight(blocks, 0b1100, 1), other) for other in tiny.changes(plan))
 
 
 def plan_of_starts(blocks, starts, more=0):

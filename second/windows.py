@@ -240,15 +240,11 @@ LOOSE = [(1, 0, 6, 1), (2, 3, 4, 1)]
 
 
 def changes():
-    for number in (None, 0b1100):
-        yield from tiny.changes(flight(LOOSE, number, 1))
-        yield from tiny.beginnings(flight(LOOSE, number, 1))
+    return turns.changes(LOOSE)
 
 
 def changed_plans():
-    """A sheet and a plan, judged."""
-    plan = earliest_plan(LOOSE, 0b1100, 1)
-    return ((flight(LOOSE, 0b1100, 1), other) for other in tiny.changes(plan))
+    return turns.changed_plans(LOOSE)
 
 
 def every_start():

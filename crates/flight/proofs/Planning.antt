@@ -2,7 +2,7 @@
 use mathlib.Core.Path.{_≡_, refl, sym, ap, ap₂, subst, _∙_}
 use mathlib.Core.Bool.{Bool, true, false, not}
 use mathlib.Core.List.{List}
-use Prim.Native.Nat.{ℕ, _+_, _-_, _*_, _^_, _<_}
+use Prim.Native.Nat.{ℕ, _+_, _-_, _*_, _^_, _≤_, _<_}
 use native.Mathlib.Nat.{zero-add}
 use native.Mathlib.Omega.{arith}
 use lib.ListN.{length, getD, take, replicate}
@@ -12,6 +12,7 @@ use Rattle.base.specs.Zeros.{zeros-at}
 use Rattle.base.specs.Listed.{listed-same}
 use Rattle.order.specs.Order.{Proper}
 use Rattle.difference.specs.System.{value}
+use Rattle.sheet.specs.Limits.{mostTime}
 use Rattle.sheet.specs.Sound.{FlightSound}
 use Rattle.sheet.specs.declared.FlightSection.{FlightSection}
 use Rattle.rules.specs.declared.Passes.{Passes}
@@ -72,6 +73,11 @@ module _ (f : FlightSection) (w : ℕ) {rows₀ starts₀ : List ℕ} (pre : Pla
             (a .copied i l ∙ ap (λ (j : ℕ). getD starts j 0) (zero-add i) ∙ ap (λ (t : List ℕ). getD t i 0) (least .starts))
             (b .copied i l ∙ ap (λ (t : List ℕ). getD t (f .blocks + i) 0) (least .starts))
 
+-- delays of all blocks, within the limits of a sheet
+pub record DelaysWithin (f : FlightSection) (delays : List ℕ) : Type 0 where
+  pub long : f .blocks ≤ length delays
+  pub low : (i : ℕ) → getD delays i 0 ≤ mostTime
+
 module _ (f : FlightSection) where
   pub given-order : f .ordered ≡ true → f .order ≡ chosenOrder f
   given-order e = sym (chosen-given f e)
@@ -86,19 +92,29 @@ module _ (f : FlightSection) where
     pub order-unsearched : (w : ℕ) → not fits ≡ true → w ≡ oneByOne (f .blocks) → w ≡ chosenOrder f
     order-unsearched w h q = q ∙ sym (chosen-none f e (sym d ∙ not-true fits h))
 
-  pub block-times : SomeBlocks f → BlockTimes (f .blocks) (f .turn) (f .first) (f .second) (f .shortest) (f .longest)
-  block-times pre = record {
+  -- The delays are within the limits of a sheet.
+  pub shortest-within : SomeBlocks f → DelaysWithin f (f .shortest)
+  shortest-within pre =
+      record { long = omega (arith, pre .sound .shortest-length, pre .sound .most-blocks); low = λ i. omega (arith, pre .sound .window i, pre .sound .most-delay i) }
+
+  pub longest-within : SomeBlocks f → DelaysWithin f (f .longest)
+  longest-within pre =
+      record { long = omega (arith, pre .sound .longest-length, pre .sound .most-blocks); low = λ i. omega (arith, pre .sound .most-delay i) }
+
+  pub block-times : (lower upper : List ℕ) → SomeBlocks f → DelaysWithin f lower → DelaysWithin f upper
+      → BlockTimes (f .blocks) (f .turn) (f .first) (f .second) lower upper
+  block-times lower upper pre l u = record {
     some = pre .some;
     few = pre .sound .most-blocks;
     turn-low = pre .sound .most-turn;
     first-long = omega (arith, pre .sound .first-length, pre .sound .most-blocks);
     second-long = omega (arith, pre .sound .second-length, pre .sound .most-blocks);
-    shortest-long = omega (arith, pre .sound .shortest-length, pre .sound .most-blocks);
-    longest-long = omega (arith, pre .sound .longest-length, pre .sound .most-blocks);
+    shortest-long = l .long;
+    longest-long = u .long;
     first-low = λ i. omega (arith, pre .sound .most-first i);
     second-low = λ i. omega (arith, pre .sound .most-second i);
-    shortest-low = λ i. omega (arith, pre .sound .window i, pre .sound .most-delay i);
-    longest-low = λ i. omega (arith, pre .sound .most-delay i);
+    shortest-low = l .low;
+    longest-low = u .low;
   }
 
 -- The plan in the chosen order is the plan.

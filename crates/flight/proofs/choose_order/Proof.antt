@@ -1,5 +1,5 @@
 -- `flight::choose_order` meets its contract: the given order, or the one that the search takes; where no order is possible, none is searched for.
-use Rattle.flight.proofs.Planning.{given-order, order-unsearched, searched-order, block-times}
+use Rattle.flight.proofs.Planning.{given-order, order-unsearched, searched-order, block-times, shortest-within, longest-within}
 use borrow.Author.Needs.{needs}
 use Rattle.flight.proofs.choose_order.Statement.{statement}
 use Rattle.flight.proofs.choose_order.Tie as tie
@@ -29,7 +29,7 @@ slice-aggregate-best-order-4 : tie.Need-slice-aggregate-best-order-4
 slice-aggregate-best-order-4 c = search needs
 
 best-order-requires : tie.Need-best-order-requires
-best-order-requires c κs = search block-times
+best-order-requires c κs = search (block-times, shortest-within, longest-within)
 
 returns-3 : tie.Need-returns-3
 returns-3 c = search searched-order

@@ -24,7 +24,7 @@ array-read-earliest : tie.Need-array-read-earliest
 array-read-earliest c = search needs
 
 add-earliest : tie.Need-add-earliest
-add-earliest c = search earliest-fits
+add-earliest c = search (earliest-fits, latest-fits)
 
 mul-latest : tie.Need-mul-latest
 mul-latest c = search needs
@@ -33,7 +33,7 @@ array-read-latest : tie.Need-array-read-latest
 array-read-latest c = search needs
 
 add-latest : tie.Need-add-latest
-add-latest c = search latest-fits
+add-latest c = search (earliest-fits, latest-fits)
 
 mul-end : tie.Need-mul-end
 mul-end c = search needs
