@@ -1,22 +1,18 @@
 -- Laws of decoding: what the code builds from the values it read is what the definitions say.
 use Prim.Native.Nat.{ℕ, suc, _+_, _-_, _*_, _≤_, _<_}
 use mathlib.Core.Path.{_≡_, refl, sym, ap, _∙_}
-use mathlib.Core.Bool.{true}
 use mathlib.Core.List.{List}
 use native.Mathlib.Numerals.{add-one}
 use native.Mathlib.Omega.{arith}
 use lib.ListN.{length, set, length-set}
-use borrow.Author.Tests.{ne-eqb}
 use Rattle.field.specs.Bytes.{numberAt, NumberRead}
 use Rattle.sheet.specs.Decode.{zeros, noMosaic, noSorting, noFlight, startReading, withMosaicHead, withStationTimes, withMosaicStrip, withSortingHead}
-use Rattle.sheet.specs.Decode.{withStripAt, withSortingStrip, begunFlight, turnOf, withFlightHead, exactBlock, windowBlock, withBlock, withOrder, nextMosaic, nextSorting, nextFlight, nextSection, nextHead, nextMembers}
-use Rattle.sheet.specs.Decode.{nextReading}
+use Rattle.sheet.specs.Decode.{withStripAt, withSortingStrip, nextMosaic, nextSorting, nextFlight, nextSection, nextHead, nextMembers, nextReading}
 use Rattle.sheet.specs.Sections.{stripsOfDesk}
-use Rattle.sheet.specs.Tags.{sortingStripTag, flightBlockTag, flightWindowBlockTag}
+use Rattle.sheet.specs.Tags.{sortingStripTag}
 use Rattle.sheet.specs.Read.{refused}
 use Rattle.sheet.specs.declared.MosaicSection.{MosaicSection}
 use Rattle.sheet.specs.declared.SortingSection.{SortingSection}
-use Rattle.sheet.specs.declared.Block.{Block}
 use Rattle.sheet.specs.declared.FlightSection.{FlightSection}
 use Rattle.sheet.specs.declared.Reading.{Reading}
 use Rattle.sheet.specs.declared.Sheet.{Sheet}
@@ -84,57 +80,6 @@ pub strip-at-is : (s : List ℕ) (c : ℕ) (t : SortingSection) (d k scan desk :
     (withStripAt s c t d k)
 unfolding withStripAt
 strip-at-is s c t d k scan desk n₁ n₂ = rw (n₁ .is, n₂ .is)
-
--- the turn of a flight head
-pub no-turn : (s : List ℕ) (c len : ℕ) → len ≡ 0 → 0 ≡ turnOf s c len
-unfolding turnOf
-no-turn s c len e = rw e
-
-pub turn-read : (s : List ℕ) (c len turn : ℕ) → (len ≡ 0 → ⊥) → NumberRead s c 2 turn → turn ≡ turnOf s c len
-unfolding turnOf
-turn-read s c len turn h n = rw (ne-eqb len 0 h) (n .is)
-
-pub flight-head-is : (s : List ℕ) (c len at turn : ℕ) → turn ≡ turnOf s c len
-    → begunFlight turn at ≡ withFlightHead s c len at
-unfolding withFlightHead
-flight-head-is s c len at turn e = rw e
-
-pub exact-block-is : (s : List ℕ) (c a l b : ℕ) → NumberRead s c 2 a → NumberRead s (c + 2) 2 l → NumberRead s (c + 4) 2 b
-    → _≡_ {A = Block} (record { first = a; shortest = l; longest = l; second = b }) (exactBlock s c)
-unfolding exactBlock
-exact-block-is s c a l b n₁ n₂ n₃ = rw (n₁ .is, n₂ .is, n₃ .is)
-
-pub window-block-is : (s : List ℕ) (c a shortest longest b : ℕ) → NumberRead s c 2 a → NumberRead s (c + 2) 2 shortest → NumberRead s (c + 4) 2 longest
-    → NumberRead s (c + 6) 2 b → _≡_ {A = Block} (record { first = a; shortest = shortest; longest = longest; second = b }) (windowBlock s c)
-unfolding windowBlock
-window-block-is s c a shortest longest b n₁ n₂ n₃ n₄ = rw (n₁ .is, n₂ .is, n₃ .is, n₄ .is)
-
-pub exact-block-next : (s : List ℕ) (c tag len at : ℕ) (f r : FlightSection) (b : Block) → tag ≡ flightBlockTag → b ≡ exactBlock s c → r ≡ withBlock b f
-    → r ≡ nextFlight s c tag len at f
-unfolding nextFlight
-exact-block-next s c tag len at f r b e eb er = rw (e, ← eb) er
-
-pub window-block-next : (s : List ℕ) (c tag len at : ℕ) (f r : FlightSection) (b : Block) → tag ≡ flightWindowBlockTag → b ≡ windowBlock s c
-    → r ≡ withBlock b f → r ≡ nextFlight s c tag len at f
-unfolding nextFlight
-window-block-next s c tag len at f r b e eb er = rw (e, ← eb) er
-
-pub order-is : (s : List ℕ) (c at : ℕ) (f : FlightSection) (order : ℕ) → NumberRead s c 8 order
-    → _≡_ {A = FlightSection}
-    (record {
-      blocks = f .blocks;
-      turn = f .turn;
-      first = f .first;
-      shortest = f .shortest;
-      longest = f .longest;
-      second = f .second;
-      ordered = true;
-      order = order;
-      place = at;
-    })
-    (withOrder s c at f)
-unfolding withOrder
-order-is s c at f order n = rw (n .is)
 
 pub sorting-strip-is : (s : List ℕ) (c tag : ℕ) (t r : SortingSection) (desk d k : ℕ) → tag ≡ sortingStripTag → NumberRead s c 1 desk → d ≡ desk - 1
     → k ≡ stripsOfDesk (t .counts) desk → r ≡ withStripAt s c t d k → r ≡ nextSorting s c tag t

@@ -5,10 +5,11 @@ use mathlib.Core.List.{List}
 use native.Mathlib.Omega.{arith}
 use lib.ListN.{length}
 use Rattle.field.specs.Bytes.{numberAt, NumberRead}
-use Rattle.sheet.specs.Limits.{mostStations, mostStrips, mostDesks, mostStripsOfDesk, mostBlocks}
-use Rattle.sheet.specs.Tags.{mosaicStripTag, sortingStripTag, flightBlockTag, flightWindowBlockTag}
+use Rattle.sheet.specs.Limits.{mostStations, mostStrips, mostDesks, mostStripsOfDesk}
+use Rattle.sheet.specs.Tags.{mosaicStripTag, sortingStripTag}
 use Rattle.sheet.specs.Sections.{stripsOfDesk}
 use Rattle.sheet.specs.declared.Reading.{Reading}
+use Rattle.flight_decode.specs.Pre.{NextFlightPre}
 
 -- room in the arrays for one member more, whose content begins at c
 pub record StationTimesPre (c base count : ℕ) : Type 0 where
@@ -37,11 +38,6 @@ pub record NextSortingPre (c tag desk ofDesk : ℕ) : Type 0 where
   pub desk-fits : tag ≡ sortingStripTag → desk ≤ mostDesks
   pub strip-fits : tag ≡ sortingStripTag → ofDesk < mostStripsOfDesk
 
-pub record NextFlightPre (c tag blocks : ℕ) : Type 0 where
-  pub content : c + 8 < 2 ^ 64
-  pub block-fits : tag ≡ flightBlockTag → blocks < mostBlocks
-  pub window-block-fits : tag ≡ flightWindowBlockTag → blocks < mostBlocks
-
 pub record NextReadingPre (s : List ℕ) (st : Reading) (tag len : ℕ) : Type 0 where
   pub within : st .at + 3 + len ≤ length s
   pub few-members : st .members ≤ st .at
@@ -57,9 +53,3 @@ pub desk-pre : (s : List ℕ) (c tag : ℕ) (counts : List ℕ) (desk d k : ℕ)
     → tag ≡ sortingStripTag → NumberRead s c 1 desk → d ≡ desk - 1 → k ≡ stripsOfDesk counts desk → StripAtPre c d k
 desk-pre s c tag counts desk d k r e n ed ek =
     record { content = r .content; desk-fits = omega (arith, r .desk-fits e, n .is); strip-fits = rw (ek, n .is) (r .strip-fits e) }
-
-pub block-fits : (c tag blocks : ℕ) → NextFlightPre c tag blocks → tag ≡ flightBlockTag → blocks < mostBlocks
-block-fits c tag blocks r e = r .block-fits e
-
-pub window-block-fits : (c tag blocks : ℕ) → NextFlightPre c tag blocks → tag ≡ flightWindowBlockTag → blocks < mostBlocks
-window-block-fits c tag blocks r e = r .window-block-fits e

@@ -1,11 +1,11 @@
 -- `next_flight` meets its contract: one case a tag; there is room for another block.
 use Rattle.base.specs.Branch.{branches}
 use Rattle.sheet.specs.Decode.{nextFlight}
-use Rattle.sheet_decode.specs.Pre.{block-fits, window-block-fits}
-use Rattle.sheet_decode.specs.DecodeLaws.{exact-block-next, window-block-next}
+use Rattle.flight_decode.specs.Pre.{block-fits, window-block-fits}
+use Rattle.flight_decode.specs.FlightLaws.{exact-block-next, window-block-next}
 use borrow.Author.Needs.{needs}
-use Rattle.sheet_decode.proofs.next_flight.Statement.{statement}
-use Rattle.sheet_decode.proofs.next_flight.Tie as tie
+use Rattle.flight_decode.proofs.next_flight.Statement.{statement}
+use Rattle.flight_decode.proofs.next_flight.Tie as tie
 
 with-flight-head-requires : tie.Need-with-flight-head-requires
 with-flight-head-requires c κs = search needs

@@ -1,8 +1,8 @@
 -- `exact_block` meets its contract: the three numbers are read where the definition reads them.
-use Rattle.sheet_decode.specs.DecodeLaws.{exact-block-is}
+use Rattle.flight_decode.specs.FlightLaws.{exact-block-is}
 use borrow.Author.Needs.{needs}
-use Rattle.sheet_decode.proofs.exact_block.Statement.{statement}
-use Rattle.sheet_decode.proofs.exact_block.Tie as tie
+use Rattle.flight_decode.proofs.exact_block.Statement.{statement}
+use Rattle.flight_decode.proofs.exact_block.Tie as tie
 
 number-requires : tie.Need-number-requires
 number-requires c κs = search needs

@@ -1,9 +1,9 @@
 -- `with_flight_head` meets its contract: the definition, with the turn read.
 use Rattle.sheet.specs.Decode.{zeros}
-use Rattle.sheet_decode.specs.DecodeLaws.{flight-head-is}
+use Rattle.flight_decode.specs.FlightLaws.{flight-head-is}
 use borrow.Author.Needs.{needs}
-use Rattle.sheet_decode.proofs.with_flight_head.Statement.{statement}
-use Rattle.sheet_decode.proofs.with_flight_head.Tie as tie
+use Rattle.flight_decode.proofs.with_flight_head.Statement.{statement}
+use Rattle.flight_decode.proofs.with_flight_head.Tie as tie
 
 turn-of-requires : tie.Need-turn-of-requires
 turn-of-requires c κs = search needs

@@ -1,8 +1,8 @@
 -- `with_block` meets its contract: the block's numbers are stored at its place.
 use Rattle.sheet.specs.Decode.{withBlock}
 use borrow.Author.Needs.{needs}
-use Rattle.sheet_decode.proofs.with_block.Statement.{statement}
-use Rattle.sheet_decode.proofs.with_block.Tie as tie
+use Rattle.flight_decode.proofs.with_block.Statement.{statement}
+use Rattle.flight_decode.proofs.with_block.Tie as tie
 
 mul-first : tie.Need-mul-first
 mul-first c = search needs

@@ -1,8 +1,8 @@
 -- `with_order` meets its contract: the number read is the order, and the field's offset its place.
-use Rattle.sheet_decode.specs.DecodeLaws.{order-is}
+use Rattle.flight_decode.specs.FlightLaws.{order-is}
 use borrow.Author.Needs.{needs}
-use Rattle.sheet_decode.proofs.with_order.Statement.{statement}
-use Rattle.sheet_decode.proofs.with_order.Tie as tie
+use Rattle.flight_decode.proofs.with_order.Statement.{statement}
+use Rattle.flight_decode.proofs.with_order.Tie as tie
 
 number-requires : tie.Need-number-requires
 number-requires c κs = search needs

@@ -1,8 +1,8 @@
 -- `turn_of` meets its contract: an empty head means 0, another has the number read.
-use Rattle.sheet_decode.specs.DecodeLaws.{no-turn, turn-read}
+use Rattle.flight_decode.specs.FlightLaws.{no-turn, turn-read}
 use borrow.Author.Needs.{needs}
-use Rattle.sheet_decode.proofs.turn_of.Statement.{statement}
-use Rattle.sheet_decode.proofs.turn_of.Tie as tie
+use Rattle.flight_decode.proofs.turn_of.Statement.{statement}
+use Rattle.flight_decode.proofs.turn_of.Tie as tie
 
 returns : tie.Need-returns
 returns c = search no-turn

@@ -1,8 +1,8 @@
 -- `window_block` meets its contract: the four numbers are read where the definition reads them.
-use Rattle.sheet_decode.specs.DecodeLaws.{window-block-is}
+use Rattle.flight_decode.specs.FlightLaws.{window-block-is}
 use borrow.Author.Needs.{needs}
-use Rattle.sheet_decode.proofs.window_block.Statement.{statement}
-use Rattle.sheet_decode.proofs.window_block.Tie as tie
+use Rattle.flight_decode.proofs.window_block.Statement.{statement}
+use Rattle.flight_decode.proofs.window_block.Tie as tie
 
 number-requires : tie.Need-number-requires
 number-requires c κs = search needs

@@ -1,8 +1,8 @@
 -- `no_flight` meets its contract: it is the definition, field by field.
 use mathlib.Core.Path.{refl}
 use Rattle.sheet.specs.Decode.{zeros, noFlight}
-use Rattle.sheet_decode.proofs.no_flight.Statement.{statement}
-use Rattle.sheet_decode.proofs.no_flight.Tie as tie
+use Rattle.flight_decode.proofs.no_flight.Statement.{statement}
+use Rattle.flight_decode.proofs.no_flight.Tie as tie
 
 returns : tie.Need-returns
 unfolding zeros noFlight
