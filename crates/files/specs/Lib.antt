@@ -1,4 +1,2 @@
--- What reading leaves in a buffer, what is stored in one, and what a program writes for an answer.
+-- What reading leaves in a buffer.
 pub mod Input
-pub mod Text
-pub mod Reply

@@ -1,8 +1,5 @@
-// What the programs share: an input is read to its end, an answer is put together and written whole, and what failed is said on standard error.
+// What the programs share: an input is read to its end, an answer is written whole, and what failed is said on standard error.
 // No contract can say what a read delivers or whether a write succeeds: those are C's. It says what of the buffer counts.
-pub mod reply;
-pub mod text;
-
 ghost use mathlib.Core.Path.{_≡_};
 ghost use Prim.Native.Nat.{_≤_};
 ghost use lib.ListN.{length};

@@ -15,7 +15,7 @@ use Rattle.sheet.specs.declared.Sheet.{Sheet}
 use Rattle.flight.specs.Choice.{isPossible}
 use Rattle.planner.specs.Call.{Called, answerOf, plannedBytes, sheetAnswer, sheetPlan}
 use Rattle.planner.specs.Outcomes.{Large}
-use Rattle.files.specs.Reply.{replyBytes, Replied, ReplyPre, CallLeaves, reply-asked, replied}
+use Rattle.reply.specs.Reply.{replyBytes, Replied, ReplyPre, CallLeaves, reply-asked, replied}
 use Rattle.plan_sheet.specs.Reply.{sheetReply}
 
 -- the length that is answered is the plan's, and a sheet that is refused has no plan

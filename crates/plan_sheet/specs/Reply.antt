@@ -3,7 +3,7 @@ use Prim.Native.Nat.{ℕ}
 use mathlib.Core.List.{List}
 use Rattle.sheet.specs.Read.{readSheet}
 use Rattle.planner.specs.Call.{sheetAnswer, sheetPlan}
-use Rattle.files.specs.Reply.{replyBytes}
+use Rattle.reply.specs.Reply.{replyBytes}
 
 -- with buffers that are large enough (planner, Outcomes.antt)
 unfoldable pub sheetReply : List ℕ → List ℕ

@@ -1,8 +1,8 @@
 // Reads a sheet from standard input, at most its first 65,536 bytes, and writes its plan, or the field of its refusal.
-use files::reply::put_reply;
+use reply::put_reply;
 use sheet::limits::PLAN_LENGTH;
 use sheet::limits::TABLE_LENGTH;
-ghost use Rattle.files.specs.Reply.{Replied};
+ghost use Rattle.reply.specs.Reply.{Replied};
 ghost use Rattle.planner.specs.Outcomes.{Large};
 ghost use Rattle.plan_sheet.specs.Reply.{sheetReply};
 

@@ -12,7 +12,7 @@ use Rattle.field.specs.Put.{holding}
 use Rattle.sheet.specs.Limits.{pageLength}
 use Rattle.judge.specs.Judged.{judged}
 use Rattle.page.specs.Call.{Paged, pageAnswer, pagedBytes, printedAnswer, printed}
-use Rattle.files.specs.Reply.{replyBytes, Replied, ReplyPre, CallLeaves, reply-asked, replied}
+use Rattle.reply.specs.Reply.{replyBytes, Replied, ReplyPre, CallLeaves, reply-asked, replied}
 use Rattle.print_page.specs.Reply.{pageReply}
 
 -- the length that is answered is the page's, and a plan that is refused has no page

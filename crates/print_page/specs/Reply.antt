@@ -2,7 +2,7 @@
 use Prim.Native.Nat.{ℕ}
 use mathlib.Core.List.{List}
 use Rattle.page.specs.Call.{printedAnswer, printed}
-use Rattle.files.specs.Reply.{replyBytes}
+use Rattle.reply.specs.Reply.{replyBytes}
 
 -- with a page buffer that is large enough
 unfoldable pub pageReply : List ℕ → List ℕ → List ℕ

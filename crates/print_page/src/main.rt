@@ -1,10 +1,10 @@
 // Prints a plan for a sheet: two file names as arguments. Writes the page, or the field of the refusal where the judge does not allow the plan.
 // Of each file at most the first 65,536 bytes are read. A file that cannot be read gets a message on standard error, and no page.
-use files::reply::put_reply;
+use reply::put_reply;
 use sheet::limits::PAGE_LENGTH;
 ghost use Prim.Native.Nat.{_≤_};
 ghost use lib.ListN.{length};
-ghost use Rattle.files.specs.Reply.{Replied};
+ghost use Rattle.reply.specs.Reply.{Replied};
 ghost use Rattle.sheet.specs.Limits.{pageLength};
 ghost use Rattle.print_page.specs.Reply.{pageReply};
 

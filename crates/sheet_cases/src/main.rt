@@ -1,7 +1,7 @@
 // Reads sheets from standard input, each behind its length in two bytes, and writes a line for each: the number and place that its reading
 // gives, and where it is sound the strips of its mosaic, those of each desk, its blocks, its turn and its order number.
-use files::text::put_decimal;
 use sheet::Sheet;
+use text::put_decimal;
 
 // Writes number and place. Returns whether all was written; so do the next two.
 fn write_place(number: u64, place: u64) -> bool {

@@ -1,8 +1,8 @@
 -- `digits_of` meets its contract: a number of 64 bits has at most 20 digits.
 use borrow.Author.Needs.{needs}
-use Rattle.files.specs.Text.{digits-few}
-use Rattle.files.proofs.text.digits_of.Statement.{statement}
-use Rattle.files.proofs.text.digits_of.Tie as tie
+use Rattle.text.specs.Text.{digits-few}
+use Rattle.text.proofs.digits_of.Statement.{statement}
+use Rattle.text.proofs.digits_of.Tie as tie
 
 decimal-requires : tie.Need-decimal-requires
 decimal-requires c κs = search needs

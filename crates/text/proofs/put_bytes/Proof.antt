@@ -2,9 +2,9 @@
 use Prim.Native.Nat.{_-_}
 use borrow.Author.Needs.{needs}
 use lib.ListN.{length}
-use Rattle.files.specs.Text.{Storing, storing-none, storing-more, storing-all}
-use Rattle.files.proofs.text.put_bytes.Statement.{statement}
-use Rattle.files.proofs.text.put_bytes.Tie as tie
+use Rattle.text.specs.Text.{Storing, storing-none, storing-more, storing-all}
+use Rattle.text.proofs.put_bytes.Statement.{statement}
+use Rattle.text.proofs.put_bytes.Tie as tie
 
 abbrev Inv-loop : tie.InvT-loop
 Inv-loop out₀ at bytes done₀ out done = Storing out₀ at bytes out done

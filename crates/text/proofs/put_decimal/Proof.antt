@@ -1,8 +1,8 @@
 -- `put_decimal` meets its contract: the digits stand behind the name.
 use borrow.Author.Needs.{needs}
-use Rattle.files.specs.Text.{decimal-put}
-use Rattle.files.proofs.text.put_decimal.Statement.{statement}
-use Rattle.files.proofs.text.put_decimal.Tie as tie
+use Rattle.text.specs.Text.{decimal-put}
+use Rattle.text.proofs.put_decimal.Statement.{statement}
+use Rattle.text.proofs.put_decimal.Tie as tie
 
 digits-of-requires : tie.Need-digits-of-requires
 digits-of-requires c κs = search needs

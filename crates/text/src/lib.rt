@@ -1,7 +1,7 @@
 // Text in a lent buffer, one part behind the other.
 ghost use Prim.Native.Nat.{_+_, _≤_};
 ghost use lib.ListN.{length};
-ghost use Rattle.files.specs.Text.{BytesPut, DecimalPut, DigitsOf};
+ghost use Rattle.text.specs.Text.{BytesPut, DecimalPut, DigitsOf};
 
 // Stores bytes at an offset. Returns the offset behind them.
 pub fn put_bytes(out: &mut [u8], at: usize, bytes: &[u8]) -> usize

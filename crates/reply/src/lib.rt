@@ -1,6 +1,6 @@
 // What a program writes for the answer of a call.
 ghost use lib.ListN.{take};
-ghost use Rattle.files.specs.Reply.{ReplyPre, Replied, replyBytes};
+ghost use Rattle.reply.specs.Reply.{ReplyPre, Replied, replyBytes};
 use base::Answer;
 use plan_fields::heads::put_refusal;
 use plan_format::REFUSAL_SIZE;

@@ -1,8 +1,8 @@
 -- `put_reply` meets its contract: what an accepted call wrote stays, and the field of a refusal is what is put.
 use borrow.Author.Needs.{needs}
-use Rattle.files.specs.Reply.{reply-kept, reply-refused}
-use Rattle.files.proofs.reply.put_reply.Statement.{statement}
-use Rattle.files.proofs.reply.put_reply.Tie as tie
+use Rattle.reply.specs.Reply.{reply-kept, reply-refused}
+use Rattle.reply.proofs.put_reply.Statement.{statement}
+use Rattle.reply.proofs.put_reply.Tie as tie
 
 returns : tie.Need-returns
 returns c = search reply-kept

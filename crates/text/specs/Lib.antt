@@ -1,0 +1,2 @@
+-- What the functions store in a lent buffer.
+pub mod Text
