@@ -1,6 +1,5 @@
 -- A candidate's figure fits and is what the recursion has for closing the batch; the least of the candidates is the recursion's value.
 use mathlib.Core.Path.{_≡_, refl, _∙_, sym}
-use mathlib.Core.Bool.{Bool, true, false}
 use mathlib.Core.List.{List}
 use Prim.Native.Nat.{ℕ, _+_, _*_, _-_, _≤_, _<_, _^_, min}
 use native.Mathlib.Nat.{mul-le-mul}
@@ -10,8 +9,8 @@ use Rattle.sheet.specs.Limits.{mostStrips}
 use Rattle.batching.specs.Least.{benchStart}
 use Rattle.batching.specs.Index.{leastAt, openAt, closedAt}
 use Rattle.batching.specs.Caps.{finishCap, batchCap}
-use Rattle.batching.specs.Tables.{width, instanceIn, InTime, ChooseBatchPre, CandidatePre}
-use Rattle.batching.specs.Recursion.{least-open, open-last, open-more}
+use Rattle.batching.specs.Tables.{width, instanceIn, ChooseBatchPre, CandidatePre}
+use Rattle.batching.specs.Recursion.{start-in-time, start-late, least-open, open-last, open-more}
 use Rattle.batching.specs.Bounds.{least-most}
 
 module _ {rs sums late row : List ℕ} {s n free i q : ℕ} (P : CandidatePre rs sums late row s n free i q) where
@@ -36,15 +35,15 @@ module _ {rs sums late row : List ℕ} {s n free i q : ℕ} (P : CandidatePre rs
   pub candidate-sum : (q - i) * (free + s + (getD sums q 0 - getD sums i 0)) + getD row q 0 < 2 ^ 64
   candidate-sum = omega (arith, product-max, row-is, least-most (P .from .input) q (free + s + (getD sums q 0 - getD sums i 0)) finish-max)
 
-  pub candidate-in-time : {answer : Bool} → InTime s free (getD rs (q - 1) 0) answer → answer ≡ true
+  pub candidate-in-time : getD rs (q - 1) 0 ≤ free + s
       → (q - i) * (free + s + (getD sums q 0 - getD sums i 0)) + getD row q 0
       ≡ closedAt (instanceIn rs sums s n) (benchStart s free (getD rs (q - 1) 0)) i q
   unfolding closedAt
-  candidate-in-time T h = rw (T .yes h, row-is)
+  candidate-in-time h = rw (start-in-time s free (getD rs (q - 1) 0) h, row-is)
 
-  pub candidate-late : {answer : Bool} → InTime s free (getD rs (q - 1) 0) answer → answer ≡ false
+  pub candidate-late : free + s < getD rs (q - 1) 0
       → getD late (width * i + q) 0 ≡ closedAt (instanceIn rs sums s n) (benchStart s free (getD rs (q - 1) 0)) i q
-  candidate-late T h = rw (T .no h) (P .from .ahead .late-at q (P .first) (P .last))
+  candidate-late h = rw (start-late s free (getD rs (q - 1) 0) h) (P .from .ahead .late-at q (P .first) (P .last))
 
 -- the least of the candidates from n down to q
 pub record LeastSoFar (rs sums : List ℕ) (s n free i q least : ℕ) : Type 0 where

@@ -1,5 +1,5 @@
--- The figures of the batches that wait for their last strip, from the last strip back: a batch's bench work begins when its last strip is ready and mounted,
--- at a time that no earlier batch changes, and the row of the block that it begins has what is least after it.
+-- The figures of the batches that wait for their last strip, from the last strip back: a batch's bench work starts when its last strip is ready, at a time
+-- that no earlier batch changes, and the row of the block that it begins has what is least after it.
 use mathlib.Core.Path.{_≡_, refl, _∙_}
 use mathlib.Core.List.{List}
 use Prim.Native.Nat.{ℕ, _+_, _*_, _-_, _≤_, _<_, _^_}
@@ -9,16 +9,15 @@ use native.Mathlib.Omega.{arith}
 use lib.ListN.{length, getD, set, length-set}
 use lib.Seq.{getD-set-same, getD-set-other}
 use Rattle.sheet.specs.Limits.{mostStrips}
-use Rattle.batching.specs.Index.{lateStart, leastAt, closedAt}
-use Rattle.batching.specs.Caps.{readyCap, mountCap, finishCap, batchCap}
+use Rattle.batching.specs.Index.{leastAt, closedAt}
+use Rattle.batching.specs.Caps.{finishCap, batchCap}
 use Rattle.batching.specs.Tables.{width, instanceIn, RowFilled, LateFrom, FillBlockPre, FillLateAfterPre, LateAfter, FillLatePre, LateFilled}
-use Rattle.batching.specs.Recursion.{late-max}
 use Rattle.batching.specs.Bounds.{least-most}
 
 -- the batches of the strips after i up to q are done
 pub record LateSoFar (rs sums late₀ row₀ late row : List ℕ) (s n i q : ℕ) : Type 0 where
   pub kept : (k : ℕ) → ((p : ℕ) → i < p → p ≤ n → k ≡ width * i + p → ⊥) → getD late k 0 ≡ getD late₀ k 0
-  pub done : (p : ℕ) → i < p → p ≤ q → getD late (width * i + p) 0 ≡ closedAt (instanceIn rs sums s n) (lateStart s (getD rs (p - 1) 0)) i p
+  pub done : (p : ℕ) → i < p → p ≤ q → getD late (width * i + p) 0 ≡ closedAt (instanceIn rs sums s n) (getD rs (p - 1) 0) i p
   pub from : i ≤ q
   pub to : q ≤ n
   pub late-len : length late ≡ length late₀
@@ -36,71 +35,68 @@ module _ {rs sums late₀ row₀ : List ℕ} {s n i : ℕ} (P : FillLateAfterPre
   }
 
   module _ {late row : List ℕ} {q : ℕ} (M : LateSoFar rs sums late₀ row₀ late row s n i q) (h : q < n) where
-    pub after-ready : getD rs (q + 1 - 1) 0 + s < 2 ^ 64
-    after-ready = omega (arith, P .input .most-mount, P .input .most-ready (q + 1 - 1))
-
     pub after-sub : getD sums i 0 ≤ getD sums (q + 1) 0
     after-sub = P .input .rise i (q + 1) (omega (arith, M .from)) (omega arith)
 
-    module _ {begin : ℕ} (b : begin ≡ lateStart s (getD rs (q + 1 - 1) 0)) where
-      begin-most : begin ≤ readyCap + mountCap
-      begin-most = omega (arith, P .input .most-mount, P .input .most-ready (q + 1 - 1), late-max s (getD rs (q + 1 - 1) 0))
+    -- when the bench work of the batch starts: strip q + 1 is ready
+    abbrev begin : ℕ
+    begin = getD rs (q + 1 - 1) 0
 
-      -- the batches of the later strips are as they were
-      later-at : (j p : ℕ) → i < j → j < p → p ≤ n → getD late (width * j + p) 0 ≡ closedAt (instanceIn rs sums s n) (lateStart s (getD rs (p - 1) 0)) j p
-      later-at j p g k l = M .kept (width * j + p) (λ r a b e. omega (arith, P .input .most-strips)) ∙ P .later .at j p (omega arith) k l
+    -- the batches of the later strips are as they were
+    later-at : (j p : ℕ) → i < j → j < p → p ≤ n → getD late (width * j + p) 0 ≡ closedAt (instanceIn rs sums s n) (getD rs (p - 1) 0) j p
+    later-at j p g k l = M .kept (width * j + p) (λ r a b e. omega (arith, P .input .most-strips)) ∙ P .later .at j p (omega arith) k l
 
-      pub after-block : FillBlockPre rs sums late row s n begin i (q + 1)
-      after-block = record {
-        input = P .input;
-        later = record { at = λ j p g k l. later-at j p (omega (arith, M .from)) k l };
-        late-long = omega (arith, P .late-long, M .late-len);
-        row-long = omega (arith, P .row-long, M .row-len);
-        from = omega (arith, M .from);
-        inside = omega arith;
-        most-begin = omega (arith, begin-most);
-      }
+    pub after-block : FillBlockPre rs sums late row s n begin i (q + 1)
+    after-block = record {
+      input = P .input;
+      later = record { at = λ j p g k l. later-at j p (omega (arith, M .from)) k l };
+      late-long = omega (arith, P .late-long, M .late-len);
+      row-long = omega (arith, P .row-long, M .row-len);
+      from = omega (arith, M .from);
+      inside = omega arith;
+      most-begin = omega (arith, P .input .most-ready (q + 1 - 1));
+    }
 
-      finish-most : begin + (getD sums (q + 1) 0 - getD sums i 0) ≤ finishCap
-      finish-most = omega (arith, P .input .most-sum (q + 1) (omega arith), begin-most)
+    finish-most : begin + (getD sums (q + 1) 0 - getD sums i 0) ≤ finishCap
+    finish-most = omega (arith, P .input .most-sum (q + 1) (omega arith), P .input .most-ready (q + 1 - 1))
 
-      pub after-finish : begin + (getD sums (q + 1) 0 - getD sums i 0) < 2 ^ 64
-      after-finish = omega (arith, finish-most)
+    pub after-finish : begin + (getD sums (q + 1) 0 - getD sums i 0) < 2 ^ 64
+    after-finish = omega (arith, finish-most)
 
-      product-most : (q + 1 - i) * (begin + (getD sums (q + 1) 0 - getD sums i 0)) ≤ batchCap
-      product-most = mul-le-mul {n₂ = mostStrips} {m₂ = finishCap} (omega (arith, P .input .most-strips)) finish-most
+    product-most : (q + 1 - i) * (begin + (getD sums (q + 1) 0 - getD sums i 0)) ≤ batchCap
+    product-most = mul-le-mul {n₂ = mostStrips} {m₂ = finishCap} (omega (arith, P .input .most-strips)) finish-most
 
-      pub after-product : (q + 1 - i) * (begin + (getD sums (q + 1) 0 - getD sums i 0)) < 2 ^ 64
-      after-product = omega (arith, product-most)
+    pub after-product : (q + 1 - i) * (begin + (getD sums (q + 1) 0 - getD sums i 0)) < 2 ^ 64
+    after-product = omega (arith, product-most)
 
-      module _ {row₁ : List ℕ} (R : RowFilled rs sums row row₁ s n begin i (q + 1)) where
-        row-is : getD row₁ (q + 1) 0 ≡ leastAt (instanceIn rs sums s n) (q + 1) (begin + (getD sums (q + 1) 0 - getD sums i 0))
-        row-is = R .row .at (q + 1) (omega arith) (omega arith)
+    module _ {row₁ : List ℕ} (R : RowFilled rs sums row row₁ s n begin i (q + 1)) where
+      row-is : getD row₁ (q + 1) 0 ≡ leastAt (instanceIn rs sums s n) (q + 1) (begin + (getD sums (q + 1) 0 - getD sums i 0))
+      row-is = R .row .at (q + 1) (omega arith) (omega arith)
 
-        pub after-sum : (q + 1 - i) * (begin + (getD sums (q + 1) 0 - getD sums i 0)) + getD row₁ (q + 1) 0 < 2 ^ 64
-        after-sum =
-            omega (arith, product-most, row-is, least-most (P .input) (q + 1) (begin + (getD sums (q + 1) 0 - getD sums i 0)) finish-most)
+      pub after-sum : (q + 1 - i) * (begin + (getD sums (q + 1) 0 - getD sums i 0)) + getD row₁ (q + 1) 0 < 2 ^ 64
+      after-sum =
+          omega (arith, product-most, row-is, least-most (P .input) (q + 1) (begin + (getD sums (q + 1) 0 - getD sums i 0)) finish-most)
 
-        new-is : (p : ℕ) → p ≡ q + 1
-            → getD (set late (width * i + (q + 1)) ((q + 1 - i) * (begin + (getD sums (q + 1) 0 - getD sums i 0)) + getD row₁ (q + 1) 0)) (width * i + p) 0
-            ≡ closedAt (instanceIn rs sums s n) (lateStart s (getD rs (p - 1) 0)) i p
-        unfolding closedAt
-        new-is p e = rw (e, row-is, ← b) (getD-set-same late (width * i + (q + 1)) _ 0 (omega (arith, P .late-long, M .late-len, P .input .most-strips)))
+      new-is : (p : ℕ) → p ≡ q + 1
+          → getD (set late (width * i + (q + 1)) ((q + 1 - i) * (begin + (getD sums (q + 1) 0 - getD sums i 0)) + getD row₁ (q + 1) 0)) (width * i + p) 0
+          ≡ closedAt (instanceIn rs sums s n) (getD rs (p - 1) 0) i p
+      unfolding closedAt
+      new-is p e = rw (e, row-is) (getD-set-same late (width * i + (q + 1)) _ 0 (omega (arith, P .late-long, M .late-len, P .input .most-strips)))
 
-        pub after-step : LateSoFar rs sums late₀ row₀
-            (set late (width * i + (q + 1)) ((q + 1 - i) * (begin + (getD sums (q + 1) 0 - getD sums i 0)) + getD row₁ (q + 1) 0)) row₁ s n i (q + 1)
-        after-step =
-            let x : ℕ = (q + 1 - i) * (begin + (getD sums (q + 1) 0 - getD sums i 0)) + getD row₁ (q + 1) 0 in record {
-              kept = λ k g. getD-set-other late (width * i + (q + 1)) k x 0 (g (q + 1) (omega (arith, M .from)) (omega arith)) ∙ M .kept k g;
-              done = λ p g k. elim (decLt q p) [
-                | yes y ↦ new-is p (omega arith)
-                | no y ↦ getD-set-other late (width * i + (q + 1)) (width * i + p) x 0 (omega arith) ∙ M .done p g (omega arith)
-              ];
-              from = omega (arith, M .from);
-              to = omega arith;
-              late-len = length-set late (width * i + (q + 1)) x ∙ M .late-len;
-              row-len = R .len ∙ M .row-len;
-            }
+      pub after-step : LateSoFar rs sums late₀ row₀
+          (set late (width * i + (q + 1)) ((q + 1 - i) * (begin + (getD sums (q + 1) 0 - getD sums i 0)) + getD row₁ (q + 1) 0)) row₁ s n i (q + 1)
+      after-step =
+          let x : ℕ = (q + 1 - i) * (begin + (getD sums (q + 1) 0 - getD sums i 0)) + getD row₁ (q + 1) 0 in record {
+            kept = λ k g. getD-set-other late (width * i + (q + 1)) k x 0 (g (q + 1) (omega (arith, M .from)) (omega arith)) ∙ M .kept k g;
+            done = λ p g k. elim (decLt q p) [
+              | yes y ↦ new-is p (omega arith)
+              | no y ↦ getD-set-other late (width * i + (q + 1)) (width * i + p) x 0 (omega arith) ∙ M .done p g (omega arith)
+            ];
+            from = omega (arith, M .from);
+            to = omega arith;
+            late-len = length-set late (width * i + (q + 1)) x ∙ M .late-len;
+            row-len = R .len ∙ M .row-len;
+          }
 
   pub after-end : {late row : List ℕ} {q : ℕ} → LateSoFar rs sums late₀ row₀ late row s n i q → n ≤ q → LateAfter rs sums late₀ late s n i
   after-end M h = record { at = λ p k l. M .done p k (omega arith); kept = M .kept }
@@ -135,7 +131,7 @@ module _ {rs sums late₀ : List ℕ} {s n : ℕ} (P : FillLatePre rs sums late�
         }
 
     module _ {late₁ : List ℕ} (A : LateAfter rs sums late late₁ s n (i - 1)) where
-      filled-at : (j q : ℕ) → i - 1 ≤ j → j < q → q ≤ n → getD late₁ (width * j + q) 0 ≡ closedAt (instanceIn rs sums s n) (lateStart s (getD rs (q - 1) 0)) j q
+      filled-at : (j q : ℕ) → i - 1 ≤ j → j < q → q ≤ n → getD late₁ (width * j + q) 0 ≡ closedAt (instanceIn rs sums s n) (getD rs (q - 1) 0) j q
       filled-at j q g k l = elim (decLt (i - 1) j) [
         | yes y ↦ A .kept (width * j + q) (λ r a b e. omega (arith, P .input .most-strips)) ∙ M .later .at j q (omega arith) k l
         | no y ↦

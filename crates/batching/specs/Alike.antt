@@ -27,7 +27,7 @@ module _ {x y : Instance} (A : Alike x y) where
 
     batch-same : batchOf x t i q ≡ batchOf y t i q
     unfolding batchOf
-    batch-same = rw (finish-same, A .ready q (omega arith) k)
+    batch-same = rw finish-same
 
     closed-same : ((F : ℕ) → leastAt x q F ≡ leastAt y q F)
         → closedAt x (benchStart (x .mount) t (x .ready q)) i q ≡ closedAt y (benchStart (y .mount) t (y .ready q)) i q

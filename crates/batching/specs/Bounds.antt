@@ -6,15 +6,15 @@ use native.Mathlib.Decide.{decLt}
 use native.Mathlib.Omega.{arith}
 use lib.ListN.{getD}
 use Rattle.sheet.specs.Limits.{mostStrips}
-use Rattle.batching.specs.Least.{finishOf}
+use Rattle.batching.specs.Least.{benchStart, finishOf}
 use Rattle.batching.specs.Index.{leastAt}
 use Rattle.batching.specs.Caps.{finishCap, endCap, leastCap}
 use Rattle.batching.specs.Tables.{instanceIn, Input}
-use Rattle.batching.specs.Recursion.{start-max, least-end, least-one}
+use Rattle.batching.specs.Recursion.{least-end, least-one}
 
 finish-most : {rs sums : List ℕ} {s n : ℕ} → Input rs sums s n → (i t : ℕ) → t ≤ finishCap → finishOf (instanceIn rs sums s n) t i n ≤ endCap
-unfolding finishOf
-finish-most {rs} {sums} {s} {n} I i t h = omega (arith, start-max s t (getD rs (n - 1) 0), I .most-ready (n - 1), I .most-mount, I .most-sum n (omega arith))
+unfolding finishOf benchStart
+finish-most {rs} {sums} {s} {n} I i t h = omega (arith, I .most-ready (n - 1), I .most-mount, I .most-sum n (omega arith))
 
 pub least-most : {rs sums : List ℕ} {s n : ℕ} → Input rs sums s n → (i t : ℕ) → t ≤ finishCap → leastAt (instanceIn rs sums s n) i t ≤ leastCap
 least-most {rs} {sums} {s} {n} I i t h = elim (decLt i n) [

@@ -4,11 +4,11 @@ use mathlib.Core.Bool.{true, false}
 use mathlib.Core.List.{List, [], _∷_}
 use lib.Dec.{ltb}
 use Rattle.rules.specs.declared.Batch.{Batch}
-use Rattle.batching.specs.Least.{Instance, mountStart, finishOf, leastOpen}
+use Rattle.batching.specs.Least.{Instance, finishOf, leastOpen}
 
--- the batch of the strips after i up to q, as early as can be
+-- the batch of the strips after i up to q, as early as can be: its mount starts when the batch before finishes
 unfoldable pub batchOf : Instance → ℕ → ℕ → ℕ → Batch
-batchOf x free i q = record { last = q; start = mountStart free (x .ready q); finish = finishOf x free i q }
+batchOf x free i q = record { last = q; start = free; finish = finishOf x free i q }
 
 unfoldable pub chosenOpen : Instance → ℕ → ℕ → ℕ → ℕ → List Batch
 chosenOpen x zero i q free = batchOf x free i q ∷ []

@@ -5,10 +5,6 @@ use Rattle.rules.specs.declared.Batch.{Batch}
 use Rattle.batching.specs.Least.{Instance, leastOpen, leastFrom}
 use Rattle.batching.specs.Chosen.{chosenOpen, chosenFrom}
 
--- when the bench work of a batch begins that waits for its last strip
-unfoldable pub lateStart : ℕ → ℕ → ℕ
-lateStart mount ready = ready + mount
-
 -- the least figure of the strips after i, the bench free at `free`: with no batch open; with an open batch up to q
 unfoldable pub leastAt : Instance → ℕ → ℕ → ℕ
 leastAt x i free = leastFrom x (x .strips - i) i free
@@ -16,7 +12,7 @@ leastAt x i free = leastFrom x (x .strips - i) i free
 unfoldable pub openAt : Instance → ℕ → ℕ → ℕ → ℕ
 openAt x i q free = leastOpen x (x .strips - q) i q free
 
--- the figure of the batch i, q whose bench work begins at `begin`, with what is least after it
+-- the figure of the batch i, q whose bench work starts at `begin`, with what is least after it
 unfoldable pub closedAt : Instance → ℕ → ℕ → ℕ → ℕ
 closedAt x begin i q = x .weight i q * (begin + x .bench i q) + leastAt x q (begin + x .bench i q)
 

@@ -1,5 +1,5 @@
--- The least figure of all batchings, by recursion: at each strip the open batch is closed or extended (in the literature: batching on one machine with a
--- setup time for each batch and release dates, for the least sum of weighted completion times).
+-- The least figure of all batchings, by recursion: at each strip the open batch is closed or extended (in the literature: batching on one machine with
+-- release dates and an anticipatory setup for each batch, for the least sum of weighted completion times).
 -- Strips are numbered from 1. A batch is the strips after strip i, up to and with strip q.
 use Prim.Native.Nat.{ℕ, zero, suc, _+_, _*_, min, max}
 
@@ -12,13 +12,10 @@ pub record Instance : Type 0 where
   pub bench : ℕ → ℕ → ℕ
   pub weight : ℕ → ℕ → ℕ
 
--- "A mount starts no earlier than the last strip of its batch is ready and the batch before has finished": the earliest start of a mount
-unfoldable pub mountStart : ℕ → ℕ → ℕ
-mountStart free ready = max free ready
-
--- "Finish = start + s + the batch's bench times": when the bench work of a batch begins, and when the batch i, q finishes
+-- 02, Req 08: "a mount starts no earlier than the batch before finishes, or 0", so at `free` at the earliest. "Bench work starts when the mount is done and the
+-- batch's last strip is ready": when the bench work of a batch starts at the earliest, and when the batch i, q finishes
 unfoldable pub benchStart : ℕ → ℕ → ℕ → ℕ
-benchStart mount free ready = mountStart free ready + mount
+benchStart mount free ready = max (free + mount) ready
 
 unfoldable pub finishOf : Instance → ℕ → ℕ → ℕ → ℕ
 finishOf x free i q = benchStart (x .mount) free (x .ready q) + x .bench i q

@@ -6,29 +6,21 @@ use native.Mathlib.Nat.{mul-le-mul-left}
 use native.Mathlib.Omega.{arith}
 use lib.Dec.{ltb}
 use borrow.Author.Tests.{lt-ltb, le-ltb}
-use Rattle.batching.specs.Least.{Instance, mountStart, benchStart, finishOf, leastOpen, leastFrom}
+use Rattle.batching.specs.Least.{Instance, benchStart, finishOf, leastOpen, leastFrom}
 use Rattle.batching.specs.Chosen.{batchOf, chosenOpen, chosenFrom}
-use Rattle.batching.specs.Index.{lateStart, leastAt, openAt, closedAt, chosenAt, chosenOpenAt}
+use Rattle.batching.specs.Index.{leastAt, openAt, closedAt, chosenAt, chosenOpenAt}
 
--- the finish rule, as the tables use it: a batch that need not wait for its last strip, and one that waits
-pub start-in-time : (s t r : ℕ) → r ≤ t → benchStart s t r ≡ t + s
-unfolding benchStart mountStart
+-- the finish rule, as the tables use it: a batch whose last strip is ready when its mount is done, and one that waits for it
+pub start-in-time : (s t r : ℕ) → r ≤ t + s → benchStart s t r ≡ t + s
+unfolding benchStart
 start-in-time s t r h = omega arith
 
-pub start-late : (s t r : ℕ) → t < r → benchStart s t r ≡ lateStart s r
-unfolding benchStart mountStart lateStart
+pub start-late : (s t r : ℕ) → t + s < r → benchStart s t r ≡ r
+unfolding benchStart
 start-late s t r h = omega arith
 
-pub start-max : (s t r : ℕ) → benchStart s t r ≤ max t r + s
-unfolding benchStart mountStart
-start-max s t r = omega arith
-
-pub late-max : (s r : ℕ) → lateStart s r ≤ r + s
-unfolding lateStart
-late-max s r = omega arith
-
 pub finish-mono : (x : Instance) (i q : ℕ) {t t′ : ℕ} → t ≤ t′ → finishOf x t i q ≤ finishOf x t′ i q
-unfolding finishOf benchStart mountStart
+unfolding finishOf benchStart
 finish-mono x i q h = omega arith
 
 pub open-mono : (x : Instance) (left i q : ℕ) {t t′ : ℕ} → t ≤ t′ → leastOpen x left i q t ≤ leastOpen x left i q t′

@@ -2,14 +2,13 @@
 -- rs: ready times, strip q at q - 1. sums: bench times added up, those of the first q strips at q. row: one row of least figures, after strip p at p.
 -- late: figures of the batches that wait for their last strip, batch i, q at width i + q.
 use mathlib.Core.Path.{_≡_}
-use mathlib.Core.Bool.{Bool, true, false}
 use mathlib.Core.List.{List, _∷_}
 use Prim.Native.Nat.{ℕ, _+_, _*_, _-_, _≤_, _<_}
 use lib.ListN.{length, getD}
 use Rattle.sheet.specs.Limits.{mostStrips}
 use Rattle.batching.specs.Least.{Instance, benchStart, finishOf}
 use Rattle.batching.specs.Chosen.{batchOf}
-use Rattle.batching.specs.Index.{lateStart, leastAt, closedAt, chosenAt}
+use Rattle.batching.specs.Index.{leastAt, closedAt, chosenAt}
 use Rattle.batching.specs.Caps.{readyCap, mountCap, benchCap, beginCap, blockCap, freeCap}
 
 -- entries for the strips from 0 to 40; a row of them for each strip from 0 to 39
@@ -39,15 +38,10 @@ pub record Input (rs sums : List ℕ) (s n : ℕ) : Type 0 where
   pub most-sum : (q : ℕ) → q ≤ n → getD sums q 0 ≤ benchCap
   pub rise : (i q : ℕ) → i ≤ q → q ≤ n → getD sums i 0 ≤ getD sums q 0
 
--- the answer of the test whether a batch need not wait for its last strip
-pub record InTime (s free ready : ℕ) (answer : Bool) : Type 0 where
-  pub yes : answer ≡ true → benchStart s free ready ≡ free + s
-  pub no : answer ≡ false → benchStart s free ready ≡ lateStart s ready
-
 -- what the tables hold where the bench is free at `free` after strip i
 pub record Ahead (rs sums late row : List ℕ) (s n free i : ℕ) : Type 0 where
   pub row-at : (p : ℕ) → i < p → p ≤ n → getD row p 0 ≡ leastAt (instanceIn rs sums s n) p (free + s + (getD sums p 0 - getD sums i 0))
-  pub late-at : (q : ℕ) → i < q → q ≤ n → getD late (width * i + q) 0 ≡ closedAt (instanceIn rs sums s n) (lateStart s (getD rs (q - 1) 0)) i q
+  pub late-at : (q : ℕ) → i < q → q ≤ n → getD late (width * i + q) 0 ≡ closedAt (instanceIn rs sums s n) (getD rs (q - 1) 0) i q
 
 -- what `choose_batch` asks
 pub record ChooseBatchPre (rs sums late row : List ℕ) (s n free i : ℕ) : Type 0 where
@@ -70,7 +64,7 @@ pub record RowIs (rs sums row : List ℕ) (s n begin i lo : ℕ) : Type 0 where
 
 -- the entries of `late` for batches of the strips after lo or a later strip
 pub record LateFrom (rs sums late : List ℕ) (s n lo : ℕ) : Type 0 where
-  pub at : (i q : ℕ) → lo ≤ i → i < q → q ≤ n → getD late (width * i + q) 0 ≡ closedAt (instanceIn rs sums s n) (lateStart s (getD rs (q - 1) 0)) i q
+  pub at : (i q : ℕ) → lo ≤ i → i < q → q ≤ n → getD late (width * i + q) 0 ≡ closedAt (instanceIn rs sums s n) (getD rs (q - 1) 0) i q
 
 -- what `fill_row` asks
 pub record FillRowPre (rs sums late row : List ℕ) (s n begin i lo : ℕ) : Type 0 where
@@ -109,7 +103,7 @@ pub record FillLateAfterPre (rs sums late row : List ℕ) (s n i : ℕ) : Type 0
   pub inside : i < n
 
 pub record LateAfter (rs sums late₀ late₁ : List ℕ) (s n i : ℕ) : Type 0 where
-  pub at : (q : ℕ) → i < q → q ≤ n → getD late₁ (width * i + q) 0 ≡ closedAt (instanceIn rs sums s n) (lateStart s (getD rs (q - 1) 0)) i q
+  pub at : (q : ℕ) → i < q → q ≤ n → getD late₁ (width * i + q) 0 ≡ closedAt (instanceIn rs sums s n) (getD rs (q - 1) 0) i q
   pub kept : (k : ℕ) → ((q : ℕ) → i < q → q ≤ n → k ≡ width * i + q → ⊥) → getD late₁ k 0 ≡ getD late₀ k 0
 
 -- what `fill_late` asks, and does: the entries of all batches are written, the others are as they were

@@ -1,12 +1,12 @@
-// Batches of neighbouring strips at one bench: the tables of least figures (in the literature: batching on one machine with a setup time for each batch,
-// release dates, and the sum of completion times). A block is a run of batches with no pause: its first batch waits for its last
-// strip, and none of the others waits. `row` holds the least figures after each strip for one block; `late` those that begin with a batch that waits.
+// Batches of neighbouring strips at one bench: the tables of least figures (in the literature: batching on one machine with release dates and an anticipatory
+// setup for each batch, for the least sum of completion times). A block is a run of batches with no pause: the bench work of its first batch waits for its last
+// strip, and that of the others waits for none. `row` holds the least figures after each strip for one block; `late` those that begin with a batch that waits.
 ghost use mathlib.Core.Path.{_≡_};
-ghost use Prim.Native.Nat.{_+_, _-_, _<_, _^_};
+ghost use Prim.Native.Nat.{_-_};
 ghost use lib.ListN.{getD};
 ghost use Rattle.batching.specs.Least.{benchStart};
-ghost use Rattle.batching.specs.Index.{lateStart, closedAt};
-ghost use Rattle.batching.specs.Tables.{instanceIn, InTime, CandidatePre, ChooseBatchPre, First, FillRowPre, RowFilled, FillBlockPre, FillLateAfterPre};
+ghost use Rattle.batching.specs.Index.{closedAt};
+ghost use Rattle.batching.specs.Tables.{instanceIn, CandidatePre, ChooseBatchPre, First, FillRowPre, RowFilled, FillBlockPre, FillLateAfterPre};
 ghost use Rattle.batching.specs.Tables.{LateAfter, FillLatePre, LateFilled, FirstBatchPre};
 
 // The entries of a row, for the strips from 0 to 40, and of `late`, which has a row for each strip from 0 to 39.
@@ -20,22 +20,8 @@ pub struct Choice {
     pub figure: u64,
 }
 
-// Whether a batch whose last strip is ready at `ready` need not wait for it, the bench free at `free`.
-fn in_time(s: u64, free: u64, ready: u64) -> bool
-    ensures { λ answer. ⌜ InTime s free ready answer ⌝ }
-{
-    ready <= free
-}
-
-// When the bench work of a batch begins that waits for its last strip.
-fn late_start(s: u64, ready: u64) -> u64
-    requires { ⌜ ready + s < 2 ^ 64 ⌝ }
-    ensures { λ r. ⌜ r ≡ lateStart s ready ⌝ }
-{
-    ready + s
-}
-
-// The least figure of the strips after i where the bench is free at `free` and the first batch ends with strip q.
+// The least figure of the strips after i where the bench is free at `free` and the first batch ends with strip q: in time, where that strip is ready when the
+// batch is mounted, or late.
 fn candidate(
     rs: &[u64],
     sums: &[u64],
@@ -50,8 +36,10 @@ fn candidate(
     requires { ⌜ CandidatePre (now rs) (now sums) (now late) (now row) s n free i q ⌝ }
     ensures { λ r. ⌜ r ≡ closedAt (instanceIn (now (rs .entry)) (now (sums .entry)) s n) (benchStart s free (getD (now (rs .entry)) (q - 1) 0)) i q ⌝ }
 {
-    if in_time(s, free, rs[q - 1]) {
-        let finish = free + s + (sums[q] - sums[i]);
+    let mounted = free + s;
+    let ready = rs[q - 1];
+    if ready <= mounted {
+        let finish = mounted + (sums[q] - sums[i]);
         let count = (q - i) as u64;
         count * finish + row[q]
     } else {
@@ -114,7 +102,7 @@ fn fill_row(
     }
 }
 
-// The row of the block whose bench work begins at `begin` with the strip after i: entries lo and up.
+// The row of the block whose bench work starts at `begin` with the strip after i: entries lo and up.
 fn fill_block(
     rs: &[u64],
     sums: &[u64],
@@ -155,7 +143,7 @@ fn fill_late_after(
     let mut q = i;
     while q < n {
         q += 1;
-        let begin = late_start(s, rs[q - 1]);
+        let begin = rs[q - 1];
         fill_block(rs, sums, &*late, row, s, n, begin, i, q);
         let finish = begin + (sums[q] - sums[i]);
         let count = (q - i) as u64;

@@ -37,14 +37,12 @@ module _ (m : MosaicSection) (before b : Batch) where
       let q = both _ _ (p .0) in
       let r = both _ _ (p .1) in
       let t = both _ _ (r .1) in
-      let u = both _ _ (t .1) in
       record {
         lawful = record {
           rises = ltb-true _ _ (q .0);
-          waits-strip = leb-true _ _ (r .0);
-          waits-batch = leb-true _ _ (t .0);
-          finishes = eqb-true _ _ (u .0);
-          within = leb-true _ _ (u .1);
+          waits-batch = leb-true _ _ (r .0);
+          finishes = eqb-true _ _ (t .0);
+          within = leb-true _ _ (t .1);
         };
         known = leb-true _ _ (q .1);
       }
@@ -53,9 +51,8 @@ module _ (m : MosaicSection) (before b : Batch) where
   unfolding batchFollows batchInRun batchInTime
   batch-true f =
       all-of _ _ (all-of _ _ (lt-ltb _ _ (f .lawful .rises)) (le-leb _ _ (f .known)))
-      (all-of _ _ (le-leb _ _ (f .lawful .waits-strip))
       (all-of _ _ (le-leb _ _ (f .lawful .waits-batch))
-      (all-of _ _ (eq-eqb _ _ (f .lawful .finishes)) (le-leb _ _ (f .lawful .within)))))
+      (all-of _ _ (eq-eqb _ _ (f .lawful .finishes)) (le-leb _ _ (f .lawful .within))))
 
 module _ (s : SortingSection) (d : Desks) (j : Job) where
   pub true-job : jobFollows s d j ≡ true → JobFollows s d j

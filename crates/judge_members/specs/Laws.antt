@@ -169,12 +169,11 @@ module _ (s : Sheet) (plan : List ℕ) (place : ℕ) (p : Progress) (a : MemberF
 
 -- after a member that follows
 
-batch-within : (readyAt before start finish due : ℕ) → batchInTime readyAt before start finish due ≡ true → finish ≤ ceiling
+batch-within : (before start finish due : ℕ) → batchInTime before start finish due ≡ true → finish ≤ ceiling
 unfolding batchInTime
-batch-within readyAt before start finish due e =
-    let u = both (leb readyAt start) (leb before start && (eqb finish due && leb finish ceiling)) e in
-    let v = both (leb before start) (eqb finish due && leb finish ceiling) (u .1) in
-    leb-true finish ceiling (both (eqb finish due) (leb finish ceiling) (v .1) .1)
+batch-within before start finish due e =
+    let u = both (leb before start) (eqb finish due && leb finish ceiling) e in
+    leb-true finish ceiling (both (eqb finish due) (leb finish ceiling) (u .1) .1)
 
 job-within : (scanner free scan scanned start finish : ℕ) → jobInTime scanner free scan scanned start finish ≡ true → finish ≤ ceiling
 unfolding jobInTime
@@ -189,7 +188,7 @@ unfolding batchFollows batchInRun
 batch-facts s p b e =
     let x = both _ _ e in
     let y = both _ _ (x .0) in
-    (ltb-true _ _ (y .0), leb-true _ _ (y .1), batch-within _ _ _ _ _ (x .1))
+    (ltb-true _ _ (y .0), leb-true _ _ (y .1), batch-within _ _ _ _ (x .1))
 
 job-facts : (s : Sheet) (p : Progress) (j : Job) → jobFollows (s .sorting) (p .desks) j ≡ true
     → (1 ≤ j .desk) × (j .desk ≤ s .sorting .desks) × (j .number ≡ getD (p .desks .done) (j .desk - 1) 0 + 1) × (j .number ≤ stripsOf (s .sorting) (j .desk))

@@ -10,7 +10,7 @@ use Rattle.sheet.specs.Limits.{ceiling}
 use Rattle.sheet.specs.declared.MosaicSection.{MosaicSection}
 use Rattle.sheet.specs.declared.SortingSection.{SortingSection}
 use Rattle.sheet.specs.declared.FlightSection.{FlightSection}
-use Rattle.rules.specs.Mosaic.{ready, finishDue}
+use Rattle.rules.specs.Mosaic.{finishDue}
 use Rattle.rules.specs.Sorting.{stripsOf, scanEnd, deskFinish}
 use Rattle.rules.specs.Flight.{passStart, secondDue, clearAt}
 use Rattle.rules.specs.declared.Batch.{Batch}
@@ -22,14 +22,13 @@ use Rattle.running.specs.declared.Desks.{Desks}
 unfoldable pub batchInRun : ℕ → ℕ → ℕ → Bool
 batchInRun strips before last = ltb before last && leb last strips
 
--- "also ready time, finish, .. and times against earlier members": ready, the finish before, and the finish due
-unfoldable pub batchInTime : ℕ → ℕ → ℕ → ℕ → ℕ → Bool
-batchInTime readyAt before start finish due = leb readyAt start && (leb before start && (eqb finish due && leb finish ceiling))
+-- "also ready time, finish, .. and times against earlier members": the finish before, and the finish due, which has the ready time (02, Req 08)
+unfoldable pub batchInTime : ℕ → ℕ → ℕ → ℕ → Bool
+batchInTime before start finish due = leb before start && (eqb finish due && leb finish ceiling)
 
 unfoldable pub batchFollows : MosaicSection → Batch → Batch → Bool
 batchFollows m before b =
-    batchInRun (m .strips) (before .last) (b .last)
-    && batchInTime (ready m (b .last)) (before .finish) (b .start) (b .finish) (finishDue m before b)
+    batchInRun (m .strips) (before .last) (b .last) && batchInTime (before .finish) (b .start) (b .finish) (finishDue m before b)
 
 -- "a strip number next in turn": so many of the desk's strips are done
 unfoldable pub jobInTurn : ℕ → ℕ → ℕ → ℕ → ℕ → Bool

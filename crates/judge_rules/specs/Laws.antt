@@ -14,11 +14,11 @@ use Rattle.sheet.specs.declared.MosaicSection.{MosaicSection}
 use Rattle.sheet.specs.Limits.{mostStripsOfDesk}
 use Rattle.sheet.specs.declared.SortingSection.{SortingSection}
 use Rattle.sheet.specs.declared.FlightSection.{FlightSection}
-use Rattle.rules.specs.Mosaic.{ready, finishDue}
+use Rattle.rules.specs.Mosaic.{finishDue}
 use Rattle.rules.specs.Flight.{secondDue}
 use Rattle.rules.specs.Sorting.{stripsOf, scanTime, deskTime, scanEnd, deskFinish}
 use Rattle.running.specs.Running.{afterJob}
-use Rattle.running.specs.FunctionLaws.{ReadyTimePre, FinishDuePre, SumTold, SlotPre, TimeTold}
+use Rattle.running.specs.FunctionLaws.{FinishDuePre, SlotPre, TimeTold}
 use Rattle.rules.specs.declared.Batch.{Batch}
 use Rattle.rules.specs.declared.Job.{Job}
 use Rattle.rules.specs.declared.Passes.{Passes}
@@ -41,17 +41,16 @@ module _ (m : MosaicSection) (before b : Batch) (x : Bool) (ex : x ≡ batchInRu
     in-run : (before .last < b .last) × (b .last ≤ m .strips)
     in-run = run-is (m .strips) (before .last) (b .last) (sym ex ∙ not-false x h)
 
-    pub batch-ready : BatchFollowsPre m b → ReadyTimePre m (b .last)
-    batch-ready a = record { sound = a .sound; strips = omega (arith, in-run .1, a .sound .most-strips) }
-
     pub batch-due : BatchFollowsPre m b → FinishDuePre m before b
-    batch-due a =
-        record { sound = a .sound; rises = omega (arith, in-run .0); strips = omega (arith, in-run .1, a .sound .most-strips); fits = a .fits .start }
+    batch-due a = record {
+      asked = record { sound = a .sound; strips = omega (arith, in-run .1, a .sound .most-strips); fits = a .fits .start };
+      rises = omega (arith, in-run .0);
+    }
 
-    pub batch-right : (r : Bool) (readyAt due : ℕ) → SumTold (ready m (b .last)) readyAt → due ≡ finishDue m before b
-        → r ≡ batchInTime readyAt (before .finish) (b .start) (b .finish) due → r ≡ batchFollows m before b
+    pub batch-right : (r : Bool) (due : ℕ) → due ≡ finishDue m before b → r ≡ batchInTime (before .finish) (b .start) (b .finish) due
+        → r ≡ batchFollows m before b
     unfolding batchFollows
-    batch-right r readyAt due t u e = rw (← ex, not-false x h, ← t .is, ← u) e
+    batch-right r due u e = rw (← ex, not-false x h, ← u) e
 
 -- jobs
 

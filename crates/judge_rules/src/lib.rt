@@ -4,7 +4,6 @@ use rules::Job;
 use rules::Passes;
 use running::Desks;
 use running::mosaic::finish_due;
-use running::mosaic::ready_time;
 use running::sorting::desk_time;
 use running::sorting::scan_time;
 use sheet::FlightSection;
@@ -27,12 +26,9 @@ fn batch_in_run(strips: u64, before: u64, last: u64) -> bool
     before < last && last <= strips
 }
 
-fn batch_in_time(ready: u64, before: u64, start: u64, finish: u64, due: u64) -> bool
-    ensures { λ r. ⌜ r ≡ batchInTime ready before start finish due ⌝ }
+fn batch_in_time(before: u64, start: u64, finish: u64, due: u64) -> bool
+    ensures { λ r. ⌜ r ≡ batchInTime before start finish due ⌝ }
 {
-    if start < ready {
-        return false;
-    }
     if start < before {
         return false;
     }
@@ -47,13 +43,11 @@ pub fn batch_follows(m: MosaicSection, before: Batch, b: Batch) -> bool
     requires { ⌜ BatchFollowsPre m b ⌝ }
     ensures { λ r. ⌜ r ≡ batchFollows m before b ⌝ }
 {
-    let last = b.last;
-    if !batch_in_run(m.strips as u64, before.last, last) {
+    if !batch_in_run(m.strips as u64, before.last, b.last) {
         return false;
     }
-    let ready = ready_time(m, last as usize);
     let due = finish_due(m, before, b);
-    batch_in_time(ready, before.finish, b.start, b.finish, due)
+    batch_in_time(before.finish, b.start, b.finish, due)
 }
 
 fn job_in_turn(desks: u64, strips: u64, done: u64, desk: u64, number: u64) -> bool

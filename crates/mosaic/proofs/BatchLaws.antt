@@ -10,7 +10,7 @@ use lib.Seq.{getD-set-same, getD-set-other}
 use Rattle.base.specs.Listed.{listed, listed-same}
 use Rattle.base.specs.Zeros.{zeros-at}
 use Rattle.sheet.specs.Limits.{mostStrips}
-use Rattle.batching.specs.Least.{mountStart, benchStart, finishOf}
+use Rattle.batching.specs.Least.{benchStart, finishOf}
 use Rattle.batching.specs.Chosen.{batchOf}
 use Rattle.batching.specs.Index.{leastAt, closedAt, chosenAt}
 use Rattle.mosaic.specs.Plan.{entry, batchesOf, NoMore}
@@ -92,6 +92,9 @@ module _ {rs sums late : List ℕ} {s n : ℕ} (P : ChooseBatchesPre rs sums lat
     free-most : free + s ≤ beginCap
     free-most = omega (arith, M .most-free, P .input .most-strips, P .input .most-mount, P .input .most-sum i (omega arith))
 
+    pub plan-mounted : free + s < 2 ^ 64
+    plan-mounted = omega (arith, free-most)
+
     pub plan-first : FirstBatchPre rs sums late s n free i
     plan-first = record {
       input = P .input;
@@ -105,46 +108,43 @@ module _ {rs sums late : List ℕ} {s n : ℕ} (P : ChooseBatchesPre rs sums lat
       pub plan-sub : getD sums i 0 ≤ getD sums q 0
       plan-sub = P .input .rise i q (omega (arith, C .first)) (C .last)
 
-      -- a mount that waits for any strip is over early
-      module _ {start : ℕ} (j : ℕ) (e : start ≡ max free (getD rs j 0)) where
-        finish-most : start + s + (getD sums q 0 - getD sums i 0) ≤ readyCap + q * mountCap + getD sums q 0
+      -- bench work that waits for any strip is over early
+      module _ {begin : ℕ} (j : ℕ) (e : begin ≡ max (free + s) (getD rs j 0)) where
+        finish-most : begin + (getD sums q 0 - getD sums i 0) ≤ readyCap + q * mountCap + getD sums q 0
         finish-most = omega (arith, plan-sub, M .most-free, C .first, P .input .most-ready j, P .input .most-mount)
 
-        finish-cap : start + s + (getD sums q 0 - getD sums i 0) ≤ beginCap
+        finish-cap : begin + (getD sums q 0 - getD sums i 0) ≤ beginCap
         finish-cap = omega (arith, finish-most, C .last, P .input .most-strips, P .input .most-sum q (C .last))
 
-        pub plan-mounted : start + s < 2 ^ 64
-        plan-mounted = omega (arith, finish-cap)
-
-        pub plan-finish : start + s + (getD sums q 0 - getD sums i 0) < 2 ^ 64
+        pub plan-finish : begin + (getD sums q 0 - getD sums i 0) < 2 ^ 64
         plan-finish = omega (arith, finish-cap)
 
-        product-most : (q - i) * (start + s + (getD sums q 0 - getD sums i 0)) ≤ mostStrips * beginCap
+        product-most : (q - i) * (begin + (getD sums q 0 - getD sums i 0)) ≤ mostStrips * beginCap
         product-most = mul-le-mul {n₂ = mostStrips} {m₂ = beginCap} (omega (arith, C .last, P .input .most-strips)) finish-cap
 
-        pub plan-add : AddBatchPre plan (q - i) (start + s + (getD sums q 0 - getD sums i 0))
+        pub plan-add : AddBatchPre plan (q - i) (begin + (getD sums q 0 - getD sums i 0))
         plan-add = record {
           sized = M .sized;
           few = omega (arith, M .few, P .input .most-strips);
           fits = omega (arith, M .figure-is, product-most, least-most (P .input) 0 0 (omega arith));
         }
 
-      module _ {start : ℕ} (e : start ≡ max free (getD rs (q - 1) 0)) where
+      module _ {begin : ℕ} (e : begin ≡ max (free + s) (getD rs (q - 1) 0)) where
         least-is : leastAt (instanceIn rs sums s n) i free
-            ≡ (q - i) * (start + s + (getD sums q 0 - getD sums i 0)) + leastAt (instanceIn rs sums s n) q (start + s + (getD sums q 0 - getD sums i 0))
-        unfolding closedAt benchStart mountStart
+            ≡ (q - i) * (begin + (getD sums q 0 - getD sums i 0)) + leastAt (instanceIn rs sums s n) q (begin + (getD sums q 0 - getD sums i 0))
+        unfolding closedAt benchStart
         least-is = rw e (sym (C .figure) ∙ C .closed)
 
-        finish-is : finishOf (instanceIn rs sums s n) free i q ≡ start + s + (getD sums q 0 - getD sums i 0)
-        unfolding finishOf benchStart mountStart
+        finish-is : finishOf (instanceIn rs sums s n) free i q ≡ begin + (getD sums q 0 - getD sums i 0)
+        unfolding finishOf benchStart
         finish-is = rw e
 
-        batch-is : batchOf (instanceIn rs sums s n) free i q ≡ record { last = q; start = start; finish = start + s + (getD sums q 0 - getD sums i 0) }
-        unfolding batchOf mountStart
-        batch-is = rw (finish-is, ← e)
+        batch-is : batchOf (instanceIn rs sums s n) free i q ≡ record { last = q; start = free; finish = begin + (getD sums q 0 - getD sums i 0) }
+        unfolding batchOf
+        batch-is = rw finish-is
 
-        pub plan-step : {more : MosaicPlan} → Added plan (q - i) q start (start + s + (getD sums q 0 - getD sums i 0)) more
-            → PlanSoFar rs sums s n more q (start + s + (getD sums q 0 - getD sums i 0))
+        pub plan-step : {more : MosaicPlan} → Added plan (q - i) q free (begin + (getD sums q 0 - getD sums i 0)) more
+            → PlanSoFar rs sums s n more q (begin + (getD sums q 0 - getD sums i 0))
         plan-step A = record {
           sized = A .sized;
           no-more = A .no-more (M .no-more);

@@ -19,7 +19,7 @@ fn add_batch(plan: MosaicPlan, count: u64, last: u64, start: u64, finish: u64) -
     more
 }
 
-// The batches taken, each mount as early as can be, and the sum of completions.
+// The batches taken, each mounted as soon as the batch before has finished, and the sum of completions.
 pub fn choose_batches(rs: &[u64], sums: &[u64], late: &[u64], s: u64, n: usize) -> MosaicPlan
     requires { ⌜ ChooseBatchesPre (now rs) (now sums) (now late) s n ⌝ }
     ensures { λ plan. ⌜ BatchesTaken (now (rs .entry)) (now (sums .entry)) s n plan ⌝ }
@@ -36,9 +36,10 @@ pub fn choose_batches(rs: &[u64], sums: &[u64], late: &[u64], s: u64, n: usize) 
     while i < n {
         let choice = first_batch(rs, sums, late, s, n, free, i);
         let q = choice.last;
-        let start = greater(free, rs[q - 1]);
-        let finish = start + s + (sums[q] - sums[i]);
-        plan = add_batch(plan, (q - i) as u64, q as u64, start, finish);
+        let mounted = free + s;
+        let begin = greater(mounted, rs[q - 1]);
+        let finish = begin + (sums[q] - sums[i]);
+        plan = add_batch(plan, (q - i) as u64, q as u64, free, finish);
         i = q;
         free = finish;
     }

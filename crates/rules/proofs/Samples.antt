@@ -151,16 +151,25 @@ row t o = record { timetable = t; outcome = o }
 
 unfoldable pub samples : List Sample
 samples =
-    -- batches 1, 2-3, 4, the first two mounted later than they could be
-    row (ofMosaic fourStrips (batch 1 3 5 ∷ batch 3 8 14 ∷ batch 4 14 16 ∷ [])) (lawful 49)
-    -- a mount that waits only for the first strip of batch 2-3, ready at 4
-    ∷ row (ofMosaic fourStrips (batch 1 2 4 ∷ batch 3 4 10 ∷ batch 4 10 12 ∷ [])) refused
-    -- a mount before the batch before has finished
-    ∷ row (ofMosaic fourStrips (batch 1 3 5 ∷ batch 2 4 8 ∷ batch 4 9 13 ∷ [])) refused
+    -- batches 1, 2-3, 4, each mounted as early as it may be, the first two before their last strips are ready ..
+    row (ofMosaic fourStrips (batch 1 0 3 ∷ batch 3 3 12 ∷ batch 4 12 14 ∷ [])) (lawful 41)
+    -- .. the same mounted so late that the mount is done when the last strip is ready, which changes no finish, and later, which does
+    ∷ row (ofMosaic fourStrips (batch 1 1 3 ∷ batch 3 6 12 ∷ batch 4 12 14 ∷ [])) (lawful 41)
+    ∷ row (ofMosaic fourStrips (batch 1 3 5 ∷ batch 3 8 14 ∷ batch 4 14 16 ∷ [])) (lawful 49)
+    -- bench work before the mount is done: at 7, when strip 3 is ready
+    ∷ row (ofMosaic fourStrips (batch 1 0 3 ∷ batch 3 7 12 ∷ batch 4 12 14 ∷ [])) refused
+    -- bench work of batch 2-3 that waits only for its first strip, ready at 4
+    ∷ row (ofMosaic fourStrips (batch 1 0 3 ∷ batch 3 3 9 ∷ batch 4 9 11 ∷ [])) refused
+    -- a mount before the batch before has finished, at 3; its own finish is as with a mount at 3
+    ∷ row (ofMosaic fourStrips (batch 1 0 3 ∷ batch 2 2 7 ∷ batch 4 7 12 ∷ [])) refused
     -- a strip that no batch has
-    ∷ row (ofMosaic fourStrips (batch 1 2 4 ∷ batch 2 4 8 ∷ batch 3 8 11 ∷ [])) refused
-    -- a finish later than the mount and the bench times make it
-    ∷ row (ofMosaic fourStrips (batch 1 2 4 ∷ batch 2 4 9 ∷ batch 4 9 13 ∷ [])) refused
+    ∷ row (ofMosaic fourStrips (batch 1 0 3 ∷ batch 2 3 7 ∷ batch 3 7 10 ∷ [])) refused
+    -- a finish one early, and one late
+    ∷ row (ofMosaic fourStrips (batch 1 0 3 ∷ batch 2 3 6 ∷ batch 4 6 12 ∷ [])) refused
+    ∷ row (ofMosaic fourStrips (batch 1 0 3 ∷ batch 2 3 8 ∷ batch 4 8 12 ∷ [])) refused
+    -- the same where the mount is late, which finishes at 9
+    ∷ row (ofMosaic fourStrips (batch 1 0 3 ∷ batch 2 5 8 ∷ batch 4 8 12 ∷ [])) refused
+    ∷ row (ofMosaic fourStrips (batch 1 0 3 ∷ batch 2 5 10 ∷ batch 4 10 14 ∷ [])) refused
     -- a finish at the ceiling, and one past it
     ∷ row (ofMosaic fourStrips (batch 4 9_999_992 10_000_000 ∷ [])) (lawful 40_000_000)
     ∷ row (ofMosaic fourStrips (batch 4 9_999_993 10_000_001 ∷ [])) (passes 10_000_001)

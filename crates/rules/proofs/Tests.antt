@@ -17,7 +17,7 @@ use Rattle.order.specs.Passes.{passAt}
 use Rattle.sheet.specs.declared.MosaicSection.{MosaicSection}
 use Rattle.sheet.specs.declared.SortingSection.{SortingSection}
 use Rattle.sheet.specs.declared.FlightSection.{FlightSection}
-use Rattle.rules.specs.Mosaic.{ready, batchAt, batchBefore, finishDue, BatchUnder, MosaicUnder}
+use Rattle.rules.specs.Mosaic.{batchAt, batchBefore, finishDue, BatchUnder, MosaicUnder}
 use Rattle.rules.specs.Sorting.{stripsOf, scanEnd, deskFinish, jobAt, jobsOf, JobUnder, SortingUnder}
 use Rattle.rules.specs.Flight.{passesAt, passStart, passEnd, secondDue, DelayKept, clearAt, Clear, FlightUnder, Keeps, OrderAllowed}
 use Rattle.rules.specs.declared.Batch.{Batch}
@@ -72,10 +72,9 @@ decides P r f g = record { holds = f; fails = λ e p. true≢false (sym (g p) �
 unfoldable pub batchTest : ℕ → MosaicSection → Batch → Batch → Bool
 batchTest c m before b =
     ltb (before .last) (b .last)
-    && (leb (ready m (b .last)) (b .start)
     && (leb (before .finish) (b .start)
     && (eqb (b .finish) (finishDue m before b)
-    && leb (b .finish) c)))
+    && leb (b .finish) c))
 
 unfoldable pub batchesTest : ℕ → MosaicSection → List Batch → ℕ → Bool
 batchesTest c m bs i = batchTest c m (batchBefore bs i) (batchAt bs i)
@@ -90,22 +89,19 @@ module _ (m : MosaicSection) (before b : Batch) (c : ℕ) where
       let p = both _ _ e in
       let q = both _ _ (p .1) in
       let r = both _ _ (q .1) in
-      let t = both _ _ (r .1) in
       record {
         rises = ltb-true _ _ (p .0);
-        waits-strip = leb-true _ _ (q .0);
-        waits-batch = leb-true _ _ (r .0);
-        finishes = eqb-true _ _ (t .0);
-        within = leb-true _ _ (t .1);
+        waits-batch = leb-true _ _ (q .0);
+        finishes = eqb-true _ _ (r .0);
+        within = leb-true _ _ (r .1);
       }
 
   true-batch : BatchUnder c m before b → batchTest c m before b ≡ true
   unfolding batchTest
   true-batch L =
       join _ _ (lt-ltb _ _ (L .rises))
-      (join _ _ (le-leb _ _ (L .waits-strip))
       (join _ _ (le-leb _ _ (L .waits-batch))
-      (join _ _ (eq-eqb _ _ (L .finishes)) (le-leb _ _ (L .within)))))
+      (join _ _ (eq-eqb _ _ (L .finishes)) (le-leb _ _ (L .within))))
 
 module _ (m : MosaicSection) (bs : List Batch) (c : ℕ) where
   mosaic-true : isMosaic c m bs ≡ true → MosaicUnder c m bs

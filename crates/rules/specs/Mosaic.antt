@@ -1,6 +1,6 @@
--- The rules of the mosaic (01, "The three sets of rules"). Strips are numbered from 1. In the literature: batching on one machine with a setup time for
--- each batch and release dates.
-use Prim.Native.Nat.{ℕ, zero, suc, _+_, _-_, _*_, _≤_, _<_}
+-- The rules of the mosaic (01, "The three sets of rules"; 02, Req 08, for when a mount and the bench work start). Strips are numbered from 1. In the
+-- literature: batching on one machine with release dates, and a setup time for each batch that needs none of its strips (an anticipatory setup).
+use Prim.Native.Nat.{ℕ, zero, suc, _+_, _-_, _*_, _≤_, _<_, max}
 use mathlib.Core.Path.{_≡_}
 use mathlib.Core.Bool.{cond}
 use mathlib.Core.List.{List, [], _∷_}
@@ -39,16 +39,19 @@ batchBefore bs (suc i) = batchAt bs i
 unfoldable pub setupTime : MosaicSection → ℕ
 setupTime m = m .mount
 
--- "Finish = start + s + the batch's bench times": its strips are those after the last strip of the batch before, up to its own last strip
+-- 02, Req 08: "Bench work starts when the mount is done and the batch's last strip is ready": at the later of the two
+unfoldable pub benchWorkStart : MosaicSection → Batch → ℕ
+benchWorkStart m b = max (b .start + setupTime m) (ready m (b .last))
+
+-- "Finish = .. + the batch's bench times", counted from there: its strips are those after the last strip of the batch before, up to its own last strip
 unfoldable pub finishDue : MosaicSection → Batch → Batch → ℕ
-finishDue m before b = b .start + setupTime m + benchSum m (before .last) (b .last - before .last)
+finishDue m before b = benchWorkStart m b + benchSum m (before .last) (b .last - before .last)
 
 -- what the rules ask of a batch and the batch before it, under the ceiling c
 pub record BatchUnder (c : ℕ) (m : MosaicSection) (before b : Batch) : Type 0 where
   -- "Batches are runs of neighbouring strips that cover all in order."
   pub rises : before .last < b .last
-  -- "A mount starts no earlier than the last strip of its batch is ready and the batch before has finished."
-  pub waits-strip : ready m (b .last) ≤ b .start
+  -- 02, Req 08: "a mount starts no earlier than the batch before finishes, or 0": `noBatch`, before the first, finishes at 0
   pub waits-batch : before .finish ≤ b .start
   pub finishes : b .finish ≡ finishDue m before b
   -- "all starts and finishes are whole numbers from 0" to the ceiling; no start is above its finish

@@ -13,7 +13,7 @@ use Rattle.sheet.specs.declared.MosaicSection.{MosaicSection}
 use Rattle.sheet.specs.declared.SortingSection.{SortingSection}
 use Rattle.sheet.specs.declared.FlightSection.{FlightSection}
 use Rattle.base.specs.Sums.{sumOver, greatestOver}
-use Rattle.rules.specs.Mosaic.{stationSum, ready, benchSum, setupTime, finishDue}
+use Rattle.rules.specs.Mosaic.{stationSum, ready, benchSum, setupTime, benchWorkStart, finishDue}
 use Rattle.rules.specs.Sorting.{slot, scanTime, deskTime}
 use Rattle.rules.specs.Flight.{passTime}
 use Rattle.rules.specs.declared.Batch.{Batch}
@@ -32,12 +32,16 @@ pub record BenchSumPre (m : MosaicSection) (i count : ℕ) : Type 0 where
   pub sound : MosaicSound m
   pub strips : i + count ≤ mostStrips
 
--- a batch of known strips, after the batch before it, whose start has four bytes
-pub record FinishDuePre (m : MosaicSection) (before b : Batch) : Type 0 where
+-- a batch of known strips whose start has four bytes
+pub record BenchWorkStartPre (m : MosaicSection) (b : Batch) : Type 0 where
   pub sound : MosaicSound m
-  pub rises : before .last ≤ b .last
   pub strips : b .last ≤ mostStrips
   pub fits : b .start < 2 ^ 32
+
+-- and after the batch before it
+pub record FinishDuePre (m : MosaicSection) (before b : Batch) : Type 0 where
+  pub asked : BenchWorkStartPre m b
+  pub rises : before .last ≤ b .last
 
 -- no setup time is longer
 abbrev pub mostSetup : ℕ
@@ -50,6 +54,11 @@ pub record SetupTold (m : MosaicSection) (r : ℕ) : Type 0 where
 pub setup-told : (m : MosaicSection) (r : ℕ) → MosaicSound m → r ≡ setupTime m → SetupTold m r
 unfolding setupTime
 setup-told m r sound e = record { is = e; fits = omega (arith, sound .most-mount) }
+
+-- when the bench work of a batch starts
+pub record BenchWorkStarts (m : MosaicSection) (b : Batch) (r : ℕ) : Type 0 where
+  pub is : r ≡ benchWorkStart m b
+  pub fits : r ≤ 2 ^ 32 + mostStrips * mostTime
 
 -- a sum of at most 40 times
 pub record SumTold (value r : ℕ) : Type 0 where
@@ -128,21 +137,15 @@ module _ (m : MosaicSection) (i count : ℕ) (a : BenchSumPre m i count) where
       let l = a .strips in
       record { is = sum-all (λ k. getD (m .bench) (i + k) 0) count k sum s h; fits = omega arith }
 
-module _ (m : MosaicSection) (before b : Batch) (a : FinishDuePre m before b) where
-  pub finish-bench : BenchSumPre m (before .last) (b .last - before .last)
-  finish-bench = let h = a .rises in let l = a .strips in record { sound = a .sound; strips = omega arith }
+pub work-starts : (m : MosaicSection) (b : Batch) (r setup readyAt : ℕ) → BenchWorkStartPre m b → SetupTold m setup → SumTold (ready m (b .last)) readyAt
+    → r ≡ max (b .start + setup) readyAt → BenchWorkStarts m b r
+unfolding benchWorkStart
+work-starts m b r setup readyAt a u t e = record { is = rw (← u .is, ← t .is) e; fits = omega (arith, a .fits, u .fits, t .fits) }
 
-  module _ (setup : ℕ) (u : SetupTold m setup) where
-    pub finish-mounted : b .start + setup < 2 ^ 64
-    finish-mounted = omega (arith, a .fits, u .fits)
-
-    module _ (sum : ℕ) (t : SumTold (benchSum m (before .last) (b .last - before .last)) sum) where
-      pub finish-fits : b .start + setup + sum < 2 ^ 64
-      finish-fits = omega (arith, a .fits, u .fits, t .fits)
-
-      pub finish-is : b .start + setup + sum ≡ finishDue m before b
-      unfolding finishDue
-      finish-is = rw (u .is, t .is)
+pub finish-is : (m : MosaicSection) (before b : Batch) (begin sum : ℕ) → BenchWorkStarts m b begin
+    → SumTold (benchSum m (before .last) (b .last - before .last)) sum → begin + sum ≡ finishDue m before b
+unfolding finishDue
+finish-is m before b begin sum u t = rw (u .is, t .is)
 
 -- the greatest of the first k stations' sums
 pub record Greatest (m : MosaicSection) (j k value : ℕ) : Type 0 where

@@ -5,7 +5,7 @@ use sheet::MosaicSection;
 ghost use mathlib.Core.Path.{_≡_};
 ghost use Prim.Native.Nat.{_<_, _+_};
 ghost use Rattle.rules.specs.Mosaic.{stationSum, ready, benchSum, finishDue};
-ghost use Rattle.running.specs.FunctionLaws.{StationSumPre, ReadyTimePre, BenchSumPre, FinishDuePre, SetupTold, SumTold};
+ghost use Rattle.running.specs.FunctionLaws.{StationSumPre, ReadyTimePre, BenchSumPre, BenchWorkStartPre, BenchWorkStarts, FinishDuePre, SetupTold, SumTold};
 ghost use Rattle.sheet.specs.Sound.{MosaicSound};
 
 // When station k, from 0, is done with the first j strips.
@@ -61,6 +61,15 @@ pub fn setup_time(m: MosaicSection) -> u64
     m.mount
 }
 
+// When the bench work of a batch starts: its mount is done and its last strip is ready.
+fn bench_work_start(m: MosaicSection, b: Batch) -> u64
+    requires { ⌜ BenchWorkStartPre m b ⌝ }
+    ensures { λ r. ⌜ BenchWorkStarts m b r ⌝ }
+{
+    let mounted = b.start + setup_time(m);
+    greater(mounted, ready_time(m, b.last as usize))
+}
+
 // When a batch is due to finish, by the batch before it.
 pub fn finish_due(m: MosaicSection, before: Batch, b: Batch) -> u64
     requires { ⌜ FinishDuePre m before b ⌝ }
@@ -68,5 +77,6 @@ pub fn finish_due(m: MosaicSection, before: Batch, b: Batch) -> u64
 {
     let from = before.last;
     let count = b.last - from;
-    b.start + setup_time(m) + bench_sum(m, from as usize, count as usize)
+    let begin = bench_work_start(m, b);
+    begin + bench_sum(m, from as usize, count as usize)
 }

@@ -114,11 +114,14 @@ abbrev pub table : List Row
 table =
     -- "m 2, s 1, strips (2,1;1) (1,3;3) (4,2;2) (1,3;1): ready 2, 4, 7, 9."
     row fourStrips (ready-at (2 ∷ 4 ∷ 7 ∷ 9 ∷ []))
-    -- "Best: four batches, finishing 4, 8, 11, 13; figure 36."
-    ∷ row fourStrips (planned (mosaicPlan (batch 1 2 4 ∷ batch 2 4 8 ∷ batch 3 8 11 ∷ batch 4 11 13 ∷ [])) (mosaicAlone 36))
-    -- "Same, batches 1, 2-3, 4: allowed, 45."
+    -- "Best: four batches": 02, Req 08, "The first worked sheet gives 32 (mounts 0, 3, 7, 10; finishing 3, 7, 10, 12)"
+    ∷ row fourStrips (planned (mosaicPlan (batch 1 0 3 ∷ batch 2 3 7 ∷ batch 3 7 10 ∷ batch 4 10 12 ∷ [])) (mosaicAlone 32))
+    -- "its other two batchings 41 and 34": 1, 2-3, 4 and 1, 2, 3-4, with every mount as early as these batches allow
+    ∷ row fourStrips (allowed (mosaicPlan (batch 1 0 3 ∷ batch 3 3 12 ∷ batch 4 12 14 ∷ [])) (mosaicAlone 41))
+    ∷ row fourStrips (allowed (mosaicPlan (batch 1 0 3 ∷ batch 2 3 7 ∷ batch 4 7 12 ∷ [])) (mosaicAlone 34))
+    -- 01's own plans of the three batchings, whose mounts wait for the strips (figures 36, 45 and 38), are allowed too
+    ∷ row fourStrips (allowed (mosaicPlan (batch 1 2 4 ∷ batch 2 4 8 ∷ batch 3 8 11 ∷ batch 4 11 13 ∷ [])) (mosaicAlone 36))
     ∷ row fourStrips (allowed (mosaicPlan (batch 1 2 4 ∷ batch 3 7 13 ∷ batch 4 13 15 ∷ [])) (mosaicAlone 45))
-    -- "Same, batches 1, 2, 3-4: allowed, 38."
     ∷ row fourStrips (allowed (mosaicPlan (batch 1 2 4 ∷ batch 2 4 8 ∷ batch 4 9 13 ∷ [])) (mosaicAlone 38))
     -- "Sorting, desk 1 (2,5), desk 2 (1,1): 10, desk 2 first. The other order gives 11": with every start as early as that order allows
     ∷ row (twoDesks 2 5 1 1) (planned (sortingPlan (job 2 1 0 1 ∷ job 1 1 1 3 ∷ [])) (sortingAlone 10))
@@ -146,7 +149,7 @@ abbrev pub All : (List ℕ → Claim → Type 0) → List Row → Type 0
 All P [] = Unit
 All P (r ∷ rs) = P (r .sheet) (r .claim) × All P rs
 
--- "The first case whole": the bytes in, and the bytes out
+-- "The first case whole": the bytes in, and the bytes out, with the starts and finishes of 02, Req 08
 abbrev pub FirstCase : Type 0
 FirstCase = (fourStrips ≡
     0x10 ∷ 0x03 ∷ 0x00 ∷ 0x02 ∷ 0x01 ∷ 0x00
@@ -155,8 +158,8 @@ FirstCase = (fourStrips ≡
     ∷ 0x11 ∷ 0x06 ∷ 0x00 ∷ 0x04 ∷ 0x00 ∷ 0x02 ∷ 0x00 ∷ 0x02 ∷ 0x00
     ∷ 0x11 ∷ 0x06 ∷ 0x00 ∷ 0x01 ∷ 0x00 ∷ 0x03 ∷ 0x00 ∷ 0x01 ∷ 0x00 ∷ [])
     × (plannedBytes fourStrips planLength tableLength ≡
-    0x90 ∷ 0x04 ∷ 0x00 ∷ 0x24 ∷ 0x00 ∷ 0x00 ∷ 0x00
-    ∷ 0x91 ∷ 0x09 ∷ 0x00 ∷ 0x01 ∷ 0x02 ∷ 0x00 ∷ 0x00 ∷ 0x00 ∷ 0x04 ∷ 0x00 ∷ 0x00 ∷ 0x00
-    ∷ 0x91 ∷ 0x09 ∷ 0x00 ∷ 0x02 ∷ 0x04 ∷ 0x00 ∷ 0x00 ∷ 0x00 ∷ 0x08 ∷ 0x00 ∷ 0x00 ∷ 0x00
-    ∷ 0x91 ∷ 0x09 ∷ 0x00 ∷ 0x03 ∷ 0x08 ∷ 0x00 ∷ 0x00 ∷ 0x00 ∷ 0x0B ∷ 0x00 ∷ 0x00 ∷ 0x00
-    ∷ 0x91 ∷ 0x09 ∷ 0x00 ∷ 0x04 ∷ 0x0B ∷ 0x00 ∷ 0x00 ∷ 0x00 ∷ 0x0D ∷ 0x00 ∷ 0x00 ∷ 0x00 ∷ [])
+    0x90 ∷ 0x04 ∷ 0x00 ∷ 0x20 ∷ 0x00 ∷ 0x00 ∷ 0x00
+    ∷ 0x91 ∷ 0x09 ∷ 0x00 ∷ 0x01 ∷ 0x00 ∷ 0x00 ∷ 0x00 ∷ 0x00 ∷ 0x03 ∷ 0x00 ∷ 0x00 ∷ 0x00
+    ∷ 0x91 ∷ 0x09 ∷ 0x00 ∷ 0x02 ∷ 0x03 ∷ 0x00 ∷ 0x00 ∷ 0x00 ∷ 0x07 ∷ 0x00 ∷ 0x00 ∷ 0x00
+    ∷ 0x91 ∷ 0x09 ∷ 0x00 ∷ 0x03 ∷ 0x07 ∷ 0x00 ∷ 0x00 ∷ 0x00 ∷ 0x0A ∷ 0x00 ∷ 0x00 ∷ 0x00
+    ∷ 0x91 ∷ 0x09 ∷ 0x00 ∷ 0x04 ∷ 0x0A ∷ 0x00 ∷ 0x00 ∷ 0x00 ∷ 0x0C ∷ 0x00 ∷ 0x00 ∷ 0x00 ∷ [])

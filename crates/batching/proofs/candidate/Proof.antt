@@ -1,23 +1,20 @@
--- `candidate` meets its contract: the row has what follows a batch that need not wait, and the other table the figure of one that waits.
+-- `candidate` meets its contract: the row has what follows a batch that is in time, and the other table the figure of one that is late.
 use Rattle.batching.proofs.CandidateLaws.{candidate-sub, candidate-finish, candidate-product, candidate-sum, candidate-in-time, candidate-late}
 use borrow.Author.Needs.{needs}
 use Rattle.batching.proofs.candidate.Statement.{statement}
 use Rattle.batching.proofs.candidate.Tie as tie
 
-sub-in-time : tie.Need-sub-in-time
-sub-in-time c = search needs
+add-mounted : tie.Need-add-mounted
+add-mounted c = search needs
 
-mul-in-time : tie.Need-mul-in-time
-mul-in-time c = search needs
+sub-ready : tie.Need-sub-ready
+sub-ready c = search needs
 
-shared-slice-read-in-time : tie.Need-shared-slice-read-in-time
-shared-slice-read-in-time c = search needs
+mul-ready : tie.Need-mul-ready
+mul-ready c = search needs
 
-in-time-requires : tie.Need-in-time-requires
-in-time-requires c κs = search needs
-
-add-finish : tie.Need-add-finish
-add-finish c = search needs
+shared-slice-read-ready : tie.Need-shared-slice-read-ready
+shared-slice-read-ready c = search needs
 
 mul-finish : tie.Need-mul-finish
 mul-finish c = search needs
@@ -34,8 +31,8 @@ shared-slice-read-finish-2 c = search needs
 sub-finish : tie.Need-sub-finish
 sub-finish c = search candidate-sub
 
-add-finish-2 : tie.Need-add-finish-2
-add-finish-2 c = search candidate-finish
+add-finish : tie.Need-add-finish
+add-finish c = search candidate-finish
 
 sub-count : tie.Need-sub-count
 sub-count c = search needs
@@ -74,17 +71,16 @@ pub candidate-spec : {M : Type 1} → statement M
 candidate-spec =
     tie.close
     (tie.spec
-    sub-in-time
-    mul-in-time
-    shared-slice-read-in-time
-    in-time-requires
-    add-finish
+    add-mounted
+    sub-ready
+    mul-ready
+    shared-slice-read-ready
     mul-finish
     shared-slice-read-finish
     mul-finish-2
     shared-slice-read-finish-2
     sub-finish
-    add-finish-2
+    add-finish
     sub-count
     mul-result
     mul-result-2

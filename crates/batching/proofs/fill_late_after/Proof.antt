@@ -1,8 +1,7 @@
 -- `fill_late_after` meets its contract. Invariant: the batches of the strips after i up to q are done.
 use Prim.Native.Nat.{_-_}
 use borrow.Author.Needs.{needs}
-use Rattle.batching.proofs.LateLaws.{LateSoFar, after-start, after-ready, after-block, after-sub, after-finish, after-product, after-sum, after-step}
-use Rattle.batching.proofs.LateLaws.{after-end}
+use Rattle.batching.proofs.LateLaws.{LateSoFar, after-start, after-block, after-sub, after-finish, after-product, after-sum, after-step, after-end}
 use Rattle.batching.proofs.fill_late_after.Statement.{statement}
 use Rattle.batching.proofs.fill_late_after.Tie as tie
 
@@ -18,17 +17,14 @@ loop-holds c = search after-start
 add-q : tie.Need-add-q Inv-loop μ-loop
 add-q c = search needs
 
-sub-late-start : tie.Need-sub-late-start Inv-loop μ-loop
-sub-late-start c = search needs
+sub-begin : tie.Need-sub-begin Inv-loop μ-loop
+sub-begin c = search needs
 
-mul-late-start : tie.Need-mul-late-start Inv-loop μ-loop
-mul-late-start c = search needs
+mul-begin : tie.Need-mul-begin Inv-loop μ-loop
+mul-begin c = search needs
 
-shared-slice-read-late-start : tie.Need-shared-slice-read-late-start Inv-loop μ-loop
-shared-slice-read-late-start c = search needs
-
-late-start-requires : tie.Need-late-start-requires Inv-loop μ-loop
-late-start-requires c κs = search after-ready
+shared-slice-read-begin : tie.Need-shared-slice-read-begin Inv-loop μ-loop
+shared-slice-read-begin c = search needs
 
 fill-block-requires : tie.Need-fill-block-requires Inv-loop μ-loop
 fill-block-requires c κs = search after-block
@@ -101,10 +97,9 @@ fill-late-after-spec =
     μ-loop
     loop-holds
     add-q
-    sub-late-start
-    mul-late-start
-    shared-slice-read-late-start
-    late-start-requires
+    sub-begin
+    mul-begin
+    shared-slice-read-begin
     fill-block-requires
     mul-finish
     shared-slice-read-finish

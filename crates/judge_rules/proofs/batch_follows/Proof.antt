@@ -1,5 +1,5 @@
--- `batch_follows` meets its contract: a batch that rises has a ready time and a finish to compare with; one that does not is refused first.
-use Rattle.judge_rules.specs.Laws.{batch-wrong, batch-ready, batch-due, batch-right}
+-- `batch_follows` meets its contract: a batch that rises has a finish to compare with; one that does not is refused first.
+use Rattle.judge_rules.specs.Laws.{batch-wrong, batch-due, batch-right}
 use borrow.Author.Needs.{needs}
 use Rattle.judge_rules.proofs.batch_follows.Statement.{statement}
 use Rattle.judge_rules.proofs.batch_follows.Tie as tie
@@ -9,9 +9,6 @@ batch-in-run-requires c κs = search needs
 
 returns : tie.Need-returns
 returns c = search batch-wrong
-
-ready-time-requires : tie.Need-ready-time-requires
-ready-time-requires c κs = search batch-ready
 
 finish-due-requires : tie.Need-finish-due-requires
 finish-due-requires c κs = search batch-due
@@ -23,4 +20,4 @@ returns-2 : tie.Need-returns-2
 returns-2 c = search batch-right
 
 pub batch-follows-spec : {M : Type 1} → statement M
-batch-follows-spec = tie.close (tie.spec batch-in-run-requires returns ready-time-requires finish-due-requires batch-in-time-requires returns-2)
+batch-follows-spec = tie.close (tie.spec batch-in-run-requires returns finish-due-requires batch-in-time-requires returns-2)

@@ -8,25 +8,20 @@ use Rattle.judge_rules.specs.Follows.{batchInTime}
 use Rattle.judge_rules.proofs.batch_in_time.Statement.{statement}
 use Rattle.judge_rules.proofs.batch_in_time.Tie as tie
 
-finish-untrue : (ready before start finish due : ℕ) → ready ≤ start → before ≤ start → (finish ≡ due → ⊥)
-    → _≡_ {A = Bool} false (batchInTime ready before start finish due)
+finish-untrue : (before start finish due : ℕ) → before ≤ start → (finish ≡ due → ⊥) → _≡_ {A = Bool} false (batchInTime before start finish due)
 unfolding batchInTime
-finish-untrue ready before start finish due a b d = rw (le-leb _ _ a, le-leb _ _ b, ne-eqb _ _ d)
+finish-untrue before start finish due b d = rw (le-leb _ _ b, ne-eqb _ _ d)
 
 returns : tie.Need-returns
 unfolding batchInTime
 returns c = search branches depth 14
 
 returns-2 : tie.Need-returns-2
-unfolding batchInTime
-returns-2 c = search branches depth 14
+returns-2 c = search finish-untrue
 
 returns-3 : tie.Need-returns-3
-returns-3 c = search finish-untrue
-
-returns-4 : tie.Need-returns-4
 unfolding batchInTime
-returns-4 c = search branches depth 14
+returns-3 c = search branches depth 14
 
 pub batch-in-time-spec : {M : Type 1} → statement M
-batch-in-time-spec = tie.close (tie.spec returns returns-2 returns-3 returns-4)
+batch-in-time-spec = tie.close (tie.spec returns returns-2 returns-3)

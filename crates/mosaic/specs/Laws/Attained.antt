@@ -15,7 +15,7 @@ use Rattle.running.specs.FunctionLaws.{mostSetup}
 use Rattle.running.specs.Running.{BatchFollows, MosaicRuns, none, more}
 use Rattle.rules_laws.specs.Finish.{setup-most}
 use Rattle.rules_laws.specs.MosaicRunning.{runningFigure}
-use Rattle.batching.specs.Least.{mountStart, benchStart, finishOf}
+use Rattle.batching.specs.Least.{benchStart, finishOf}
 use Rattle.mosaic.specs.Least.{instanceOf}
 use Rattle.batching.specs.Chosen.{batchOf}
 use Rattle.batching.specs.Index.{leastAt, openAt, closedAt, chosenAt, chosenOpenAt}
@@ -23,10 +23,10 @@ use Rattle.batching.specs.Recursion.{least-end, least-one, least-open, open-las
 use Rattle.mosaic.specs.Laws.Finish.{earliest-lawful}
 use Rattle.mosaic.specs.Laws.Rules.{weight-count, bench-most, ready-most}
 
--- each mount starts when the bench is free and the batch's last strip is ready
-unfoldable pub AsEarly : MosaicSection → ℕ → List Batch → Type 0
-AsEarly m free [] = Unit
-AsEarly m free (b ∷ bs) = (b .start ≡ mountStart free (ready m (b .last))) × AsEarly m (b .finish) bs
+-- each mount starts when the batch before finishes
+unfoldable pub AsEarly : ℕ → List Batch → Type 0
+AsEarly free [] = Unit
+AsEarly free (b ∷ bs) = (b .start ≡ free) × AsEarly (b .finish) bs
 
 unfoldable pub FinishBy : ℕ → List Batch → Type 0
 FinishBy c [] = Unit
@@ -40,7 +40,7 @@ latest i = mostStrips * mostTime + i * (mostSetup + mostTime)
 pub record Attains (m : MosaicSection) (i free figure : ℕ) (bs : List Batch) : Type 0 where
   pub lawful : (p : Batch) → p .last ≡ i → p .finish ≡ free → MosaicRuns m p bs
   pub figure-is : (p : Batch) → p .last ≡ i → runningFigure p bs ≡ figure
-  pub early : AsEarly m free bs
+  pub early : AsEarly free bs
   pub finishes : FinishBy (latest (m .strips)) bs
 
 module _ {m : MosaicSection} (S : MosaicSound m) where
@@ -55,7 +55,7 @@ module _ {m : MosaicSection} (S : MosaicSound m) where
 
   module _ (i q free : ℕ) (h : i < q) (k : q ≤ m .strips) (l : free ≤ latest i) where
     finish-most : finishOf (instanceOf m) free i q ≤ latest q
-    unfolding instanceOf finishOf benchStart mountStart
+    unfolding instanceOf finishOf benchStart
     finish-most =
         omega (arith, bench-most S i (q - i), ready-most S q (omega (arith, S .most-strips)), setup-most m S)
 

@@ -6,32 +6,29 @@ use native.Mathlib.Omega.{arith}
 use lib.ListN.{length, getD, drop}
 use Rattle.sheet.specs.declared.MosaicSection.{MosaicSection}
 use Rattle.rules.specs.declared.Batch.{Batch}
-use Rattle.rules.specs.Mosaic.{ready, noBatch}
+use Rattle.rules.specs.Mosaic.{noBatch}
 use Rattle.running.specs.Running.{BatchFollows, MosaicRuns, more}
 use Rattle.rules_laws.specs.Finish.{finish-mono}
-use Rattle.batching.specs.Least.{mountStart}
 use Rattle.mosaic.specs.Plan.{lasts}
 use Rattle.mosaic.specs.Laws.Attained.{AsEarly}
 
 module _ (m : MosaicSection) where
-  -- two batches with the same last strip, the first as early as can be, after p and after r
-  first-start : (p r c b : Batch) → c .start ≡ mountStart (p .finish) (ready m (c .last)) → BatchFollows m r b → c .last ≡ b .last → p .finish ≤ r .finish
-      → c .start ≤ b .start
-  unfolding mountStart
-  first-start p r c b e B l f = omega (arith, B .lawful .waits-strip, B .lawful .waits-batch, ap (ready m) l)
+  -- two batches, the first as early as can be, after p and after r
+  first-start : (p r c b : Batch) → c .start ≡ p .finish → BatchFollows m r b → p .finish ≤ r .finish → c .start ≤ b .start
+  first-start p r c b e B f = omega (arith, B .lawful .waits-batch)
 
   first-finish : (p r c b : Batch) → BatchFollows m p c → BatchFollows m r b → p .last ≡ r .last → c .last ≡ b .last → c .start ≤ b .start
       → c .finish ≤ b .finish
   first-finish p r c b C B e l s = omega (arith, finish-mono m p r c b e l s, C .lawful .finishes, B .lawful .finishes)
 
-  pub earliest : (cs bs : List Batch) (p r : Batch) → AsEarly m (p .finish) cs → MosaicRuns m p cs → MosaicRuns m r bs → p .last ≡ r .last
+  pub earliest : (cs bs : List Batch) (p r : Batch) → AsEarly (p .finish) cs → MosaicRuns m p cs → MosaicRuns m r bs → p .last ≡ r .last
       → p .finish ≤ r .finish
       → lasts bs ≡ lasts cs → (i : ℕ) → i < length bs → getD cs i noBatch .start ≤ getD bs i noBatch .start
   unfolding AsEarly lasts
   earliest cs [] p r E C B l f e i h = absurd (omega arith)
   earliest [] (b ∷ bs) p r E C B l f e i h = let z : _≡_ {A = ℕ} 0 1 = cc in absurd (omega arith)
-  earliest (c ∷ cs) (b ∷ bs) p r E (more F C) (more G B) l f e zero h = first-start p r c b (E .0) G (sym (ap (λ (n : List ℕ). getD n 0 0) e)) f
+  earliest (c ∷ cs) (b ∷ bs) p r E (more F C) (more G B) l f e zero h = first-start p r c b (E .0) G f
   earliest (c ∷ cs) (b ∷ bs) p r E (more F C) (more G B) l f e (suc i) h =
       let same : c .last ≡ b .last = sym (ap (λ (n : List ℕ). getD n 0 0) e) in
-      let late : c .finish ≤ b .finish = first-finish p r c b F G l same (first-start p r c b (E .0) G same f) in
+      let late : c .finish ≤ b .finish = first-finish p r c b F G l same (first-start p r c b (E .0) G f) in
       earliest cs bs c b (E .1) C B same late (ap (λ (n : List ℕ). drop 1 n) e) i (omega arith)

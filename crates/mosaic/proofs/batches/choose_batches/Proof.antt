@@ -1,7 +1,7 @@
 -- `choose_batches` meets its contract. Invariant: the batches written, with those that the recursion takes after them, are all that it takes.
 use Prim.Native.Nat.{_-_}
 use borrow.Author.Needs.{needs}
-use Rattle.mosaic.proofs.BatchLaws.{PlanSoFar, plan-start, plan-first, plan-mounted, plan-sub, plan-finish, plan-add, plan-step, plan-end}
+use Rattle.mosaic.proofs.BatchLaws.{PlanSoFar, plan-start, plan-mounted, plan-first, plan-sub, plan-finish, plan-add, plan-step, plan-end}
 use Rattle.mosaic.proofs.batches.choose_batches.Statement.{statement}
 use Rattle.mosaic.proofs.batches.choose_batches.Tie as tie
 
@@ -17,6 +17,9 @@ loop-holds c = search plan-start
 first-batch-requires : tie.Need-first-batch-requires Inv-loop μ-loop
 first-batch-requires c κs = search plan-first
 
+add-mounted : tie.Need-add-mounted Inv-loop μ-loop
+add-mounted c = search plan-mounted
+
 sub-greater : tie.Need-sub-greater Inv-loop μ-loop
 sub-greater c = search needs
 
@@ -28,9 +31,6 @@ shared-slice-read-greater c = search needs
 
 greater-requires : tie.Need-greater-requires Inv-loop μ-loop
 greater-requires c κs = search needs
-
-add-finish : tie.Need-add-finish Inv-loop μ-loop
-add-finish c = search plan-mounted
 
 mul-finish : tie.Need-mul-finish Inv-loop μ-loop
 mul-finish c = search needs
@@ -47,8 +47,8 @@ shared-slice-read-finish-2 c = search needs
 sub-finish : tie.Need-sub-finish Inv-loop μ-loop
 sub-finish c = search plan-sub
 
-add-finish-2 : tie.Need-add-finish-2 Inv-loop μ-loop
-add-finish-2 c = search plan-finish
+add-finish : tie.Need-add-finish Inv-loop μ-loop
+add-finish c = search plan-finish
 
 sub-add-batch : tie.Need-sub-add-batch Inv-loop μ-loop
 sub-add-batch c = search needs
@@ -76,17 +76,17 @@ choose-batches-spec =
     μ-loop
     loop-holds
     first-batch-requires
+    add-mounted
     sub-greater
     mul-greater
     shared-slice-read-greater
     greater-requires
-    add-finish
     mul-finish
     shared-slice-read-finish
     mul-finish-2
     shared-slice-read-finish-2
     sub-finish
-    add-finish-2
+    add-finish
     sub-add-batch
     add-batch-requires
     loop-less
