@@ -54,7 +54,7 @@ use Rattle.order.specs.Order.{Proper}
 use Rattle.base.specs.Answer.{answer, written}
 use Rattle.base.specs.declared.Answer.{Answer}
 use Rattle.base.specs.LeastFigure.{NoLarger, LeastFigure, same-least}
-use Rattle.rules.specs.Mosaic.{batchAt, MosaicUnder, MosaicLawful, mosaicFigure}
+use Rattle.rules.specs.Mosaic.{batchAt, batchBefore, finishDue, MosaicUnder, MosaicLawful, mosaicFigure}
 use Rattle.rules.specs.Sorting.{jobAt, SortingUnder, SortingLawful, sortingFigure}
 use Rattle.rules.specs.ScannerList.{scannerList, SameOrAfter, SortingTaken}
 use Rattle.rules.specs.Flight.{passesAt, secondDue, DelayKept, AllApart, FlightUnder, FlightLawful, Keeps, OrderAllowed, flightFigure}
@@ -64,10 +64,11 @@ use Rattle.rules.specs.declared.Passes.{Passes}
 use Rattle.rules.specs.Plan.{Plan, mosaicFields, sortingFields, flightFields, planBytes, PlanUnder, AllowedFor}
 use Rattle.plan_format.specs.Format.{sizeOf, flightHeadForm}
 use Rattle.plan_format.specs.ByteLaws.{AreBytes}
-use Rattle.plan_read.specs.PlanRead.{passesFrom, blocksFrom}
+use Rattle.plan_read.specs.PlanRead.{batchFrom, passesFrom, blocksFrom}
 use Rattle.rules_laws.specs.FlightRunning.{all-apart}
 use Rattle.rules_laws.specs.Turns.{NextApart, neighbours-apart, neighbours-enough}
 use Rattle.rules_laws.specs.Delays.{withDelays, DelaysChosen, exact-delay, choice-kept, kept-choice, same-order, same-figure}
+use Rattle.rules_laws.specs.Mounts.{MountsWait, waiting-obeys, MountsMoved, moved-obeys, moved-figure}
 use Rattle.rules_laws.specs.Determined.{plan-most, plan-determined}
 use Rattle.judge.specs.Judged.{partAt, turnedBack, found, judged}
 use Rattle.judge_members.specs.Members.{present, memberPlace}
@@ -80,7 +81,7 @@ use Rattle.judge_laws.specs.OtherPlace.{same-judged, same-refused}
 use Rattle.judge_laws.specs.Theorems.{FiguresTrue, FiguresGiven, judge-allows, allowed-judged, allowed-found, allowed-stated, judged-figures, figures-given}
 use Rattle.judge_laws.specs.Theorems.{fault-judged, judged-fault, judged-sheet-only}
 use Rattle.mosaic.specs.Plan.{lasts}
-use Rattle.mosaic.specs.Theorems.{mosaic-ceiling}
+use Rattle.mosaic.specs.Theorems.{mosaic-ceiling, mosaic-mounts}
 use Rattle.sorting.specs.Theorems.{sorting-ceiling}
 use Rattle.flight.specs.Chosen.{LongestBelowTurn}
 use Rattle.flight.specs.Choice.{oneByOne, chosenOrder}
@@ -836,6 +837,19 @@ module _ (sheet plan : List ℕ) (j : Judged) (call : j ≡ judged sheet plan) w
   pub judge-never-gives-eleven : j .number ≡ orderImpossible → ⊥
   judge-never-gives-eleven = rw call (λ e. not-eleven sheet _ _ (judged-sheet-only sheet plan orderImpossible (omega arith) (λ l m. omega arith) e) refl)
 
+-- 13 at the first member of a section that does not follow: the sheet is sound, the plan laid out, no section before has a fault and every member before this
+-- one follows.
+member-is-thirteen : (sheet plan : List ℕ) (j : Judged) → j ≡ judged sheet plan → readSheet sheet .number ≡ 0 → LaidOut (readSheet sheet) plan
+    → (section : ℕ) → 1 ≤ section → section ≤ 3
+    → ((i : ℕ) → 1 ≤ i → i < section → present (readSheet sheet) i ≡ true → (n p : ℕ) → SectionFault (readSheet sheet) plan i n p → ⊥)
+    → present (readSheet sheet) section ≡ true
+    → (k : ℕ) (st : Progress) → Judging (readSheet sheet) plan section k st → k < partAt (readSheet sheet) plan section .members
+    → (MemberFollows (readSheet sheet) plan section k (memberPlace section (partAt (readSheet sheet) plan section .head) k) st → ⊥)
+    → j ≡ turnedBack ruleBroken (memberPlace section (partAt (readSheet sheet) plan section .head) k)
+member-is-thirteen sheet plan j call sound laid section least most before there k st judging more not-followed =
+    turns-back-for-its-fault sheet plan j call ruleBroken _
+    (Fault.in-section section sound laid least most before there (SectionFault.at-member k st judging more not-followed refl refl))
+
 -- "a turn too short is 13 at the head": the sheet is sound, the plan laid out, no section before has a fault and every block follows, but some two passes of
 -- the plan are less than g apart. Then the judge gives 13 at the plan's flight head, before 14.
 pub short-turn-is-thirteen : (sheet plan : List ℕ) (j : Judged) → j ≡ judged sheet plan → readSheet sheet .number ≡ 0 → LaidOut (readSheet sheet) plan
@@ -1037,9 +1051,7 @@ pub delay-outside-is-thirteen : (sheet plan : List ℕ) (j : Judged) → j ≡ j
     → j ≡ turnedBack ruleBroken (memberPlace 3 (partAt (readSheet sheet) plan 3 .head) k)
 unfolding MemberFollows
 delay-outside-is-thirteen sheet plan j call sound laid before there k st judging more outside =
-    turns-back-for-its-fault sheet plan j call ruleBroken _
-    (Fault.in-section 3 sound laid (omega arith) (omega arith) before there
-    (SectionFault.at-member k st judging more (λ h. outside (h .delay-kept)) refl refl))
+    member-is-thirteen sheet plan j call sound laid 3 (omega arith) (omega arith) before there k st judging more (λ h. outside (h .delay-kept))
 
 -- "an exact delay being a window of one value": with a block of tag 31 behind some bytes, and with one of tag 33 in its place whose bounds are both its delay,
 -- wherever the reading comes to that block, two calls with the same buffers give the same number, plan bytes and length, and places behind the block are two
@@ -1055,3 +1067,81 @@ module _ (before : List ℕ) (a l b : ℕ) (rest : List ℕ) (st : Reading) (rea
       → (readSheet (withExactDelay before a l b rest) .number ≡ 0 → k ≡ j)
       × ((readSheet (withExactDelay before a l b rest) .number ≡ 0 → ⊥) → k ≡ turnedBack (j .number) (movedPlace (length before) (j .place)))
   one-value-judged plan j k judging also = judged-same _ _ _ (one-value before a l b rest st reached here) plan j k judging also
+
+-- REQ 08. "The bench has a second frame, so mounting can begin before the strips are there." When a mount may start, when the bench work of its batch does and
+-- when the batch finishes is said in Mosaic.antt of crate rules (`BatchUnder`, `benchWorkStart`, `finishDue`). "mosaic figures are judged, and compared as best,
+-- under this rule alone": all that is said above of allowed plans and their figures (`allows-what-obeys`, `allows-nothing-else`), of least figures over all
+-- batchings and all idle times (`no-smaller-figure`, `best-exactly-mosaic`) and of starts (`mounts-early`) is said of these rules.
+-- "From now on a mount starts no earlier than the batch before finishes, or 0", and 01: "The planner starts every mount .. as early as its batches .. allow":
+-- each mount of our plan starts just when the batch before finishes, the first at 0 (the finish of `noBatch`).
+pub mounts-at-the-finish-before : (sheet plan table planAfter tableEnd : List ℕ) (r : Answer) → Called sheet plan table planAfter tableEnd r → r .number ≡ 0
+    → (ours : AllowedFor sheet (written r planAfter)) (i : ℕ) → i < length (ours .allowed .plan .batches)
+    → batchAt (ours .allowed .plan .batches) i .start ≡ batchBefore (ours .allowed .plan .batches) i .finish
+unfolding chosenPlan
+mounts-at-the-finish-before sheet plan table planAfter tableEnd r call z ours =
+    rw (ours-chosen sheet plan table planAfter tableEnd r call z ours) (mosaic-mounts (readSheet sheet .mosaic) (read-sound sheet (ours .sound) .mosaic))
+
+-- "Bench work starts when the mount is done and the batch's last strip is ready". So a mount before the ready time is no fault, and several starts may have one
+-- finish: where the mounts of an allowed plan are moved, none before the batch before finishes, and the bench work of each batch starts when it did
+-- (`MountsMoved` of rules_laws, Mounts.antt), the judge allows the plan so changed, with the figures of before.
+abbrev pub withBatches : List Batch → Plan → Plan
+withBatches bs p = record { batches = bs; jobs = p .jobs; order = p .order; passes = p .passes }
+
+module _ (sheet q : List ℕ) (a : AllowedFor sheet q) (bs : List Batch) (moved : MountsMoved (readSheet sheet .mosaic) (a .allowed .plan .batches) bs) where
+  pub moved-mounts-allowed : AllowedFor sheet (planBytes (readSheet sheet) (withBatches bs (a .allowed .plan)))
+  moved-mounts-allowed = record {
+    sound = a .sound;
+    allowed = record {
+      plan = withBatches bs (a .allowed .plan);
+      lawful = record {
+        mosaic = moved-obeys (readSheet sheet .mosaic) moved (a .allowed .lawful .mosaic);
+        sorting = a .allowed .lawful .sorting;
+        flight = a .allowed .lawful .flight;
+        kept = a .allowed .lawful .kept;
+        order = a .allowed .lawful .order;
+      };
+      layout = refl;
+    };
+  }
+
+  pub moved-mounts-judged : (j : Judged) → j ≡ judged sheet (planBytes (readSheet sheet) (withBatches bs (a .allowed .plan)))
+      → (j .number ≡ 0) × FiguresTrue (readSheet sheet) (a .allowed .plan) j
+  unfolding moved-mounts-allowed
+  moved-mounts-judged j call =
+      let allows = allows-what-obeys sheet _ j call moved-mounts-allowed in (
+        allows .0,
+        record {
+          place = allows .1 .place;
+          mosaic = allows .1 .mosaic ∙ moved-figure (readSheet sheet .mosaic) moved;
+          sorting = allows .1 .sorting;
+          flight = allows .1 .flight;
+        },
+      )
+
+-- A timetable whose mounts wait for the strips, by 01's own rule (`MountsWait`), is one by this rule too, with the same starts and finishes: so plans drawn by
+-- that rule stay allowed. It has no smaller figure than ours (`no-smaller-figure`).
+pub waiting-mounts-obey : (sheet : List ℕ) (bs : List Batch) → MountsWait ceiling (readSheet sheet .mosaic) bs → MosaicLawful (readSheet sheet .mosaic) bs
+waiting-mounts-obey sheet bs waits = waiting-obeys (readSheet sheet .mosaic) bs waits
+
+-- A plan is turned back with 13 at the first batch that breaks the rule: its finish is another than is due, one early or one late, whenever its mount starts ..
+module _ (sheet plan : List ℕ) (j : Judged) (call : j ≡ judged sheet plan) (sound : readSheet sheet .number ≡ 0) (laid : LaidOut (readSheet sheet) plan)
+    (there : present (readSheet sheet) 1 ≡ true) (k : ℕ) (st : Progress) (judging : Judging (readSheet sheet) plan 1 k st)
+    (more : k < partAt (readSheet sheet) plan 1 .members) where
+  -- the batch at its place in the plan
+  abbrev batchThere : Batch
+  batchThere = batchFrom plan (memberPlace 1 (partAt (readSheet sheet) plan 1 .head) k)
+
+  pub other-finish-is-thirteen : (batchThere .finish ≡ finishDue (readSheet sheet .mosaic) (st .before) batchThere → ⊥)
+      → j ≡ turnedBack ruleBroken (memberPlace 1 (partAt (readSheet sheet) plan 1 .head) k)
+  unfolding MemberFollows
+  other-finish-is-thirteen other =
+      member-is-thirteen sheet plan j call sound laid 1 (omega arith) (omega arith) (λ i l m. absurd (omega arith)) there k st judging more
+      (λ h. other (h .lawful .finishes))
+
+  -- .. or its mount starts before the batch before finishes.
+  pub mount-too-early-is-thirteen : batchThere .start < st .before .finish
+      → j ≡ turnedBack ruleBroken (memberPlace 1 (partAt (readSheet sheet) plan 1 .head) k)
+  unfolding MemberFollows
+  mount-too-early-is-thirteen early =
+      member-is-thirteen sheet plan j call sound laid 1 (omega arith) (omega arith) (λ i l m. absurd (omega arith)) there k st judging more
+      (λ h. omega (arith, h .lawful .waits-batch))

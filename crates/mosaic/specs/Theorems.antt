@@ -1,16 +1,16 @@
 -- The theorems of the mosaic planner, for every sound section m: the batching taken is lawful, has the least figure of all timetables (any batching, any idle
--- time, any ceiling), starts each mount as early as its batches allow, and finishes below the ceiling.
+-- time, any ceiling), starts each mount when the batch before finishes, as early as its batches allow, and finishes below the ceiling.
 use mathlib.Core.Path.{_≡_, refl, _∙_}
-use mathlib.Core.List.{List, []}
+use mathlib.Core.List.{List, [], _∷_}
 use Prim.Native.Nat.{ℕ, _*_, _-_, _≤_, _<_}
 use native.Mathlib.Omega.{arith}
 use Rattle.base.specs.LeastFigure.{NoLarger}
-use lib.ListN.{length}
+use lib.ListN.{length, getD}
 use Rattle.sheet.specs.Limits.{mostStrips}
 use Rattle.sheet.specs.Sound.{MosaicSound}
 use Rattle.sheet.specs.declared.MosaicSection.{MosaicSection}
 use Rattle.rules.specs.declared.Batch.{Batch}
-use Rattle.rules.specs.Mosaic.{noBatch, batchAt, MosaicUnder, MosaicLawful, mosaicFigure}
+use Rattle.rules.specs.Mosaic.{noBatch, batchAt, batchBefore, MosaicUnder, MosaicLawful, mosaicFigure}
 use Rattle.running.specs.Running.{MosaicRuns}
 use Rattle.batching.specs.Least.{leastFrom}
 use Rattle.mosaic.specs.Least.{leastFigure}
@@ -19,10 +19,11 @@ use Rattle.mosaic.specs.Chosen.{chosenBatches}
 use Rattle.mosaic.specs.Plan.{lasts}
 use Rattle.rules_laws.specs.Equivalent as running
 use Rattle.rules_laws.specs.Fits.{mosaic-figure-least, batches-most}
+use Rattle.rules_laws.specs.MosaicRunning.{before-is}
 use Rattle.mosaic.specs.Laws.LowerBound.{lower-after}
 use Rattle.mosaic.specs.Laws.Attained.{latest, figure-most}
 use Rattle.mosaic.specs.Laws.Whole.{least-is, attained, finish-at}
-use Rattle.mosaic.specs.Laws.Earliest.{earliest}
+use Rattle.mosaic.specs.Laws.Earliest.{early-start, earliest}
 
 module _ (m : MosaicSection) (S : MosaicSound m) where
   chosen-runs : MosaicRuns m noBatch (chosenBatches m)
@@ -49,6 +50,13 @@ module _ (m : MosaicSection) (S : MosaicSound m) where
   unfolding noBatch batchAt
   mosaic-earliest bs L e =
       earliest m (chosenBatches m) bs noBatch noBatch (attained m S .early) chosen-runs (running.mosaic-runs m bs L) refl (omega arith) e
+
+  -- 02, Req 08: "a mount starts no earlier than the batch before finishes, or 0": each starts just then
+  pub mosaic-mounts : (i : ℕ) → i < length (chosenBatches m) → batchAt (chosenBatches m) i .start ≡ batchBefore (chosenBatches m) i .finish
+  mosaic-mounts i h = rw (before-is (chosenBatches m) i) (starts i h)
+    where
+      starts : (i : ℕ) → i < length (chosenBatches m) → batchAt (chosenBatches m) i .start ≡ getD (noBatch ∷ chosenBatches m) i noBatch .finish
+      starts i h = unfold noBatch batchAt in early-start (chosenBatches m) noBatch (attained m S .early) i h
 
   -- the ceiling is never met: ready times, mounts and bench times of 40 strips at most
   pub mosaic-finishes : (i : ℕ) → i < length (chosenBatches m) → batchAt (chosenBatches m) i .finish ≤ latest mostStrips

@@ -23,7 +23,8 @@ pub count-within : {c : ℕ} (m : MosaicSection) (b : Batch) (bs : List Batch) �
 count-within m b [] (none e) = omega arith
 count-within m b (d ∷ bs) (more f r) = omega (arith, count-within m d bs r, f .lawful .rises)
 
-before-is : (bs : List Batch) (i : ℕ) → batchBefore bs i ≡ getD (noBatch ∷ bs) i noBatch
+-- the batch before batch i, in the list with `noBatch` put before it
+pub before-is : (bs : List Batch) (i : ℕ) → batchBefore bs i ≡ getD (noBatch ∷ bs) i noBatch
 unfolding batchBefore batchAt
 before-is bs zero = refl
 before-is bs (suc i) = refl

@@ -1,4 +1,4 @@
--- Batches that start as early as they can start no later than those of any lawful timetable with the same last strips.
+-- Mounts that start when the batch before finishes start no later than those of any lawful timetable with the same last strips.
 use mathlib.Core.Path.{_≡_, ap, sym}
 use mathlib.Core.List.{List, [], _∷_}
 use Prim.Native.Nat.{ℕ, zero, suc, _-_, _≤_, _<_}
@@ -11,6 +11,13 @@ use Rattle.running.specs.Running.{BatchFollows, MosaicRuns, more}
 use Rattle.rules_laws.specs.Finish.{finish-mono}
 use Rattle.mosaic.specs.Plan.{lasts}
 use Rattle.mosaic.specs.Laws.Attained.{AsEarly}
+
+-- each mount starts when the batch before it in the list, or b before the first, finishes
+pub early-start : (bs : List Batch) (b : Batch) → AsEarly (b .finish) bs → (i : ℕ) → i < length bs → getD bs i noBatch .start ≡ getD (b ∷ bs) i noBatch .finish
+unfolding AsEarly
+early-start [] b E i h = absurd (omega arith)
+early-start (d ∷ bs) b E zero h = E .0
+early-start (d ∷ bs) b E (suc i) h = early-start bs d (E .1) i (omega arith)
 
 module _ (m : MosaicSection) where
   -- two batches, the first as early as can be, after p and after r
