@@ -38,50 +38,53 @@ module _ {rs sums late₀ row₀ : List ℕ} {s n i : ℕ} (P : FillLateAfterPre
     pub after-sub : getD sums i 0 ≤ getD sums (q + 1) 0
     after-sub = P .input .rise i (q + 1) (omega (arith, M .from)) (omega arith)
 
-    -- when the bench work of the batch starts: strip q + 1 is ready
-    abbrev begin : ℕ
-    begin = getD rs (q + 1 - 1) 0
-
     -- the batches of the later strips are as they were
     later-at : (j p : ℕ) → i < j → j < p → p ≤ n → getD late (width * j + p) 0 ≡ closedAt (instanceIn rs sums s n) (getD rs (p - 1) 0) j p
     later-at j p g k l = M .kept (width * j + p) (λ r a b e. omega (arith, P .input .most-strips)) ∙ P .later .at j p (omega arith) k l
 
-    pub after-block : FillBlockPre rs sums late row s n begin i (q + 1)
-    after-block = record {
-      input = P .input;
-      later = record { at = λ j p g k l. later-at j p (omega (arith, M .from)) k l };
-      late-long = omega (arith, P .late-long, M .late-len);
-      row-long = omega (arith, P .row-long, M .row-len);
-      from = omega (arith, M .from);
-      inside = omega arith;
-      most-begin = omega (arith, P .input .most-ready (q + 1 - 1));
-    }
+    -- bench work that waits for any strip, which stands at j
+    module _ (j : ℕ) where
+      pub after-block : FillBlockPre rs sums late row s n (getD rs j 0) i (q + 1)
+      after-block = record {
+        input = P .input;
+        later = record { at = λ j p g k l. later-at j p (omega (arith, M .from)) k l };
+        late-long = omega (arith, P .late-long, M .late-len);
+        row-long = omega (arith, P .row-long, M .row-len);
+        from = omega (arith, M .from);
+        inside = omega arith;
+        most-begin = omega (arith, P .input .most-ready j);
+      }
 
-    finish-most : begin + (getD sums (q + 1) 0 - getD sums i 0) ≤ finishCap
-    finish-most = omega (arith, P .input .most-sum (q + 1) (omega arith), P .input .most-ready (q + 1 - 1))
+      finish-most : getD rs j 0 + (getD sums (q + 1) 0 - getD sums i 0) ≤ finishCap
+      finish-most = omega (arith, P .input .most-sum (q + 1) (omega arith), P .input .most-ready j)
 
-    pub after-finish : begin + (getD sums (q + 1) 0 - getD sums i 0) < 2 ^ 64
-    after-finish = omega (arith, finish-most)
+      pub after-finish : getD rs j 0 + (getD sums (q + 1) 0 - getD sums i 0) < 2 ^ 64
+      after-finish = omega (arith, finish-most)
 
-    product-most : (q + 1 - i) * (begin + (getD sums (q + 1) 0 - getD sums i 0)) ≤ batchCap
-    product-most = mul-le-mul {n₂ = mostStrips} {m₂ = finishCap} (omega (arith, P .input .most-strips)) finish-most
+      product-most : (q + 1 - i) * (getD rs j 0 + (getD sums (q + 1) 0 - getD sums i 0)) ≤ batchCap
+      product-most = mul-le-mul {n₂ = mostStrips} {m₂ = finishCap} (omega (arith, P .input .most-strips)) finish-most
 
-    pub after-product : (q + 1 - i) * (begin + (getD sums (q + 1) 0 - getD sums i 0)) < 2 ^ 64
-    after-product = omega (arith, product-most)
+      pub after-product : (q + 1 - i) * (getD rs j 0 + (getD sums (q + 1) 0 - getD sums i 0)) < 2 ^ 64
+      after-product = omega (arith, product-most)
+
+      module _ {row₁ : List ℕ} (R : RowFilled rs sums row row₁ s n (getD rs j 0) i (q + 1)) where
+        row-is : getD row₁ (q + 1) 0 ≡ leastAt (instanceIn rs sums s n) (q + 1) (getD rs j 0 + (getD sums (q + 1) 0 - getD sums i 0))
+        row-is = R .row .at (q + 1) (omega arith) (omega arith)
+
+        pub after-sum : (q + 1 - i) * (getD rs j 0 + (getD sums (q + 1) 0 - getD sums i 0)) + getD row₁ (q + 1) 0 < 2 ^ 64
+        after-sum =
+            omega (arith, product-most, row-is, least-most (P .input) (q + 1) (getD rs j 0 + (getD sums (q + 1) 0 - getD sums i 0)) finish-most)
+
+    -- the batch that is due: its bench work waits for its last strip, q + 1
+    abbrev begin : ℕ
+    begin = getD rs (q + 1 - 1) 0
 
     module _ {row₁ : List ℕ} (R : RowFilled rs sums row row₁ s n begin i (q + 1)) where
-      row-is : getD row₁ (q + 1) 0 ≡ leastAt (instanceIn rs sums s n) (q + 1) (begin + (getD sums (q + 1) 0 - getD sums i 0))
-      row-is = R .row .at (q + 1) (omega arith) (omega arith)
-
-      pub after-sum : (q + 1 - i) * (begin + (getD sums (q + 1) 0 - getD sums i 0)) + getD row₁ (q + 1) 0 < 2 ^ 64
-      after-sum =
-          omega (arith, product-most, row-is, least-most (P .input) (q + 1) (begin + (getD sums (q + 1) 0 - getD sums i 0)) finish-most)
-
       new-is : (p : ℕ) → p ≡ q + 1
           → getD (set late (width * i + (q + 1)) ((q + 1 - i) * (begin + (getD sums (q + 1) 0 - getD sums i 0)) + getD row₁ (q + 1) 0)) (width * i + p) 0
           ≡ closedAt (instanceIn rs sums s n) (getD rs (p - 1) 0) i p
       unfolding closedAt
-      new-is p e = rw (e, row-is) (getD-set-same late (width * i + (q + 1)) _ 0 (omega (arith, P .late-long, M .late-len, P .input .most-strips)))
+      new-is p e = rw (e, row-is (q + 1 - 1) R) (getD-set-same late (width * i + (q + 1)) _ 0 (omega (arith, P .late-long, M .late-len, P .input .most-strips)))
 
       pub after-step : LateSoFar rs sums late₀ row₀
           (set late (width * i + (q + 1)) ((q + 1 - i) * (begin + (getD sums (q + 1) 0 - getD sums i 0)) + getD row₁ (q + 1) 0)) row₁ s n i (q + 1)
