@@ -52,9 +52,9 @@ static inline struct finding judge_mosaic(const struct mosaic *m, const uint8_t 
     read_times(m, ready, sums);
     for (size_t k = 0, at = s.first; k < s.members; k++, at += 12) {
         u64 last = plan[at + 3], start = number_at(plan + at + 4, 4), finish = number_at(plan + at + 8, 4);
-        if (last <= done || m->strips < last || start < ready[last - 1] || start < free)
+        if (last <= done || m->strips < last || start < free)
             return (struct finding){at, 0};
-        if (finish != start + m->mount + sums[last] - sums[done] || CEILING < finish)
+        if (finish != bench_start(m->mount, start, ready[last - 1]) + sums[last] - sums[done] || CEILING < finish)
             return (struct finding){at, 0};
         figure += (last - done) * finish;
         done = last;

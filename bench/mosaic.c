@@ -6,6 +6,23 @@ extern u64 mosaic_best(size_t stations, u64 mount, size_t strips, const u64 stat
 
 enum { INSTANCES = 60 };
 
+/* What a family has otherwise than random times: long mounts beside short times, or strips that are ready when their mounts are done, each alone. */
+enum change { NONE, LONG_MOUNTS, JUST_READY };
+
+struct family {
+    const char *name;
+    u64 most;
+    enum change change;
+};
+
+static const struct family families[] = {
+    {"to 60,000", MOST_TIME, NONE},
+    {"to 10,000", 10000, NONE},
+    {"to 10", 10, NONE},
+    {"long mounts", 1000, LONG_MOUNTS},
+    {"just ready", MOST_TIME / 2, JUST_READY},
+};
+
 struct instance {
     struct mosaic mosaic;
     u64 ours, plain;
@@ -22,31 +39,40 @@ static void plain(void *p) {
     x->plain = mosaic_in_c(&x->mosaic).figure;
 }
 
+static struct mosaic make_mosaic(const struct family *f, size_t stations, size_t strips) {
+    struct mosaic m = random_mosaic(stations, strips, 0, f->most);
+    if (f->change == LONG_MOUNTS)
+        m.mount = any(MOST_TIME / 2, MOST_TIME);
+    if (f->change == JUST_READY)
+        for (size_t i = 0; i < 4 * strips; i++)
+            m.station[i] = m.mount + (i < 4 ? 0 : m.bench[i / 4 - 1]);
+    return m;
+}
+
 /* One line of the table. Returns the planner's median time. */
-static double measure(const char *family, u64 most, size_t strips) {
+static double measure(const struct family *f, size_t strips) {
     struct times t = {0};
     for (int i = 0; i < INSTANCES; i++) {
-        struct instance x = {.mosaic = random_mosaic(1 + (size_t)i % 4, strips, 0, most)};
+        struct instance x = {.mosaic = make_mosaic(f, 1 + (size_t)i % 4, strips)};
         add_instance(&t, ours, plain, &x);
-        require_equal(x.ours == x.plain, family, i);
+        require_equal(x.ours == x.plain, f->name, i);
     }
-    printf("%-10s %6zu %9d ", family, strips, INSTANCES);
+    printf("%-12s %6zu %9d ", f->name, strips, INSTANCES);
     print_times(&t);
     printf("\n");
     return median(t.ours, t.count);
 }
 
-static void measure_all(const char *family, u64 most) {
-    double ten = measure(family, most, 10), twenty = measure(family, most, 20), forty = measure(family, most, 40);
-    printf("%-10s growth of the planner's time: from 10 to 20 strips %.1f, from 20 to 40 %.1f\n", family, twenty / ten, forty / twenty);
+static void measure_all(const struct family *f) {
+    double ten = measure(f, 10), twenty = measure(f, 20), forty = measure(f, 40);
+    printf("%-12s growth of the planner's time: from 10 to 20 strips %.1f, from 20 to 40 %.1f\n", f->name, twenty / ten, forty / twenty);
 }
 
 int main(void) {
-    printf("%-10s %6s %9s ", "times", "strips", "instances");
+    printf("%-12s %6s %9s ", "times", "strips", "instances");
     print_times_head();
     printf("\n");
-    measure_all("to 60,000", MOST_TIME);
-    measure_all("to 10,000", 10000);
-    measure_all("to 10", 10);
+    for (size_t i = 0; i < sizeof families / sizeof families[0]; i++)
+        measure_all(&families[i]);
     return 0;
 }

@@ -22,8 +22,13 @@ struct choice {
     u64 figure;
 };
 
+/* When the bench work of a batch begins: its mount is done, and its last strip is ready. */
+static inline u64 bench_start(u64 mount, u64 start, u64 ready) {
+    return start + mount < ready ? ready : start + mount;
+}
+
 static inline u64 candidate(const u64 *ready, const u64 *sums, const u64 *late, const u64 *row, u64 mount, u64 free, size_t i, size_t q) {
-    if (ready[q - 1] <= free)
+    if (ready[q - 1] <= free + mount)
         return (u64)(q - i) * (free + mount + (sums[q] - sums[i])) + row[q];
     return late[41 * i + q];
 }
@@ -70,7 +75,7 @@ static inline struct mosaic_plan mosaic_in_c(const struct mosaic *m) {
     for (size_t i = n; 0 < i;) {
         i--;
         for (size_t q = i + 1; q <= n; q++) {
-            u64 begin = ready[q - 1] + mount;
+            u64 begin = ready[q - 1];
             fill_block(ready, sums, late, row, mount, n, begin, i, q);
             late[41 * i + q] = (u64)(q - i) * (begin + (sums[q] - sums[i])) + row[q];
         }
@@ -78,10 +83,9 @@ static inline struct mosaic_plan mosaic_in_c(const struct mosaic *m) {
     for (size_t i = 0; i < n;) {
         fill_block(ready, sums, late, row, mount, n, free + mount, i, i + 1);
         size_t q = choose_batch(ready, sums, late, row, mount, n, free, i).last;
-        u64 start = free < ready[q - 1] ? ready[q - 1] : free;
-        free = start + mount + (sums[q] - sums[i]);
         plan.last[plan.batches] = q;
-        plan.start[plan.batches] = start;
+        plan.start[plan.batches] = free;
+        free = bench_start(mount, free, ready[q - 1]) + (sums[q] - sums[i]);
         plan.finish[plan.batches++] = free;
         plan.figure += (u64)(q - i) * free;
         i = q;
