@@ -10,7 +10,7 @@ import struct
 import sys
 
 import sheet_cases as sheets
-from sheet_cases import MOST_TURN, OVER, block, field, flight, job, mosaic, order, sorting, strip, window, word
+from sheet_cases import MOST_TIME as TIME, MOST_TURN, OVER, block, field, flight, job, mosaic, order, sorting, strip, window, word
 
 FOLDER = sheets.FOLDER.parent / "judge_cases"
 CEILING = 10_000_000
@@ -35,23 +35,40 @@ def passes(figure, order_number, *members):
     return field(0xB0, four(figure) + struct.pack("<Q", order_number)) + b"".join(field(0xB1, four(*starts)) for starts in members)
 
 
+def ready_strips(mount, *strips):
+    """A mosaic of one station. Strips: when it is ready, bench time."""
+    before = [0, *[ready for ready, _ in strips]]
+    return mosaic(1, mount) + b"".join(strip(ready - earlier, bench) for earlier, (ready, bench) in zip(before, strips))
+
+
 CASES = []
+# Sheets and plans of over 1,000 bytes together. They have no room in the file that judge_cases reads; plan_cases.py and page_cases.py try them.
+LARGE = []
+
+
+def judged(name, sheet, plan, line):
+    cases = CASES if len(sheet) + len(plan) <= 1000 else LARGE
+    cases.append((name, sheet, plan, line))
 
 
 def allowed(name, sheet, plan, mosaic_figure=0, sorting_figure=0, flight_figure=0):
-    CASES.append((name, sheet, plan, "0 0 %d %d %d" % (mosaic_figure, sorting_figure, flight_figure)))
+    judged(name, sheet, plan, "0 0 %d %d %d" % (mosaic_figure, sorting_figure, flight_figure))
 
 
 def refused(name, sheet, plan, number, place):
-    CASES.append((name, sheet, plan, "%d %d 0 0 0" % (number, place)))
+    judged(name, sheet, plan, "%d %d 0 0 0" % (number, place))
 
 
-# The worked sheets of 01.
+# The worked sheets of 01. Each batching of the first one with its mounts as early as may be, and with mounts that start when the last strip is ready or later.
 M = sheets.FIRST
-BEST = batches(36, (1, 2, 4), (2, 4, 8), (3, 8, 11), (4, 11, 13))
-allowed("four batches", M, BEST, 36)
-allowed("batches 1, 2-3, 4", M, batches(45, (1, 2, 4), (3, 7, 13), (4, 13, 15)), 45)
-allowed("batches 1, 2, 3-4", M, batches(38, (1, 2, 4), (2, 4, 8), (4, 9, 13)), 38)
+FOUR = [(1, 0, 3), (2, 3, 7), (3, 7, 10), (4, 10, 12)]
+BEST = batches(32, *FOUR)
+allowed("four batches", M, BEST, 32)
+allowed("batches 1, 2-3, 4", M, batches(41, (1, 0, 3), (3, 3, 12), (4, 12, 14)), 41)
+allowed("batches 1, 2, 3-4", M, batches(34, (1, 0, 3), (2, 3, 7), (4, 7, 12)), 34)
+allowed("four batches, later mounts", M, batches(36, (1, 2, 4), (2, 4, 8), (3, 8, 11), (4, 11, 13)), 36)
+allowed("batches 1, 2-3, 4, later mounts", M, batches(45, (1, 2, 4), (3, 7, 13), (4, 13, 15)), 45)
+allowed("batches 1, 2, 3-4, later mounts", M, batches(38, (1, 2, 4), (2, 4, 8), (4, 9, 13)), 38)
 S = sorting(2) + job(1, 2, 5) + job(2, 1, 1)
 allowed("desk 2 first", S, jobs(10, (2, 1, 0, 1), (1, 1, 1, 3)), 0, 10)
 allowed("desk 1 first", S, jobs(11, (1, 1, 0, 2), (2, 1, 2, 3)), 0, 11)
@@ -71,7 +88,7 @@ allowed("000's eight blocks", E + order(0xF2C4), passes(30, 0xF2C4, *EIGHT), 0, 
 allowed("the same with no order given", E, passes(30, 0xF2C4, *EIGHT), 0, 0, 30)
 ALL = M + S + F
 PLAN = BEST + jobs(10, (2, 1, 0, 1), (1, 1, 1, 3)) + passes(5, 0xC, (0, 3), (1, 4))
-allowed("all three sections", ALL, PLAN, 36, 10, 5)
+allowed("all three sections", ALL, PLAN, 32, 10, 5)
 
 # Idle time is allowed.
 allowed("mounts that wait", M, batches(4 * 1000 + 10, (4, 992, 1000)).replace(four(4010), four(4000)), 4000)
@@ -100,8 +117,8 @@ BAD_SHEETS = [
 BAD_PLANS = [
     ("an empty plan", b"", 12, 0),
     ("a plan whose last field is cut", PLAN[:-1], 12, len(PLAN) - 11),
-    ("a plan whose first batch finishes late", batches(36, (1, 2, 5)) + PLAN[19:], 13, 7),
-    ("a plan whose first figure is untrue", batches(37) + PLAN[7:], 14, 0),
+    ("a plan whose first batch finishes late", batches(32, (1, 0, 4)) + PLAN[19:], 13, 7),
+    ("a plan whose first figure is untrue", batches(33) + PLAN[7:], 14, 0),
 ]
 for kind, plan, number, place in BAD_PLANS:
     refused("the good sheet, and " + kind, ALL, plan, number, place)
@@ -116,36 +133,167 @@ refused("a refusal is no plan", M, field(0xE0, word(6) + four(0)), 12, 0)
 refused("a cut head", M, BEST[:6], 12, 0)
 refused("a cut first member", M, BEST[:18], 12, 7)
 refused("a cut last member", M, BEST[:-1], 12, 7 + 3 * 12)
-refused("a head of five bytes", M, field(0x90, four(36) + b"\0"), 12, 0)
-refused("a member of ten bytes", M, batches(36, (1, 2, 4)) + field(0x91, bytes(10)), 12, 19)
+refused("a head of five bytes", M, field(0x90, four(32) + b"\0"), 12, 0)
+refused("a member of ten bytes", M, batches(32, (1, 0, 3)) + field(0x91, bytes(10)), 12, 19)
 refused("a byte behind the plan", M, BEST + b"\0", 12, len(BEST))
 refused("a head behind the last section", M, BEST + batches(0), 12, len(BEST))
 refused("a section missing at the end", M + S, BEST, 12, len(BEST))
 refused("a section missing in the middle", ALL, BEST + passes(5, 0xC, (0, 3), (1, 4)), 12, len(BEST))
 refused("sections in another order", M + S, jobs(10, (2, 1, 0, 1), (1, 1, 1, 3)) + BEST, 12, 0)
-refused("a wrong last field goes before a broken first member", M, batches(36, (1, 0, 4), (2, 4, 8), (3, 8, 11), (4, 11, 13)) + b"\0", 12, len(BEST))
+refused("a wrong last field goes before a broken first member", M, batches(32, (1, 0, 4), *FOUR[1:]) + b"\0", 12, len(BEST))
 
 # 13 at a batch: first, middle, last.
-def mosaic_fault(name, index, member, figure=36):
-    members = [(1, 2, 4), (2, 4, 8), (3, 8, 11), (4, 11, 13)]
+def mosaic_fault(name, index, member):
+    members = list(FOUR)
     members[index] = member
-    refused(name, M, batches(figure, *members), 13, 7 + 12 * index)
+    refused(name, M, batches(32, *members), 13, 7 + 12 * index)
 
 
-mosaic_fault("a mount before its strip is ready", 0, (1, 1, 3))
-mosaic_fault("a finish too early", 0, (1, 2, 3))
-mosaic_fault("a finish too late", 1, (2, 4, 9))
-mosaic_fault("a mount before the batch before finishes", 2, (3, 7, 10))
-mosaic_fault("a batch that does not rise", 2, (2, 8, 9))
-mosaic_fault("a last strip that is not there", 3, (5, 11, 13))
-mosaic_fault("a last strip of 0", 0, (0, 2, 3))
-refused("a batch too many", M, BEST + batches(0, (4, 13, 14))[7:], 13, len(BEST))
-refused("batches missing", M, batches(36, (1, 2, 4), (2, 4, 8), (3, 8, 11)), 13, 0)
-refused("no batch", M, batches(36), 13, 0)
-refused("an untrue figure", M, batches(37, (1, 2, 4), (2, 4, 8), (3, 8, 11), (4, 11, 13)), 14, 0)
-LATE = CEILING - 11
+mosaic_fault("a finish too early", 0, (1, 0, 2))
+mosaic_fault("a finish too late", 1, (2, 3, 8))
+mosaic_fault("a mount before the batch before finishes", 2, (3, 6, 9))
+mosaic_fault("a batch that does not rise", 2, (2, 7, 8))
+mosaic_fault("a last strip that is not there", 3, (5, 10, 12))
+mosaic_fault("a last strip of 0", 0, (0, 0, 1))
+refused("a batch too many", M, BEST + batches(0, (4, 12, 13))[7:], 13, len(BEST))
+refused("batches missing", M, batches(32, *FOUR[:3]), 13, 0)
+refused("no batch", M, batches(32), 13, 0)
+refused("an untrue figure", M, batches(33, *FOUR), 14, 0)
 allowed("a finish at the ceiling", M, batches(4 * CEILING, (4, CEILING - 8, CEILING)), 4 * CEILING)
 refused("a finish past the ceiling", M, batches(4 * CEILING + 4, (4, CEILING - 7, CEILING + 1)), 13, 7)
+
+# A mount may start before the last strip of its batch is ready; bench work starts when the mount is done and that strip is ready. One strip with a bench
+# time of 2: mount time, when the strip is ready, start, finish. A finish one minute early or late is 13.
+for mount, ready, start, finish in [
+    (3, 5, 0, 7),
+    (3, 5, 1, 7),
+    (3, 5, 2, 7),
+    (3, 5, 3, 8),
+    (3, 5, 9, 14),
+    (0, 5, 0, 7),
+    (0, 5, 4, 7),
+    (0, 5, 5, 7),
+    (0, 5, 6, 8),
+    (4, 5, 0, 7),
+    (5, 5, 0, 7),
+    (6, 5, 0, 8),
+    (6, 5, 5, 13),
+    (0, 0, 0, 2),
+    (0, 0, 1, 3),
+    (6, 0, 0, 8),
+    (TIME - 1, TIME, 0, TIME + 2),
+    (TIME, TIME, 0, TIME + 2),
+    (TIME, TIME, 1, TIME + 3),
+    (TIME, TIME - 1, 0, TIME + 2),
+]:
+    sheet, name = ready_strips(mount, (ready, 2)), "a mount of %d from %d on, a strip ready at %d" % (mount, start, ready)
+    allowed(name, sheet, batches(finish, (1, start, finish)), finish)
+    for what, other in [("early", finish - 1), ("late", finish + 1)]:
+        refused("%s, a finish one minute %s" % (name, what), sheet, batches(other, (1, start, other)), 13, 7)
+AHEAD = ready_strips(3, (5, 2))
+refused("a mount ahead, a finish as if the strip were ready", AHEAD, batches(5, (1, 0, 5)), 13, 7)
+refused("a mount ahead, a finish as if it started when the strip is ready", AHEAD, batches(10, (1, 0, 10)), 13, 7)
+refused("a mount ahead, an untrue figure", AHEAD, batches(10, (1, 0, 7)), 14, 0)
+refused("a mount ahead, a finish one minute late, an untrue figure", AHEAD, batches(7, (1, 0, 8)), 13, 7)
+
+# The first worked sheet: several starts have one finish, up to the last start at which the mount is done when the strip is ready.
+allowed("batch 1 from 1 on", M, batches(35, (1, 1, 3), (2, 4, 8), (3, 8, 11), (4, 11, 13)), 35)
+for start, finish in [(4, 12), (6, 12), (7, 13)]:
+    figure = 3 + 2 * finish + finish + 2
+    allowed("batch 2-3 from %d on" % start, M, batches(figure, (1, 0, 3), (3, start, finish), (4, finish, finish + 2)), figure)
+for start, finish in [(8, 12), (9, 13)]:
+    allowed("batch 3-4 from %d on" % start, M, batches(10 + 2 * finish, (1, 0, 3), (2, 3, 7), (4, start, finish)), 10 + 2 * finish)
+refused("batch 2-3 from 7 on, finished as from 6 on", M, batches(41, (1, 0, 3), (3, 7, 12), (4, 12, 14)), 13, 19)
+refused("batch 2-3 from 6 on, finished as from 7 on", M, batches(44, (1, 0, 3), (3, 6, 13), (4, 13, 15)), 13, 19)
+refused("batch 3-4 from 9 on, finished as from 8 on", M, batches(34, (1, 0, 3), (2, 3, 7), (4, 9, 12)), 13, 31)
+# A batch waits for its last strip, not for its first one.
+refused("batch 2-3, finished as if strip 2 were the last one", M, batches(32, (1, 0, 3), (3, 3, 9), (4, 9, 11)), 13, 19)
+refused("batch 3-4, finished as if strip 3 were the last one", M, batches(32, (1, 0, 3), (2, 3, 7), (4, 7, 11)), 13, 31)
+# A start before the batch before finishes is 13, though the finish would be the same.
+mosaic_fault("a mount one minute before batch 1 finishes, its finish as it should be", 1, (2, 2, 7))
+refused("batch 2-3 one minute before batch 1 finishes", M, batches(41, (1, 0, 3), (3, 2, 12), (4, 12, 14)), 13, 19)
+refused("batch 3-4 one minute before batch 2 finishes", M, batches(34, (1, 0, 3), (2, 3, 7), (4, 6, 12)), 13, 31)
+refused("batch 3-4 from 0 on", M, batches(34, (1, 0, 3), (2, 3, 7), (4, 0, 12)), 13, 31)
+# The figure is that of the finishes in the plan.
+refused("four batches, figure 36", M, batches(36, *FOUR), 14, 0)
+refused("four batches, later mounts, figure 32", M, batches(32, (1, 2, 4), (2, 4, 8), (3, 8, 11), (4, 11, 13)), 14, 0)
+refused("batches 1, 2-3, 4, figure 45", M, batches(45, (1, 0, 3), (3, 3, 12), (4, 12, 14)), 14, 0)
+refused("batches 1, 2, 3-4, figure 38", M, batches(38, (1, 0, 3), (2, 3, 7), (4, 7, 12)), 14, 0)
+
+# Three strips, mount time 2: the first and the third are waited for, the second is not. Mounts at their earliest, at their latest for the same finishes, and
+# later; in each batch a finish one minute early or late.
+WAITED = ready_strips(2, (5, 3), (6, 1), (20, 4))
+EARLIEST = [(1, 0, 8), (2, 8, 11), (3, 11, 24)]
+for name, figure, members in [
+    ("the earliest mounts", 43, EARLIEST),
+    ("the latest mounts for the same finishes", 43, [(1, 3, 8), (2, 8, 11), (3, 18, 24)]),
+    ("later mounts", 49, [(1, 4, 9), (2, 12, 15), (3, 19, 25)]),
+]:
+    allowed(name, WAITED, batches(figure, *members), figure)
+    for index, (last, start, finish) in enumerate(members):
+        for what, other in [("early", finish - 1), ("late", finish + 1)]:
+            changed = [*members[:index], (last, start, other), *members[index + 1:]]
+            refused("%s, finish %d one minute %s" % (name, index + 1, what), WAITED, batches(figure, *changed), 13, 7 + 12 * index)
+for name, index, member in [
+    ("batch 1 finished as if its strip were ready", 0, (1, 0, 5)),
+    ("batch 2 one minute before batch 1 finishes", 1, (2, 7, 10)),
+    ("batch 2 one minute before batch 1 finishes, finished as from 8 on", 1, (2, 7, 11)),
+    ("batch 2 from 0 on", 1, (2, 0, 9)),
+    ("batch 3 finished as if its strip were ready", 2, (3, 11, 17)),
+    ("batch 3 finished as if its mount started when its strip is ready", 2, (3, 11, 26)),
+    ("batch 3 one minute before batch 2 finishes", 2, (3, 10, 24)),
+    ("batch 3 from 0 on", 2, (3, 0, 24)),
+]:
+    refused(name, WAITED, batches(43, *EARLIEST[:index], member, *EARLIEST[index + 1:]), 13, 7 + 12 * index)
+for start, finish in [(0, 28), (18, 28), (19, 29)]:
+    allowed("one batch from %d on" % start, WAITED, batches(3 * finish, (3, start, finish)), 3 * finish)
+for what, finish in [("none were waited for", 10), ("strip 1 were the last one", 13), ("strip 2 were the last one", 14)]:
+    refused("one batch, finished as if %s" % what, WAITED, batches(3 * finish, (3, 0, finish)), 13, 7)
+allowed("batches 1-2, 3", WAITED, batches(44, (2, 0, 10), (3, 10, 24)), 44)
+allowed("batches 1, 2-3", WAITED, batches(58, (1, 0, 8), (3, 8, 25)), 58)
+
+# Cameras off: strips that are ready with the one before, or at 0.
+OFF = mosaic(2, 1) + strip(9, 0, 1) + strip(0, 0, 1)
+allowed("cameras off at the last strip", OFF, batches(22, (1, 0, 10), (2, 10, 12)), 22)
+allowed("cameras off at the last strip, one batch", OFF, batches(22, (2, 0, 11)), 22)
+refused("cameras off at the last strip, finished as if it were ready at 0", OFF, batches(6, (2, 0, 3)), 13, 7)
+ALL_OFF = mosaic(4, 2) + strip(0, 0, 0, 0, 3) * 2
+allowed("cameras off everywhere", ALL_OFF, batches(15, (1, 0, 5), (2, 5, 10)), 15)
+allowed("cameras off everywhere, one batch", ALL_OFF, batches(16, (2, 0, 8)), 16)
+refused("cameras off everywhere, finished without the mount", ALL_OFF, batches(12, (2, 0, 6)), 13, 7)
+
+# 40 strips in a batch: the last one is ready at 40 T.
+IN_ONE = mosaic(1, TIME) + strip(TIME, TIME) * 40
+for start, finish in [(0, 80 * TIME), (39 * TIME, 80 * TIME), (39 * TIME + 1, 80 * TIME + 1)]:
+    allowed("40 strips in a batch from %d on" % start, IN_ONE, batches(40 * finish, (40, start, finish)), 40 * finish)
+refused("40 strips in a batch, finished as if none were waited for", IN_ONE, batches(40 * 41 * TIME, (40, 0, 41 * TIME)), 13, 7)
+
+# Up to the ceiling, and numbers near the greatest of four bytes.
+allowed("one strip up to the ceiling", AHEAD, batches(CEILING, (1, CEILING - 5, CEILING)), CEILING)
+for start, finish in [
+    (CEILING - 4, CEILING + 1),
+    (CEILING - 5, CEILING + 1),
+    (CEILING - 4, CEILING),
+    (CEILING, CEILING),
+    (CEILING + 1, CEILING),
+    (2**32 - 6, 2**32 - 1),
+    (2**32 - 3, 7),
+    (2**32 - 1, 4),
+]:
+    refused("one strip from %d to %d" % (start, finish), AHEAD, batches(finish, (1, start, finish)), 13, 7)
+PAIR = ready_strips(3, (5, 2), (6, 2))
+late = lambda over: [(1, 0, 7), (2, CEILING + over - 5, CEILING + over)]
+allowed("two strips up to the ceiling", PAIR, batches(CEILING + 7, *late(0)), CEILING + 7)
+refused("two strips, the second one past the ceiling", PAIR, batches(CEILING + 8, *late(1)), 13, 19)
+refused("two strips, the second behind the ceiling", PAIR, batches(2 * CEILING + 5, (1, CEILING - 5, CEILING), (2, CEILING, CEILING + 5)), 13, 19)
+
+# Beside other sections, and what goes first.
+allowed("batches 1, 2-3, 4 beside two sections", ALL, batches(41, (1, 0, 3), (3, 3, 12), (4, 12, 14)) + PLAN[55:], 41, 10, 5)
+refused("a mount one minute before batch 1 finishes, beside two sections", ALL, batches(32, FOUR[0], (2, 2, 7)) + PLAN[31:], 13, 19)
+refused("four batches, figure 36, beside two sections", ALL, batches(36) + PLAN[7:], 14, 0)
+refused("a mount one minute before batch 1 finishes, a byte behind the plan", M, batches(32, FOUR[0], (2, 2, 7)) + BEST[31:] + b"\0", 12, 55)
+refused("a mount one minute before batch 1 finishes, batches missing", M, batches(32, FOUR[0], (2, 2, 7)), 13, 19)
+refused("a mount ahead, batches missing", M, batches(3, FOUR[0]), 13, 0)
 
 # 13 at a job.
 refused("a desk that is not there", S, jobs(10, (3, 1, 0, 1), (1, 1, 1, 3)), 13, 7)
@@ -239,10 +387,10 @@ allowed("a turn, up to the ceiling", TURNED, passes(CEILING, 0xC, (CEILING - 10,
 refused("a turn, one past the ceiling", TURNED, passes(CEILING + 1, 0xC, (CEILING - 9, CEILING - 3), (CEILING - 6, CEILING)), 13, 26)
 # Behind other sections.
 BEFORE = PLAN[:-37]
-allowed("a turn behind two sections", M + S + TURNED, BEFORE + passes(10, 0xC, (0, 6), (3, 9)), 36, 10, 10)
+allowed("a turn behind two sections", M + S + TURNED, BEFORE + passes(10, 0xC, (0, 6), (3, 9)), 32, 10, 10)
 refused("a turn too short behind two sections", M + S + TURNED, BEFORE + passes(9, 0xC, (0, 6), (2, 8)), 13, len(BEFORE))
 refused("the same with an untrue figure", M + S + TURNED, BEFORE + passes(8, 0xC, (0, 6), (2, 8)), 13, len(BEFORE))
-refused("an untrue mosaic figure and a turn too short", M + TURNED, batches(37) + BEST[7:] + passes(9, 0xC, (0, 6), (2, 8)), 14, 0)
+refused("an untrue mosaic figure and a turn too short", M + TURNED, batches(33) + BEST[7:] + passes(9, 0xC, (0, 6), (2, 8)), 14, 0)
 refused("a turn too short and a byte behind the plan", TURNED, passes(9, 0xC, (0, 6), (2, 8)) + b"\0", 12, 37)
 
 # A sheet that is impossible by its turn: no plan of it is allowed, and 11 is not given.
@@ -252,7 +400,7 @@ refused("a delay below the turn, an untrue figure", NEVER, passes(5, 2, (0, 5)),
 refused("a delay below the turn, the turn kept", NEVER, passes(7, 2, (0, 6)), 13, 15)
 refused("a delay below the turn, no block", NEVER, passes(6, 2), 13, 0)
 refused("a delay below the turn, an empty plan", NEVER, b"", 12, 0)
-refused("a delay below the turn, an untrue mosaic figure", M + NEVER, batches(37) + BEST[7:] + passes(6, 2, (0, 5)), 14, 0)
+refused("a delay below the turn, an untrue mosaic figure", M + NEVER, batches(33) + BEST[7:] + passes(6, 2, (0, 5)), 14, 0)
 TIGHT = flight(1) + block(1, 2, 1) * 2
 allowed("a turn of 1, order A", TIGHT + order(0xA), passes(9, 0xA, (0, 3), (5, 8)), 0, 0, 9)
 refused("a turn of 1, order C cannot be kept", TIGHT + order(0xC), passes(5, 0xC, (0, 3), (1, 4)), 13, 0)
@@ -346,10 +494,10 @@ allowed("no order, order A flown", WIDE, passes(9, 0xA, (0, 1), (2, 8)), 0, 0, 9
 refused("order C given, order A flown", WIDE + order(0xC), passes(9, 0xA, (0, 1), (2, 8)), 13, 0)
 refused("order A given, order C flown", WIDE + order(0xA), passes(8, 0xC, (0, 2), (1, 7)), 13, 0)
 # Behind other sections.
-allowed("a window behind two sections", M + S + WIDE, BEFORE + passes(8, 0xC, (0, 2), (1, 7)), 36, 10, 8)
+allowed("a window behind two sections", M + S + WIDE, BEFORE + passes(8, 0xC, (0, 2), (1, 7)), 32, 10, 8)
 refused("a delay outside its window behind two sections", M + S + WIDE, BEFORE + passes(8, 0xC, (0, 5), (1, 7)), 13, len(BEFORE) + 15)
 refused("an untrue figure behind two sections", M + S + WIDE, BEFORE + passes(7, 0xC, (0, 2), (1, 7)), 14, len(BEFORE))
-refused("an untrue mosaic figure and a delay outside its window", M + WIDE, batches(37) + BEST[7:] + passes(8, 0xC, (0, 5), (1, 7)), 14, 0)
+refused("an untrue mosaic figure and a delay outside its window", M + WIDE, batches(33) + BEST[7:] + passes(8, 0xC, (0, 5), (1, 7)), 14, 0)
 
 # The turn and windows: passes of 1 and windows from 0 to 20, a turn of 5. A gap of the turn is allowed, one a second shorter is 13 at the head.
 GAPS = flight(5) + window(1, 0, 20, 1) * 2
@@ -367,11 +515,10 @@ refused("a longest delay below the turn, an order", NO_WINDOW + order(2), passes
 refused("a longest delay below the turn, an empty plan", NO_WINDOW, b"", 12, 0)
 
 # The longest sections: full ones in which every time is 60,000. Without idle time, with the last member as late as it may be, and one later.
-TIME = sheets.MOST_TIME
-ALONE = [(k, (2 * k - 1) * TIME, (2 * k + 1) * TIME) for k in range(1, 41)]
+ALONE = [(k, (2 * k - 2) * TIME, 2 * k * TIME) for k in range(1, 41)]
 WAITING = [(k, (38 + 2 * k) * TIME, (40 + 2 * k) * TIME) for k in range(1, 41)]
 together = lambda members: sum(finish for _, _, finish in members)
-allowed("the longest mosaic", sheets.LONG_MOSAIC, batches(1680 * TIME, *ALONE), 1680 * TIME)
+allowed("the longest mosaic", sheets.LONG_MOSAIC, batches(1640 * TIME, *ALONE), 1640 * TIME)
 allowed("the longest mosaic, every mount behind the last strip", sheets.LONG_MOSAIC, batches(3240 * TIME, *WAITING), 3240 * TIME)
 for name, members in [("the longest mosaic", ALONE), ("the longest mosaic, every mount behind the last strip", WAITING)]:
     late = lambda over: [*members[:-1], (40, CEILING + over - 2 * TIME, CEILING + over)]
@@ -413,11 +560,11 @@ BOTH = flight() + (block(1, 1, 1) + window(1, 0, 1, 1)) * 16 + order(BY_ONE)
 EACH = [(3 * k, 3 * k + 2) for k in range(32)]
 allowed("32 blocks of both kinds", BOTH, passes(96, BY_ONE, *EACH), 0, 0, 96)
 refused("32 blocks of both kinds, the last delay one second long", BOTH, passes(97, BY_ONE, *EACH[:-1], (93, 96)), 13, 15 + 11 * 31)
-LONGEST_PLAN = batches(1680 * TIME, *ALONE) + jobs(189 * TIME, *IN_TURN) + passes(LAST_END, BY_ONE, *TURNED_STARTS)
-allowed("the longest sheet", sheets.LONGEST, LONGEST_PLAN, 1680 * TIME, 189 * TIME, LAST_END)
+LONGEST_PLAN = batches(1640 * TIME, *ALONE) + jobs(189 * TIME, *IN_TURN) + passes(LAST_END, BY_ONE, *TURNED_STARTS)
+allowed("the longest sheet", sheets.LONGEST, LONGEST_PLAN, 1640 * TIME, 189 * TIME, LAST_END)
 
-LONG_PLAN = batches(1680 * TIME, *ALONE) + jobs(189 * TIME, *IN_TURN) + passes(96 * TIME, BY_ONE, *ONE_BY_ONE)
-allowed("the longest sections", sheets.LONG, LONG_PLAN, 1680 * TIME, 189 * TIME, 96 * TIME)
+LONG_PLAN = batches(1640 * TIME, *ALONE) + jobs(189 * TIME, *IN_TURN) + passes(96 * TIME, BY_ONE, *ONE_BY_ONE)
+allowed("the longest sections", sheets.LONG, LONG_PLAN, 1640 * TIME, 189 * TIME, 96 * TIME)
 
 # Every kind of fault of a member, at each member of a section: first, middle and last.
 def faulty(kind, sheet, plan_of, members, index, member, place):
@@ -426,16 +573,18 @@ def faulty(kind, sheet, plan_of, members, index, member, place):
     refused("%s, member %d" % (kind, index + 1), sheet, plan_of(*changed), 13, place)
 
 
-for index, (last, start, finish) in enumerate(BATCHES := [(1, 2, 4), (2, 4, 8), (3, 8, 11), (4, 11, 13)]):
+BENCH = [1, 3, 2, 1]
+for index, (last, start, finish) in enumerate(FOUR):
     for kind, member in [
-        ("a mount one second early", (last, start - 1, finish - 1)),
-        ("a finish one second early", (last, start, finish - 1)),
-        ("a finish one second late", (last, start, finish + 1)),
+        ("a mount one minute early", (last, start - 1, finish - 1)),
+        ("a finish one minute early", (last, start, finish - 1)),
+        ("a finish one minute late", (last, start, finish + 1)),
         ("a last strip that does not rise", (last - 1, start, finish)),
         ("a last strip past the sheet's", (5, start, finish)),
-        ("a finish one second past the ceiling", (last, CEILING + 1 - (finish - start), CEILING + 1)),
+        ("a finish one minute past the ceiling", (last, CEILING - BENCH[index], CEILING + 1)),
     ]:
-        faulty(kind, M, lambda *ms: batches(36, *ms), BATCHES, index, member, 7 + 12 * index)
+        if member[1] >= 0:
+            faulty(kind, M, lambda *ms: batches(32, *ms), FOUR, index, member, 7 + 12 * index)
 
 THREE = sorting(2) + job(1, 1, 5) + job(2, 1, 1) + job(1, 1, 2)
 JOBS = [(1, 1, 0, 1), (2, 1, 1, 2), (1, 2, 2, 6)]
@@ -471,8 +620,8 @@ for index, (first, second) in enumerate(STARTED):
 
 # Faults in two sections.
 BAD_JOBS = jobs(10, (2, 1, 0, 0), (1, 1, 1, 3))
-refused("the first section's fault goes first", M + S, batches(36, (1, 2, 4), (2, 4, 8), (3, 8, 11), (4, 11, 14)) + BAD_JOBS, 13, 43)
-refused("an untrue mosaic figure goes before a broken sorting member", M + S, batches(37, (1, 2, 4), (2, 4, 8), (3, 8, 11), (4, 11, 13)) + BAD_JOBS, 14, 0)
+refused("the first section's fault goes first", M + S, batches(32, *FOUR[:3], (4, 10, 13)) + BAD_JOBS, 13, 43)
+refused("an untrue mosaic figure goes before a broken sorting member", M + S, batches(33, *FOUR) + BAD_JOBS, 14, 0)
 refused("a good mosaic and a broken sorting", M + S, BEST + BAD_JOBS, 13, len(BEST) + 7)
 refused("two good sections and an untrue flight figure", ALL, PLAN[:-37] + passes(6, 0xC, (0, 3), (1, 4)), 14, len(PLAN) - 37)
 
