@@ -2,8 +2,9 @@
 """Runs the program plan_sheet on sheets and compares what it writes: the plan of each worked sheet of 01, and the refusal of every sheet that sheet_cases.py
 turns back.
 Where a sheet has several best batchings or free pass orders, the choice is left to the program: then the figures of the plan and the bytes of its sorting are
-compared, and the program judge_plan must allow it; of a flight with windows also that the starts are the least of the order that the plan has. Of several best
-scanner lists one is due: its bytes are compared, and judge_plan must allow the others too.
+compared, and the program judge_plan must allow it; of a mosaic also that each mount starts when the batch before finishes, and of a flight with windows that
+the starts are the least of the order that the plan has. Of several best scanner lists one is due: its bytes are compared, and judge_plan must allow the others
+too. The plans that judge_cases.py has no room for are judged here.
 A written turn of 0 must give the plan that an empty head gives, and a window of one value that of an exact delay.
 
     plan_cases.py PLANNER JUDGE
@@ -19,6 +20,8 @@ import judge_cases as judged
 import sheet_cases as sheets
 from judge_cases import batches, four, jobs, passes
 from sheet_cases import MOST_TURN, alternate, block, field, flight, job, mosaic, order, sorting, strip, window, word
+
+T = sheets.MOST_TIME
 
 CASES = []
 BEST = []
@@ -39,7 +42,7 @@ def best(name, sheet, *figures, sorting_part=b""):
 def tied(name, sheet, plan, *others):
     """A sorting with several best plans: the one that is due, and others, which are allowed."""
     planned(name, sheet, plan)
-    OTHERS.extend((name, sheet, other, (0, int.from_bytes(plan[3:7], "little"), 0)) for other in (plan, *others))
+    OTHERS.extend((name, sheet, other, (0, 0, 0, int.from_bytes(plan[3:7], "little"), 0)) for other in (plan, *others))
 
 
 def refused(name, sheet, number, place):
@@ -132,16 +135,66 @@ def least_end(blocks, turn=0):
     return min((end_of(blocks, starts) for starts in timetables if starts is not None), default=None)
 
 
-def least_sum(ready, mount, bench):
-    """The least sum of completions over all batchings, from the ready times and the bench times of the strips."""
+# A strip here is its station times, then its bench time; a batching is the last strip of each batch.
+def finish_of(ready, mount, bench, free, first, last):
+    """When a batch finishes whose mount starts at `free`."""
+    return max(free + mount, ready[last - 1]) + sum(bench[first - 1:last])
+
+
+def best_batchings(ready, mount, bench):
+    """The least sum of completions over all batchings, and the best ones, at most two of them; from the ready times and the bench times of the strips."""
     n = len(ready)
 
     @functools.cache
     def rest(done, free):
-        ends = [(last, max(free, ready[last - 1]) + mount + sum(bench[done:last])) for last in range(done + 1, n + 1)]
-        return min(((last - done) * end + rest(last, end) for last, end in ends), default=0)
+        if done == n:
+            return 0, [()]
+        found = []
+        for last in range(done + 1, n + 1):
+            end = finish_of(ready, mount, bench, free, done + 1, last)
+            figure, ways = rest(last, end)
+            found.append(((last - done) * end + figure, [(last, *way) for way in ways]))
+        least = min(figure for figure, _ in found)
+        return least, [way for figure, ways in found if figure == least for way in ways][:2]
 
     return rest(0, 0)
+
+
+def least_sum(ready, mount, bench):
+    """The least sum of completions over all batchings."""
+    return best_batchings(ready, mount, bench)[0]
+
+
+def times_of(strips):
+    """When each strip is ready, and the bench times."""
+    sums = [[sum(times) for times in zip(*strips[:k])] for k in range(1, len(strips) + 1)]
+    return [max(stations[:-1]) for stations in sums], [times[-1] for times in strips]
+
+
+def mosaic_of(mount, strips):
+    return mosaic(len(strips[0]) - 1, mount) + b"".join(strip(*times) for times in strips)
+
+
+def mounted(name, mount, strips, figure, *members):
+    """A mosaic and the plan of its only best batching."""
+    ready, bench = times_of(strips)
+    assert best_batchings(ready, mount, bench) == (figure, [tuple(last for last, _, _ in members)])
+    planned(name, mosaic_of(mount, strips), batches(figure, *members))
+
+
+def tried(name, mount, strips):
+    """A mosaic whose batchings are tried here: the plan of the best one, or the figure where there are several."""
+    ready, bench = times_of(strips)
+    figure, ways = best_batchings(ready, mount, bench)
+    if len(ways) > 1:
+        best(name, mosaic_of(mount, strips), figure, 0, 0)
+        return
+    members, done, free = [], 0, 0
+    for last in ways[0]:
+        end = finish_of(ready, mount, bench, free, done + 1, last)
+        members.append((last, free, end))
+        done, free = last, end
+    planned(name, mosaic_of(mount, strips), batches(figure, *members))
 
 
 # The worked sheets of 01 with their best plans.
@@ -152,6 +205,93 @@ planned("two blocks", judged.F, passes(5, 0xC, (0, 3), (1, 4)))
 planned("order A", judged.A + order(0xA), passes(9, 0xA, (0, 1), (2, 8)))
 planned("eight blocks and an order", judged.E + order(0xF2C4), passes(30, 0xF2C4, *judged.EIGHT))
 planned("all three sections", judged.ALL, judged.PLAN)
+
+# The first case whole.
+CASES.append((
+    "the bytes of the first worked sheet",
+    bytes.fromhex("10 03 00 02 01 00 11 06 00 02 00 01 00 01 00 11 06 00 01 00 03 00 03 00 11 06 00 04 00 02 00 02 00 11 06 00 01 00 03 00 01 00"),
+    bytes.fromhex(
+        "90 04 00 20 00 00 00 91 09 00 01 00 00 00 00 03 00 00 00 91 09 00 02 03 00 00 00 07 00 00 00"
+        "91 09 00 03 07 00 00 00 0A 00 00 00 91 09 00 04 0A 00 00 00 0C 00 00 00"
+    ),
+))
+
+# The first worked sheet with other mount times: with longer mounts fewer batches.
+WORKED = [(2, 1, 1), (1, 3, 3), (4, 2, 2), (1, 3, 1)]
+mounted("the first worked sheet, mount time 0", 0, WORKED, 29, (1, 0, 3), (2, 3, 7), (3, 7, 9), (4, 9, 10))
+mounted("the first worked sheet, mount time 1", 1, WORKED, 32, (1, 0, 3), (2, 3, 7), (3, 7, 10), (4, 10, 12))
+mounted("the first worked sheet, mount time 2", 2, WORKED, 37, (1, 0, 3), (2, 3, 8), (4, 8, 13))
+best("the first worked sheet, mount time 3", mosaic_of(3, WORKED), 44, 0, 0)
+mounted("the first worked sheet, mount time 4", 4, WORKED, 46, (2, 0, 8), (4, 8, 15))
+mounted("the first worked sheet, mount time 5", 5, WORKED, 52, (2, 0, 9), (4, 9, 17))
+mounted("the first worked sheet, mount time 10", 10, WORKED, 68, (4, 0, 17))
+
+# One strip: the mount starts at 0, and the strip finishes 2 after the mount is done and the strip is ready.
+SMALL, GREAT = [(0, 0, 2), (0, 5, 7), (3, 0, 5), (3, 5, 7), (4, 5, 7), (5, 5, 7), (6, 5, 8)], [(1, T), (T - 1, T), (T, T), (T, T - 1)]
+for mount, ready, finish in SMALL + [(*times, T + 2) for times in GREAT]:
+    mounted("one strip, ready at %d, mount time %d" % (ready, mount), mount, [(ready, 2)], finish, (1, 0, finish))
+mounted("one strip of four stations", 4, [(3, 5, 0, 2, 2)], 7, (1, 0, 7))
+# Each strip is ready when its mount is done, or one minute later or earlier.
+mounted("strips ready when their mounts are done", 3, [(3, 4), (7, 2), (5, 3)], 37, (1, 0, 7), (2, 7, 12), (3, 12, 18))
+mounted("the same, strip 2 one minute later", 3, [(3, 4), (8, 2), (4, 3)], 39, (1, 0, 7), (2, 7, 13), (3, 13, 19))
+mounted("the same, strip 2 one minute earlier", 3, [(3, 4), (6, 2), (6, 3)], 37, (1, 0, 7), (2, 7, 12), (3, 12, 18))
+mounted("the same, strip 3 one minute later", 3, [(3, 4), (7, 2), (6, 3)], 38, (1, 0, 7), (2, 7, 12), (3, 12, 19))
+# Strips that are waited for: every mount is done before its strip is ready, with a mount time of 9 just then; with 10 the bench is waited for.
+for mount in (0, 2, 9):
+    mounted("strips far apart, mount time %d" % mount, mount, [(10, 1)] * 3, 63, (1, 0, 11), (2, 11, 21), (3, 21, 31))
+mounted("strips far apart, mount time 10", 10, [(10, 1)] * 3, 66, (1, 0, 11), (2, 11, 22), (3, 22, 33))
+mounted("the third strip is waited for", 2, [(0, 3), (0, 3), (20, 2), (0, 4)], 65, (1, 0, 5), (2, 5, 10), (3, 10, 22), (4, 22, 28))
+mounted("the first strip and the third are waited for", 2, [(5, 3), (1, 1), (14, 4)], 43, (1, 0, 8), (2, 8, 11), (3, 11, 24))
+# Cameras off everywhere: every strip is ready at 0.
+mounted("cameras off everywhere, mount time 0", 0, [(0, 1), (0, 5)], 7, (1, 0, 1), (2, 1, 6))
+mounted("cameras off everywhere, a short mount", 2, [(0, 0, 0, 0, 3)] * 2, 15, (1, 0, 5), (2, 5, 10))
+mounted("cameras off everywhere, a long mount", 4, [(0, 5), (0, 1), (0, 1)], 33, (3, 0, 11))
+best("cameras off everywhere, several best batchings", mosaic_of(1, [(0, 2)] * 5), 43, 0, 0)
+# A longer batch is best where its last strip is ready while the mount is made, or little later.
+mounted("two strips in a batch", 4, [(0, 4), (2, 2)], 20, (2, 0, 10))
+mounted("two strips in a batch, the second ready when the mount is done", 5, [(1, 2), (4, 4)], 22, (2, 0, 11))
+mounted("two strips in a batch, the second ready after the mount is done", 5, [(2, 3), (4, 2)], 22, (2, 0, 11))
+mounted("batches 1, 2-3", 4, [(2, 3), (4, 3), (5, 1)], 37, (1, 0, 7), (3, 7, 15))
+mounted("batches 1-2, 3", 5, [(1, 3), (4, 2), (2, 1)], 36, (2, 0, 10), (3, 10, 16))
+mounted("batches 1-2, 3, 4", 3, [(0, 3), (1, 3), (4, 1), (4, 4)], 51, (2, 0, 9), (3, 9, 13), (4, 13, 20))
+mounted("batches 1-3, 4", 3, [(1, 3), (0, 3), (1, 2), (2, 4)], 51, (3, 0, 11), (4, 11, 18))
+# The best beginning is not that of the best batching: apart the first two have 25 and end at 15, together 26 and end at 13.
+mounted("two strips together, for the sake of the third", 2, [(6, 4), (0, 3), (1, 4)], 45, (2, 0, 13), (3, 13, 19))
+mounted("the same with a fourth", 2, [(5, 3), (1, 3), (0, 3), (6, 2)], 60, (1, 0, 8), (3, 8, 16), (4, 16, 20))
+# Three strips, every batching tried.
+for mount, one, two, three in itertools.product((0, 1, 3), (0, 1, 4), (0, 1, 4), (0, 1, 4)):
+    tried("stations %d, %d and %d, mount time %d" % (one, two, three, mount), mount, [(one, 2), (two, 1), (three, 3)])
+# 40 strips: each alone, all together, and in batches between.
+mounted("40 strips, mount time 0", 0, [(1, 1)] * 40, 860, (1, 0, 2), *[(k, k, k + 1) for k in range(2, 41)])
+HALF, ALONE = T // 2, [(k, (k - 1) * T, k * T) for k in range(1, 41)]
+mounted("40 strips, each ready when its mount is done", HALF, [(HALF, HALF), *[(T, HALF)] * 39], 820 * T, *ALONE)
+for mount in (0, 1, T - 1):
+    mounted(
+        "40 strips far apart, mount time %d" % mount, mount, [(T, 1)] * 40,
+        820 * T + 40, (1, 0, T + 1), *[(k, (k - 1) * T + 1, k * T + 1) for k in range(2, 41)],
+    )
+mounted("40 strips far apart, mount time 60,000", T, [(T, 1)] * 40, 820 * T + 820, *[(k, (k - 1) * (T + 1), k * (T + 1)) for k in range(1, 41)])
+mounted("40 strips, a long mount", T, [(1, 1)] * 40, 40 * (T + 40), (40, 0, T + 40))
+mounted("40 strips, a long mount, the last ready when it is done", T, [(1, 1)] * 39 + [(T - 39, 1)], 40 * (T + 40), (40, 0, T + 40))
+mounted("40 strips, a long mount, the last ready one minute later", T, [(1, 1)] * 39 + [(T - 38, 1)], 40 * (T + 41), (40, 0, T + 41))
+mounted("40 strips, cameras off everywhere, mount time 0", 0, [(0, 1)] * 40, 820, *[(k, k - 1, k) for k in range(1, 41)])
+mounted(
+    "40 strips, cameras off everywhere, mount time 3", 3, [(0, 5)] * 40, 4987,
+    (7, 0, 38), (13, 38, 71), (18, 71, 99), (23, 99, 127), (27, 127, 150), (31, 150, 173), (34, 173, 191), (36, 191, 204), (38, 204, 217), (39, 217, 225),
+    (40, 225, 233),
+)
+mounted(
+    "40 strips, mount time 9", 9, [(7, 5)] * 40, 6964,
+    (1, 0, 14), (3, 14, 33), (6, 33, 57), (9, 57, 81), (13, 81, 111), (17, 111, 140), (21, 140, 169), (25, 169, 198), (29, 198, 227), (33, 227, 256),
+    (37, 256, 285), (39, 285, 304), (40, 304, 318),
+)
+mounted("40 strips in three batches", 100, [(k, 41 - k) for k in range(1, 41)], 34612, (13, 0, 542), (27, 542, 929), (40, 929, 1120))
+# Beside other sections.
+BESIDE, MOUNTS = judged.WAITED, batches(43, *judged.EARLIEST)
+planned("mounts ahead and a sorting", BESIDE + judged.S, MOUNTS + jobs(10, (2, 1, 0, 1), (1, 1, 1, 3)))
+planned("mounts ahead and a flight", BESIDE + judged.F, MOUNTS + passes(5, 0xC, (0, 3), (1, 4)))
+planned("mounts ahead and two sections", BESIDE + judged.S + judged.F, MOUNTS + judged.PLAN[55:])
+refused("mounts ahead, order C cannot be kept", BESIDE + judged.A + order(0xC), 11, len(BESIDE + judged.A))
 
 # Of several best scanner lists that with the lower desk at the first place where they part.
 ONE_TWO, TWO_ONE = jobs(5, (1, 1, 0, 1), (2, 1, 1, 2)), jobs(5, (2, 1, 0, 1), (1, 1, 1, 2))
@@ -203,12 +343,11 @@ planned("nine blocks with an order", flight() + block(1, 0, 1) * 9 + order(alter
 planned("eight blocks without order and without a gap", flight() + block(1, 7, 1) * 8, passes(16, 0xFF00, *[(i, i + 8) for i in range(8)]))
 best("000's eight blocks without order", judged.E, 0, 0, least_end(sheets.EIGHT))
 
-# Time 60,000 in every time: a strip of four stations, a strip of a desk and a block. Each is worked without a wait.
-T = sheets.MOST_TIME
+# Time 60,000 in every time: a strip of four stations, a strip of a desk and a block. Each is worked without a wait; the strip is ready when its mount is done.
 planned(
     "time 60,000 in every time",
     mosaic(4, T) + strip(T, T, T, T, T) + sorting(1) + job(1, T, T) + flight() + block(T, T, T),
-    batches(3 * T, (1, T, 3 * T)) + jobs(2 * T, (1, 1, 0, T)) + passes(3 * T, 2, (0, 2 * T)),
+    batches(2 * T, (1, 0, 2 * T)) + jobs(2 * T, (1, 1, 0, T)) + passes(3 * T, 2, (0, 2 * T)),
 )
 
 # Time 60,001 is 15, a pass of 0 is 16: the bytes of the whole answer.
@@ -515,6 +654,9 @@ refused("a second pass of 0, order C cannot be kept", judged.A[:-2] + word(0) + 
 refused("a field past the bytes that are taken", field(0x10, bytes(65535)), 3, 0)
 refused("a field that ends at the last byte that is taken", field(0x10, bytes(65533)), 5, 0)
 
+# Plans that judge_cases.py has no room for.
+OTHERS.extend((name, sheet, plan, tuple(map(int, line.split()))) for name, sheet, plan, line in judged.LARGE)
+
 # Every refusal of a sheet.
 for name, sheet, line in sheets.CASES + sheets.LARGE:
     number, place = map(int, line.split()[:2])
@@ -536,6 +678,17 @@ def figures_judged(judge, sheet, plan):
     return tuple(map(int, lines[1::2]))
 
 
+def mounts_follow(plan):
+    """Whether each mount of a plan starts when the batch before finishes, the first at 0."""
+    free, at = 0, 7
+    while plan[:1] == b"\x90" and plan[at:at + 1] == b"\x91":
+        start, finish = (int.from_bytes(plan[k:k + 4], "little") for k in (at + 4, at + 8))
+        if start != free:
+            return False
+        free, at = finish, at + 12
+    return True
+
+
 def main(program, judge):
     wrong = 0
     for name, sheet, due in CASES:
@@ -546,14 +699,14 @@ def main(program, judge):
     for name, sheet, figures, part in BEST:
         plan = written(program, sheet)
         verdict = figures_judged(judge, sheet, plan)
-        if verdict != (0, 0, *figures) or part not in plan:
+        if verdict != (0, 0, *figures) or part not in plan or not mounts_follow(plan):
             wrong += 1
             print("%s: sheet %s\n  due     figures %s, sorting %s\n  written %s\n  judged  %s" % (name, sheet.hex(), figures, part.hex(), plan.hex(), verdict))
-    for name, sheet, plan, figures in OTHERS:
+    for name, sheet, plan, due in OTHERS:
         verdict = figures_judged(judge, sheet, plan)
-        if verdict != (0, 0, *figures):
+        if verdict != due:
             wrong += 1
-            print("%s: sheet %s, plan %s\n  due     figures %s\n  judged  %s" % (name, sheet.hex(), plan.hex(), figures, verdict))
+            print("%s: sheet %s, plan %s\n  due     %s\n  judged  %s" % (name, sheet.hex(), plan.hex(), due, verdict))
     for name, sheet, other in SAME:
         plans = written(program, sheet), written(program, other)
         if plans[0] != plans[1]:
@@ -567,7 +720,7 @@ def main(program, judge):
             wrong += 1
             print("%s: sheet %s\n  due     figure %d, starts %s\n  written %s" % (name, sheet.hex(), end, starts, plan.hex()))
     counts = len(CASES) + len(BEST) + len(SAME) + len(FLOWN), program, len(OTHERS), wrong
-    print("%d sheets planned or refused by %s, %d best sortings judged, %d wrong" % counts)
+    print("%d sheets planned or refused by %s, %d plans judged, %d wrong" % counts)
     sys.exit(1 if wrong else 0)
 
 
