@@ -67,11 +67,11 @@ def lines_of(plan):
 
 # Each section alone, all three, and two of them.
 MOSAIC_LINES = [
-    "m                             36",
-    "M  1   1           2           4",
-    "M  2   2           4           8",
-    "M  3   3           8          11",
-    "M  4   4          11          13",
+    "m                             32",
+    "M  1   1           0           3",
+    "M  2   2           3           7",
+    "M  3   3           7          10",
+    "M  4   4          10          12",
 ]
 SORTING_LINES = [
     "s                             10",
@@ -95,11 +95,11 @@ printed("sorting and flight", judged.S + judged.F, JOBS + PASSES, *SORTING_LINES
 
 # The batch's number is not that of its last strip; a desk's strips are not numbered as they are scanned.
 printed(
-    "batches 1, 2-3, 4", judged.M, batches(45, (1, 2, 4), (3, 7, 13), (4, 13, 15)),
-    "m                             45",
-    "M  1   1           2           4",
-    "M  2   3           7          13",
-    "M  3   4          13          15",
+    "batches 1, 2-3, 4", judged.M, batches(41, (1, 0, 3), (3, 3, 12), (4, 12, 14)),
+    "m                             41",
+    "M  1   1           0           3",
+    "M  2   3           3          12",
+    "M  3   4          12          14",
 )
 printed(
     "three strips, two desks", judged.THREE, jobs(17, *judged.JOBS),
@@ -119,6 +119,49 @@ printed(
     "F  6              19          24",
     "F  7              21          27",
     "F  8              22          29",
+)
+# The start of each mount is printed, and not that of the bench work. Plans of one sheet with the same finishes and other starts have other pages.
+printed(
+    "the earliest mounts", judged.WAITED, batches(43, *judged.EARLIEST),
+    "m                             43",
+    "M  1   1           0           8",
+    "M  2   2           8          11",
+    "M  3   3          11          24",
+)
+printed(
+    "the latest mounts for the same finishes", judged.WAITED, batches(43, (1, 3, 8), (2, 8, 11), (3, 18, 24)),
+    "m                             43",
+    "M  1   1           3           8",
+    "M  2   2           8          11",
+    "M  3   3          18          24",
+)
+printed(
+    "later mounts", judged.WAITED, batches(49, (1, 4, 9), (2, 12, 15), (3, 19, 25)),
+    "m                             49",
+    "M  1   1           4           9",
+    "M  2   2          12          15",
+    "M  3   3          19          25",
+)
+printed(
+    "batches 1, 2-3, 4, later mounts", judged.M, batches(45, (1, 2, 4), (3, 7, 13), (4, 13, 15)),
+    "m                             45",
+    "M  1   1           2           4",
+    "M  2   3           7          13",
+    "M  3   4          13          15",
+)
+printed(
+    "mounts ahead beside two sections", judged.WAITED + judged.S + judged.F, batches(43, *judged.EARLIEST) + JOBS + PASSES,
+    "m                             43",
+    "M  1   1           0           8",
+    "M  2   2           8          11",
+    "M  3   3          11          24",
+    *SORTING_LINES,
+    *FLIGHT_LINES,
+)
+printed(
+    "a mount from 0 on, the strip ready at 60,000", mosaic(1, 1) + strip(MOST_TIME, 1), batches(60001, (1, 0, 60001)),
+    "m                          60001",
+    "M  1   1           0       60001",
 )
 # The turn is not printed: only the starts show it.
 printed(
@@ -197,10 +240,10 @@ for digits in range(1, 8):
 
 # judge_cases.py has 40 batches, 18 strips and 32 blocks alone and together: the longest sections. Some of the 93 lines of all three.
 SOME_LINES = {
-    0: "m                      100800000",
-    1: "M  1   1       60000      180000",
-    10: "M 10  10     1140000     1260000",
-    40: "M 40  40     4740000     4860000",
+    0: "m                       98400000",
+    1: "M  1   1           0      120000",
+    10: "M 10  10     1080000     1200000",
+    40: "M 40  40     4680000     4800000",
     41: "s                       11340000",
     42: "S  1   1           0       60000",
     59: "S  3   6     1020000     1080000",
@@ -210,7 +253,7 @@ SOME_LINES = {
 }
 
 # Every plan that is judged, and every sheet that is turned back. judge_cases.py has 6, 15, 16 and 17 of a sheet beside plans that are 12, 13 and 14.
-for name, sheet, plan, line in judged.CASES:
+for name, sheet, plan, line in judged.CASES + judged.LARGE:
     number, place = map(int, line.split()[:2])
     if number == 0:
         PAGES.append((name, sheet, plan, lines_of(plan)))
@@ -221,6 +264,9 @@ for name, sheet, line in sheets.CASES + sheets.LARGE:
     if number != 0:
         refused(name, sheet, judged.PLAN, number, place)
 refused("a plan with an order that is impossible", judged.A + order(0xC), passes(9, 0xA, (0, 1), (2, 8)), 13, 0)
+refused("a plan with a mount before the batch before finishes", judged.M, batches(32, judged.FOUR[0], (2, 2, 7)) + judged.BEST[31:], 13, 19)
+for finish in (7, 9):
+    refused("a plan with a batch that finishes at %d and not at 8" % finish, judged.WAITED, batches(43, (1, 0, finish), *judged.EARLIEST[1:]), 13, 7)
 refused("a plan with a turn that is too short", judged.TURNED, passes(9, 0xC, (0, 6), (2, 8)), 13, 0)
 for name, delay, figure in [("below", 2, 5), ("above", 7, 10)]:
     refused("a plan with a delay %s its window" % name, flight() + judged.SOME, passes(figure, 2, (0, 2 + delay)), 13, 15)
