@@ -2,8 +2,8 @@
 """Compares the files of examples/ and the worked sheets of docs/FORMAT.md with each other and with what the programs write.
 
 Every .sheet has a .txt with its bytes, one field a line; a sheet whose .txt says that it is refused is refused with that number and place; every .plan is what
-plan_sheet writes for its sheet and has a .page, which is what print_page writes for both; every .timetable is what the viewer prints, its page behind it; and
-the bytes of each file that docs/FORMAT.md shows, with their offsets, or the lines of a page, are those of the file.
+plan_sheet writes for its sheet and has a .page, which is what print_page writes for both; every .timetable is what the viewer prints, its page behind it;
+the bytes of each file that docs/FORMAT.md shows, with their offsets, or the lines of a page, are those of the file; and mosaic is the first worked sheet.
 
     example_cases.py PLANNER PRINTER VIEWER
 """
@@ -11,6 +11,8 @@ import pathlib
 import re
 import subprocess
 import sys
+
+from program_cases import FIRST_PLAN, FIRST_SHEET
 
 ROOT = pathlib.Path(__file__).resolve().parent.parent
 EXAMPLES = ROOT / "examples"
@@ -95,6 +97,13 @@ def compare_pages():
         compare("%s: the page in its timetable" % path.name, timetable[-len(page):], page)
 
 
+def compare_first():
+    """The first worked sheet, and its plan alone and before other sections."""
+    for name in ("mosaic", "all_three"):
+        for ending, due in [(".sheet", FIRST_SHEET), (".plan", FIRST_PLAN)]:
+            compare("%s%s: the first worked sheet" % (name, ending), (EXAMPLES / (name + ending)).read_bytes()[:len(due)], due)
+
+
 def main(planner, printer, viewer):
     planned = lambda sheet: subprocess.run([planner], stdin=open(sheet, "rb"), stdout=subprocess.PIPE).stdout
     sheets = compare_sheets()
@@ -103,6 +112,7 @@ def main(planner, printer, viewer):
     pages = compare_written(".page", lambda sheet: subprocess.run([printer, sheet, sheet.with_suffix(".plan")], stdout=subprocess.PIPE).stdout)
     timetables = compare_written(".timetable", lambda sheet: subprocess.run([viewer, sheet], stdout=subprocess.PIPE).stdout)
     compare_pages()
+    compare_first()
     shown = shown_files()
     for name, content in shown.items():
         compare("docs/FORMAT.md: %s" % name, content, (EXAMPLES / name).read_bytes())

@@ -19,6 +19,7 @@ import tempfile
 import judge_cases as judged
 import sheet_cases as sheets
 from judge_cases import batches, four, jobs, passes
+from program_cases import FIRST_PLAN, FIRST_SHEET
 from sheet_cases import MOST_TURN, alternate, block, field, flight, job, mosaic, order, sorting, strip, window, word
 
 T = sheets.MOST_TIME
@@ -205,16 +206,7 @@ planned("two blocks", judged.F, passes(5, 0xC, (0, 3), (1, 4)))
 planned("order A", judged.A + order(0xA), passes(9, 0xA, (0, 1), (2, 8)))
 planned("eight blocks and an order", judged.E + order(0xF2C4), passes(30, 0xF2C4, *judged.EIGHT))
 planned("all three sections", judged.ALL, judged.PLAN)
-
-# The first case whole.
-CASES.append((
-    "the bytes of the first worked sheet",
-    bytes.fromhex("10 03 00 02 01 00 11 06 00 02 00 01 00 01 00 11 06 00 01 00 03 00 03 00 11 06 00 04 00 02 00 02 00 11 06 00 01 00 03 00 01 00"),
-    bytes.fromhex(
-        "90 04 00 20 00 00 00 91 09 00 01 00 00 00 00 03 00 00 00 91 09 00 02 03 00 00 00 07 00 00 00"
-        "91 09 00 03 07 00 00 00 0A 00 00 00 91 09 00 04 0A 00 00 00 0C 00 00 00"
-    ),
-))
+planned("the first worked sheet, byte by byte", FIRST_SHEET, FIRST_PLAN)
 
 # The first worked sheet with other mount times: with longer mounts fewer batches.
 WORKED = [(2, 1, 1), (1, 3, 3), (4, 2, 2), (1, 3, 1)]

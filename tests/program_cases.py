@@ -2,7 +2,7 @@
 """Runs the programs on inputs that come in pieces or cannot be read, on outputs that cannot be written, and with arguments too few or too many.
 
 A failure is one line on standard error, which names the input or the output and the reason, and nothing on standard output. Whatever can be read
-gives what crates/NAME/stdout has.
+gives what crates/NAME/stdout has. The first worked sheet, whole through plan_sheet, gives the plan that stands here.
 
     program_cases.py FOLDER        the programs are in FOLDER
 """
@@ -27,6 +27,20 @@ USAGE = {
 }
 READERS = ["plan_sheet", "sheet_cases", "judge_cases"]  # of standard input
 OF_FILES = ["judge_plan", "print_page"]  # programs that take the names of a sheet and a plan
+FIRST_SHEET = bytes.fromhex("""
+    10 03 00 02 01 00
+    11 06 00 02 00 01 00 01 00
+    11 06 00 01 00 03 00 03 00
+    11 06 00 04 00 02 00 02 00
+    11 06 00 01 00 03 00 01 00
+""")
+FIRST_PLAN = bytes.fromhex("""
+    90 04 00 20 00 00 00
+    91 09 00 01 00 00 00 00 03 00 00 00
+    91 09 00 02 03 00 00 00 07 00 00 00
+    91 09 00 03 07 00 00 00 0A 00 00 00
+    91 09 00 04 0A 00 00 00 0C 00 00 00
+""")
 NOBODY = 65534
 PIPE_SIZE = 1 << 18  # room for the longest input in packets of 4,096 bytes and less
 
@@ -168,11 +182,21 @@ def read_pieces(program):
         os.close(read_end)
 
 
+def first_case(planner, judge, folder):
+    """The first worked sheet: its plan, and what the judge says of it."""
+    sheet, plan = folder / "first.sheet", folder / "first.plan"
+    sheet.write_bytes(FIRST_SHEET)
+    plan.write_bytes(FIRST_PLAN)
+    compare("plan_sheet: the first worked sheet", run([planner], '< "%s"' % sheet), FIRST_PLAN)
+    compare("judge_plan: the first worked sheet", run([judge, sheet, plan]), b"number 0\nplace 0\nmosaic 32\nsorting 0\nflight 0\n")
+
+
 def main(programs):
     with tempfile.TemporaryDirectory() as name:
         folder = pathlib.Path(name)
         os.chmod(folder, 0o755)
         copies = {program: pathlib.Path(shutil.copy(pathlib.Path(programs) / program, folder)) for program in USAGE}
+        first_case(copies["plan_sheet"], copies["judge_plan"], folder)
         for program in READERS:
             stdin = lambda: pieces((CRATES / program / "stdin").read_bytes())
             read_standard_input(copies[program], folder)
@@ -182,7 +206,7 @@ def main(programs):
             read_files(copies[program], folder)
             read_pieces(copies[program])
             write_standard_output(copies[program], [data / "sheet", data / "plan"], lambda: subprocess.DEVNULL, folder)
-    print("%d runs of the programs on inputs and outputs that fail, %d wrong" % (tried, wrong))
+    print("%d runs of the programs on whole inputs, and on inputs and outputs that fail, %d wrong" % (tried, wrong))
     sys.exit(1 if wrong else 0)
 
 
