@@ -172,30 +172,37 @@ def times_of(strips):
     return [max(stations[:-1]) for stations in sums], [times[-1] for times in strips]
 
 
+def batched(ready, mount, bench, batching):
+    """The batches of a batching, each mounted when the one before finishes: last strip, start, finish."""
+    members, done, free = [], 0, 0
+    for last in batching:
+        end = finish_of(ready, mount, bench, free, done + 1, last)
+        members.append((last, free, end))
+        done, free = last, end
+    return members
+
+
 def mosaic_of(mount, strips):
+    """The sheet of these strips."""
     return mosaic(len(strips[0]) - 1, mount) + b"".join(strip(*times) for times in strips)
 
 
 def mounted(name, mount, strips, figure, *members):
     """A mosaic and the plan of its only best batching."""
     ready, bench = times_of(strips)
-    assert best_batchings(ready, mount, bench) == (figure, [tuple(last for last, _, _ in members)])
+    batching = tuple(last for last, _, _ in members)
+    assert best_batchings(ready, mount, bench) == (figure, [batching]) and batched(ready, mount, bench, batching) == list(members)
     planned(name, mosaic_of(mount, strips), batches(figure, *members))
 
 
 def tried(name, mount, strips):
     """A mosaic whose batchings are tried here: the plan of the best one, or the figure where there are several."""
     ready, bench = times_of(strips)
-    figure, ways = best_batchings(ready, mount, bench)
-    if len(ways) > 1:
+    figure, batchings = best_batchings(ready, mount, bench)
+    if len(batchings) == 1:
+        planned(name, mosaic_of(mount, strips), batches(figure, *batched(ready, mount, bench, batchings[0])))
+    else:
         best(name, mosaic_of(mount, strips), figure, 0, 0)
-        return
-    members, done, free = [], 0, 0
-    for last in ways[0]:
-        end = finish_of(ready, mount, bench, free, done + 1, last)
-        members.append((last, free, end))
-        done, free = last, end
-    planned(name, mosaic_of(mount, strips), batches(figure, *members))
 
 
 # The worked sheets of 01 with their best plans.
@@ -206,7 +213,7 @@ planned("two blocks", judged.F, passes(5, 0xC, (0, 3), (1, 4)))
 planned("order A", judged.A + order(0xA), passes(9, 0xA, (0, 1), (2, 8)))
 planned("eight blocks and an order", judged.E + order(0xF2C4), passes(30, 0xF2C4, *judged.EIGHT))
 planned("all three sections", judged.ALL, judged.PLAN)
-planned("the first worked sheet, byte by byte", FIRST_SHEET, FIRST_PLAN)
+planned("the bytes of the first worked sheet", FIRST_SHEET, FIRST_PLAN)
 
 # The first worked sheet with other mount times: with longer mounts fewer batches.
 WORKED = [(2, 1, 1), (1, 3, 3), (4, 2, 2), (1, 3, 1)]
@@ -228,7 +235,7 @@ mounted("strips ready when their mounts are done", 3, [(3, 4), (7, 2), (5, 3)], 
 mounted("the same, strip 2 one minute later", 3, [(3, 4), (8, 2), (4, 3)], 39, (1, 0, 7), (2, 7, 13), (3, 13, 19))
 mounted("the same, strip 2 one minute earlier", 3, [(3, 4), (6, 2), (6, 3)], 37, (1, 0, 7), (2, 7, 12), (3, 12, 18))
 mounted("the same, strip 3 one minute later", 3, [(3, 4), (7, 2), (6, 3)], 38, (1, 0, 7), (2, 7, 12), (3, 12, 19))
-# Strips that are waited for: every mount is done before its strip is ready, with a mount time of 9 just then; with 10 the bench is waited for.
+# Strips that are waited for: with a mount time of 9 the second and the third are ready when their mounts are done, with 10 before that.
 for mount in (0, 2, 9):
     mounted("strips far apart, mount time %d" % mount, mount, [(10, 1)] * 3, 63, (1, 0, 11), (2, 11, 21), (3, 21, 31))
 mounted("strips far apart, mount time 10", 10, [(10, 1)] * 3, 66, (1, 0, 11), (2, 11, 22), (3, 22, 33))
