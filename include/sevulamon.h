@@ -34,6 +34,10 @@
  *   B0   12      flight head      figure (4): the end of the last pass; order number (8)
  *   B1   8       block            start of its first pass (4), of its second pass (4)
  *
+ * A strip is ready when every station has done it. A mount starts no earlier than the batch before
+ * finishes. The batch finishes its bench times after the later of two times: its mount is done, its
+ * last strip is ready.
+ *
  * The page: an allowed plan as text, one line for each field of the plan, in its order. Each line
  * has 32 columns and a line feed. A head's line is a letter and the figure in 31 columns; a
  * member's is a letter and fields of 3, 4, 12 and 12 columns. Numbers are decimal, right-aligned
@@ -57,8 +61,8 @@
 
 /* The minor number rises with every change request that lands (docs/LANDINGS.md). */
 #define SEVULAMON_VERSION_MAJOR 1
-#define SEVULAMON_VERSION_MINOR 6
-#define SEVULAMON_VERSION "1.6"
+#define SEVULAMON_VERSION_MINOR 7
+#define SEVULAMON_VERSION "1.7"
 
 /* A plan buffer of this length is large enough for every sheet. A smaller one is refused with 2,
  * whatever the sheet. */
