@@ -4,7 +4,6 @@ use mathlib.Core.List.{List}
 use native.Mathlib.Nat.{mul-le-mul}
 use native.Mathlib.Decide.{decLt}
 use native.Mathlib.Omega.{arith}
-use lib.ListN.{getD}
 use Rattle.sheet.specs.Limits.{mostStrips}
 use Rattle.batching.specs.Least.{benchStart, finishOf}
 use Rattle.batching.specs.Index.{leastAt}

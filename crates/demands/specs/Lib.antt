@@ -1069,9 +1069,9 @@ module _ (before : List ℕ) (a l b : ℕ) (rest : List ℕ) (st : Reading) (rea
   one-value-judged plan j k judging also = judged-same _ _ _ (one-value before a l b rest st reached here) plan j k judging also
 
 -- REQ 08. "The bench has a second frame, so mounting can begin before the strips are there." When a mount may start, when the bench work of its batch does and
--- when the batch finishes is said in Mosaic.antt of crate rules (`BatchUnder`, `benchWorkStart`, `finishDue`). "mosaic figures are judged, and compared as best,
--- under this rule alone": all that is said above of allowed plans and their figures (`allows-what-obeys`, `allows-nothing-else`), of least figures over all
--- batchings and all idle times (`no-smaller-figure`, `best-exactly-mosaic`) and of starts (`mounts-early`) is said of these rules.
+-- when the batch finishes is said in Mosaic.antt of crate rules (`BatchUnder`, `benchWorkStart`, `finishDue`). "mosaic figures are judged, and compared as
+-- best, under this rule alone": all that is said above of allowed plans and their figures (`allows-what-obeys`, `allows-nothing-else`), of least figures over
+-- all batchings and all idle times (`no-smaller-figure`, `best-exactly-mosaic`) and of starts (`mounts-early`) is said of these rules.
 -- "From now on a mount starts no earlier than the batch before finishes, or 0", and 01: "The planner starts every mount .. as early as its batches .. allow":
 -- each mount of our plan starts just when the batch before finishes, the first at 0 (the finish of `noBatch`).
 pub mounts-at-the-finish-before : (sheet plan table planAfter tableEnd : List ℕ) (r : Answer) → Called sheet plan table planAfter tableEnd r → r .number ≡ 0

@@ -2,11 +2,9 @@
 -- bench work starts when it did.
 use Prim.Native.Nat.{ℕ, zero, suc, _+_, _-_, _≤_, _<_}
 use mathlib.Core.Path.{_≡_, refl, ap, _∙_}
-use mathlib.Core.Bool.{cond}
 use mathlib.Core.List.{List, [], _∷_}
 use native.Mathlib.Omega.{arith}
 use lib.ListN.{length}
-use lib.Dec.{leb}
 use Rattle.sheet.specs.declared.MosaicSection.{MosaicSection}
 use Rattle.rules.specs.Mosaic.{ready, benchSum, batchAt, batchBefore, setupTime, benchWorkStart, finishDue, BatchUnder, MosaicUnder, completion, mosaicFigure}
 use Rattle.rules.specs.declared.Batch.{Batch}
