@@ -27,10 +27,10 @@ def best_mosaic(sheet):
     ready, n = timetable.ready_times(sheet), len(sheet.strips)
     pairs = [[(0, 0)]] + [[] for _ in range(n)]
     for done in range(n):
-        beginnings, work = unbeaten(pairs[done]), sheet.mount
+        mounted, work = [(free + sheet.mount, figure) for free, figure in unbeaten(pairs[done])], 0
         for last in range(done, n):
             work += sheet.strips[last][1]
-            finishes = [(max(free, ready[last]) + work, figure) for free, figure in beginnings]
+            finishes = [(max(time, ready[last]) + work, figure) for time, figure in mounted]
             pairs[last + 1] += [(finish, figure + (last + 1 - done) * finish) for finish, figure in finishes]
     return min(figure for _, figure in pairs[n])
 

@@ -1,8 +1,9 @@
 """The least figures of small sheets, and the scanner list that is due, by trying everything.
 
 `of_choices` tries every batching, every interleaving and every proper order, each with its earliest starts. `of_timetables`, for tiny sheets, tries idle
-timetables too: in mosaic and sorting those that wait one minute at one or two starts, in flight every row of starts up to a time behind which no start
-is needed, with every delay of each window. That a flight without order is impossible is found by trying every proper order, never by its delays.
+timetables too: in mosaic every mount up to two minutes later than it may start, in sorting those that wait one minute at one or two starts, in flight every
+row of starts up to a time behind which no start is needed, with every delay of each window. That a flight without order is impossible is found by trying
+every proper order, never by its delays.
 """
 import itertools
 
@@ -44,8 +45,13 @@ def waits(starts, most):
             yield iter([int(k in late) for k in range(starts)]).__next__
 
 
+def idle_batches(sheet, lasts, most):
+    """The batches with these last strips, each mount 0 to `most` minutes later than it may start."""
+    return (timetable.batches_of(sheet, lasts, iter(row).__next__) for row in itertools.product(range(most + 1), repeat=len(lasts)))
+
+
 def least_mosaic(sheet, most):
-    return min(timetable.mosaic_figure(timetable.batches_of(sheet, lasts, wait)) for lasts in batchings(len(sheet.strips)) for wait in waits(len(lasts), most))
+    return min(timetable.mosaic_figure(batches) for lasts in batchings(len(sheet.strips)) for batches in idle_batches(sheet, lasts, most))
 
 
 def least_sorting(sheet, most):

@@ -37,9 +37,10 @@ def judge_mosaic(sheet, plan, head, places):
     ready, done, free, figure = timetable.ready_times(sheet), 0, 0, 0
     for at in places:
         last, start, finish = plan[at + 3], number(plan, at + 4), number(plan, at + 8)
-        if not done < last <= len(sheet.strips) or start < ready[last - 1] or start < free or finish > CEILING:
+        if not done < last <= len(sheet.strips) or start < free or finish > CEILING:
             return at, 0
-        if finish - start != sheet.mount + sum(bench for _, bench in sheet.strips[done:last]):
+        bench_start = finish - sum(bench for _, bench in sheet.strips[done:last])
+        if bench_start != max(start + sheet.mount, ready[last - 1]):
             return at, 0
         figure += (last - done) * finish
         done, free = last, finish

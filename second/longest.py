@@ -171,7 +171,7 @@ def mosaic_plans():
         parsed = reader.read(sheet)
         for size in (1, 2, 40):
             lasts = range(size, 41, size)
-            for wait in (timetable.no_wait, each_wait(MOST_TIME), first_wait((40 - size) * MOST_TIME)):
+            for wait in (timetable.no_wait, each_wait(MOST_TIME), first_wait(40 * MOST_TIME)):
                 yield sheet, timetable.plan_of(parsed, timetable.batches_of(parsed, lasts, wait), [], None, [])
 
 
@@ -208,6 +208,7 @@ def moved(sheet, plan, section, first, by):
     """The plan with the members of a section from `first` on so much later."""
     plan = copy.deepcopy(plan)
     tag, head, members = plan.sections[section]
+    plans.mount_late(sheet, tag, members, first)
     plans.shift(tag, members[first:], by)
     head[0] = plans.figure_of(sheet, tag, members)
     return plan

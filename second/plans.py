@@ -130,10 +130,17 @@ def shift(tag, members, by):
             member[column] += by
 
 
+def mount_late(sheet, tag, members, first):
+    """In a mosaic, each mount from `first` on as late as its finish lets it be: then its start can be moved with its finish."""
+    if tag == 0x90:
+        members[first:] = timetable.latest_mounts(sheet, members)[first:]
+
+
 def move_to_ceiling(rng, sheet, plan, over):
     """One section ends at the ceiling, or `over` behind it: all of it, or in mosaic and sorting its last members, are moved there."""
     tag, head, members = rng.choice(plan.sections)
     first = 0 if tag == 0xB0 else rng.randrange(len(members))
+    mount_late(sheet, tag, members, first)
     shift(tag, members[first:], CEILING + over - last_end(sheet, tag, members[first:]))
     head[0] = figure_of(sheet, tag, members)
 

@@ -18,15 +18,27 @@ def ready_times(sheet):
     return out
 
 
+def bench_time(sheet, done, last):
+    """The time of the bench for the strips behind `done`, up to `last`."""
+    return sum(bench for _, bench in sheet.strips[done:last])
+
+
 def batches_of(sheet, lasts, wait=no_wait):
-    """Last strip, mount start and finish of each batch, each mount as early as it may and `wait` later."""
+    """Last strip, mount start and finish of each batch, each mount as early as it may and `wait` later. Bench work starts once the mount is done and the last
+    strip is ready."""
     ready, free, done, out = ready_times(sheet), 0, 0, []
     for last in lasts:
-        start = max(free, ready[last - 1]) + wait()
-        free = start + sheet.mount + sum(bench for _, bench in sheet.strips[done:last])
+        start = free + wait()
+        free = max(start + sheet.mount, ready[last - 1]) + bench_time(sheet, done, last)
         out.append([last, start, free])
         done = last
     return out
+
+
+def latest_mounts(sheet, batches):
+    """The batches with the same finishes, each mount as late as its finish lets it be."""
+    lasts = [0] + [last for last, _, _ in batches]
+    return [[last, finish - bench_time(sheet, done, last) - sheet.mount, finish] for done, (last, _, finish) in zip(lasts, batches)]
 
 
 def jobs_of(sheet, desks, wait=no_wait):

@@ -55,7 +55,7 @@ static struct verdict lawful(u64 figure) {
 }
 
 static struct verdict judge_mosaic(const struct mosaic *m, const uint8_t *plan, struct part p) {
-    u64 ready[MOST_STRIPS], free = 0, figure = 0;
+    u64 ready[MOST_STRIPS], before = 0, figure = 0;
     size_t done = 0;
     ready_times(m, ready);
     for (size_t k = 0; k < p.members; k++) {
@@ -63,13 +63,15 @@ static struct verdict judge_mosaic(const struct mosaic *m, const uint8_t *plan, 
         u64 start = number_at(plan + at + 4, 4), finish = number_at(plan + at + 8, 4);
         if (last <= done || last > m->strips)
             return broken(at);
-        if (start < ready[last - 1] || start < free)
+        if (start < before)
             return broken(at);
-        if (finish != start + m->mount + bench_times(m, done, last) || finish > CEILING)
+        u64 mounted = start + m->mount, last_ready = ready[last - 1];
+        u64 due = later(mounted, last_ready) + bench_times(m, done, last);
+        if (finish != due || finish > CEILING)
             return broken(at);
         figure += (last - done) * finish;
         done = last;
-        free = finish;
+        before = finish;
     }
     return done == m->strips ? lawful(figure) : broken(p.head);
 }

@@ -7,8 +7,8 @@ struct beginning {
     size_t strips_before, index_before;
 };
 
-/* A beginning's free time is fixed by the last batch that waited for a strip, which is one of 820 runs, and by the number of mounts from it on. */
-enum { MOST_BEGINNINGS = 820 * 40 };
+/* A beginning's free time is fixed by the last batch whose bench work waited for a strip, one of 820 runs or none, and by the number of mounts behind it. */
+enum { MOST_BEGINNINGS = 821 * 40 };
 
 struct beginnings {
     size_t count;
@@ -41,9 +41,10 @@ static void add_beginning(struct beginnings *l, struct beginning b) {
     l->count = kept + 1;
 }
 
-/* When a batch of strips i + 1 to q finishes, the bench being free from `free` on. */
-static u64 finish_of(const struct mosaic *m, const u64 *ready, u64 free, size_t i, size_t q) {
-    return later(free, ready[q - 1]) + m->mount + bench_times(m, i, q);
+/* When a batch of strips i + 1 to q finishes, its mount starting at `start`. */
+static u64 finish_of(const struct mosaic *m, const u64 *ready, u64 start, size_t i, size_t q) {
+    u64 mounted = start + m->mount, last_ready = ready[q - 1];
+    return later(mounted, last_ready) + bench_times(m, i, q);
 }
 
 /* Adds to a beginning of i strips every batch that can follow: strips i + 1 to q. */
@@ -93,9 +94,8 @@ struct mosaic_plan plan_mosaic(const struct mosaic *m) {
     fill_behind(m, ready);
     plan.batches = trace(m->strips, cheapest(&behind[m->strips]), plan.last);
     for (size_t k = 0, i = 0; k < plan.batches; i = plan.last[k++]) {
-        free = finish_of(m, ready, free, i, plan.last[k]);
-        plan.finish[k] = free;
-        plan.start[k] = free - m->mount - bench_times(m, i, plan.last[k]);
+        plan.start[k] = free;
+        plan.finish[k] = free = finish_of(m, ready, free, i, plan.last[k]);
         plan.figure += (plan.last[k] - i) * free;
     }
     return plan;
