@@ -54,6 +54,46 @@ def least_mosaic(sheet, most):
     return min(timetable.mosaic_figure(batches) for lasts in batchings(len(sheet.strips)) for batches in idle_batches(sheet, lasts, most))
 
 
+def finish_of(sheet, done, last, start):
+    """When the batch of the strips behind `done` up to `last` finishes, minute by minute: the bench waits until the mount is done and every strip is ready."""
+    ready, minute = timetable.ready_times(sheet)[done:last], start
+    while minute < start + sheet.mount or any(minute < at for at in ready):
+        minute += 1
+    return minute + timetable.bench_time(sheet, done, last)
+
+
+def every_mounts(sheet, lasts, done=0, free=0):
+    """Every row of batches with these last strips, the bench being free from `free` on. No mount needs to be done later than its batch's last strip is ready;
+    each is also tried one minute later than that."""
+    if not lasts:
+        yield []
+        return
+    last, most = lasts[0], max(free, timetable.ready_times(sheet)[lasts[0] - 1] - sheet.mount) + 1
+    for start in range(free, most + 1):
+        finish = finish_of(sheet, done, last, start)
+        yield from ([[last, start, finish], *rest] for rest in every_mounts(sheet, lasts[1:], last, finish))
+
+
+def least_by_batching(sheet):
+    """Of every batching the least figure, and the least start and finish of each batch, each for itself over all that are tried."""
+    found = {}
+    for lasts in batchings(len(sheet.strips)):
+        rows = list(every_mounts(sheet, lasts))
+        least = [[last, min(row[k][1] for row in rows), min(row[k][2] for row in rows)] for k, last in enumerate(lasts)]
+        found[tuple(lasts)] = min(map(timetable.mosaic_figure, rows)), least
+    return found
+
+
+def first_wrong_batch(sheet, batches):
+    """The index of the first batch that breaks a rule, or None. The last strips are not looked at."""
+    done = free = 0
+    for k, (last, start, finish) in enumerate(batches):
+        if start < free or finish != finish_of(sheet, done, last, start):
+            return k
+        done, free = last, finish
+    return None
+
+
 def least_sorting(sheet, most):
     """The least figure and, of the lists that have it, the one with the lower desk number at the first place where it and another part."""
     lists = interleavings(counts_of(sheet))

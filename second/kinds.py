@@ -17,6 +17,7 @@ import brute
 import distances
 import lengths
 import longest
+import mounts
 import page
 import pages
 import plans
@@ -224,6 +225,66 @@ def windows_fixed():
     yield "every tiny plan with windows", every_start_with_windows()
     yield "plans with a delay at an end of its window or beyond", ends_of_windows()
     yield "windows of one value beside blocks of one delay", windows_of_one_value()
+
+
+def of_every_mount(sheet):
+    """The figures once every start of every batching is tried, and the other methods of this program agree."""
+    found = brute.least_by_batching(sheet)
+    for lasts, (figure, least) in found.items():
+        batches = timetable.batches_of(sheet, lasts)
+        assert (figure, least) == (timetable.mosaic_figure(batches), batches), "the second program's own methods differ on mounts: %s" % (least,)
+    return agreed(sheet, ((min(figure for figure, _ in found.values()), 0, 0), b""))
+
+
+def worked_mosaic():
+    """The best plan of the first worked sheet is one alone. All six are judged with each other's figures too, and with other sections behind them."""
+    yield PlanCase(mounts.WORKED, least=lambda sheet: agreed(sheet, ((32, 0, 0), b"")))
+    behind, planned = tiny.ONES["s"] + tiny.ONES["f"], tiny.HEADS["s"] + tiny.MEMBERS["s"] + tiny.HEADS["f"] + tiny.MEMBERS["f"]
+    for figure, batches in mounts.WORKED_PLANS.items():
+        plan = mounts.worked_plan(figure, batches)
+        yield from (AllowedCase(mounts.WORKED, plan), AllowedCase(mounts.WORKED + behind, plan + planned), PageCase(mounts.WORKED, plan))
+        yield from (JudgeCase(mounts.WORKED + behind, plan + tail) for tail in (b"", planned[:-1], planned[:-1] + b"\xFF"))
+        yield from (JudgeCase(mounts.WORKED, mounts.worked_plan(other, batches)) for other in (*mounts.WORKED_PLANS, 0, figure - 1, figure + 1))
+    yield from (BrokenCase(mounts.WORKED, mounts.plan_of(batches), 0) for batches in mounts.missing())
+
+
+def judged_batches(sheet, batches, broken):
+    """What the plan must get is known: None, or the index of the batch that breaks a rule."""
+    plan = mounts.plan_of(batches)
+    return AllowedCase(sheet, plan) if broken is None else BrokenCase(sheet, plan, mounts.place_of(broken))
+
+
+def every_mount():
+    """Judged, the lawful ones also with an untrue figure and printed."""
+    for sheet, batches in mounts.every_time():
+        broken = brute.first_wrong_batch(reader.read(sheet), batches)
+        yield judged_batches(sheet, batches, broken)
+        if broken is None:
+            yield from (JudgeCase(sheet, mounts.plan_of(batches, 1)), PageCase(sheet, mounts.plan_of(batches)))
+
+
+def judged_mounts():
+    """Some of the lawful ones are printed."""
+    for number, (sheet, batches, broken) in enumerate(itertools.chain(mounts.judged(), mounts.at_ceiling())):
+        yield judged_batches(sheet, batches, broken)
+        if broken is None and number % 4 == 0:
+            yield PageCase(sheet, mounts.plan_of(batches))
+
+
+def mounts_alone():
+    return (PagesCase(sheet, mounts.plan_of(one), mounts.plan_of(other)) for sheet, one, other in mounts.same_finish())
+
+
+def mounts_fixed():
+    """Name and cases of those of mosaics whose mounts start ahead, which are the same for every seed too."""
+    yield "the first worked sheet and its plans", worked_mosaic()
+    yield "every tiny mosaic with every start of its mounts", (PlanCase(sheet, least=of_every_mount) for sheet in mounts.every_mosaic())
+    yield "strips that are ready about when the mount is done", (PlanCase(sheet) for sheet, _, _ in itertools.chain(mounts.about_mounts(), mounts.about_one_mount()))
+    yield "mosaics whose best batching is another where mounts wait", (PlanCase(sheet, least=of_choices) for sheet in mounts.other_best())
+    yield "every tiny plan of mounts", every_mount()
+    yield "plans with a mount or a finish about the due ones, up to the ceiling", judged_mounts()
+    yield "plans that differ in the start of a mount", mounts_alone()
+    yield "every change of one byte of a plan of mounts", (JudgeCase(mounts.WORKED, plan) for plan in tiny.changes(mounts.plan_of(mounts.CHANGED)))
 
 
 def fixed():
@@ -454,6 +515,22 @@ def drawn_windows_of_one_value(rng, count):
                 yield from same_cases(*found, plans.idle_plan(rng, reader.read(found[0])).bytes())
 
 
+def small_mosaics(rng, count):
+    """Every batching tried; some with plans about their mounts."""
+    for number in range(share(count, 4)):
+        sheet = mounts.drawn_mosaic(rng, 8)
+        yield PlanCase(sheet, least=of_choices)
+        if number % 4 == 0:
+            yield from itertools.starmap(judged_batches, ((sheet, *one) for one in mounts.drawn_judged(rng, sheet)))
+            yield from itertools.starmap(PagesCase, pages.pairs(rng, sheet))
+
+
+def mounts_for_large(rng, count):
+    for _ in range(share(count, 40)):
+        sheet = mounts.drawn_mosaic(rng, 40)
+        yield from itertools.starmap(judged_batches, ((sheet, *one) for one in mounts.drawn_judged(rng, sheet)))
+
+
 DRAWN = {
     "small sheets": small_sheets, "sheets with values out of range": out_of_range, "sheets with fields of other lengths": of_other_lengths,
     "plans for small sheets": plans_for_small, "mosaics of 40 strips": mosaics,
@@ -465,6 +542,7 @@ DRAWN = {
     "sheets with a turn of 0 beside an empty head": drawn_turns_of_zero,
     "small flights with windows": small_flights_with_windows, "flights of 8 free blocks with windows": free_flights_with_windows,
     "flights of 32 blocks in order with windows": large_flights_with_windows, "sheets with windows of one value": drawn_windows_of_one_value,
+    "small mosaics": small_mosaics, "plans of large mosaics about their mounts": mounts_for_large,
 }
 
 
@@ -484,7 +562,7 @@ def rows_of(name, cases):
 
 def chunks(count, seed):
     """All cases, a row of each kind in turn, so that every kind is met early."""
-    waiting = [rows_of(name, cases) for name, cases in itertools.chain(fixed(), turns_fixed(), windows_fixed(), drawn(count, seed))]
+    waiting = [rows_of(name, cases) for name, cases in itertools.chain(fixed(), mounts_fixed(), turns_fixed(), windows_fixed(), drawn(count, seed))]
     while waiting:
         kind = waiting.pop(0)
         row = next(kind, None)

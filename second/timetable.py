@@ -23,11 +23,12 @@ def bench_time(sheet, done, last):
     return sum(bench for _, bench in sheet.strips[done:last])
 
 
-def batches_of(sheet, lasts, wait=no_wait):
+def batches_of(sheet, lasts, wait=no_wait, before=()):
     """Last strip, mount start and finish of each batch, each mount as early as it may and `wait` later. Bench work starts once the mount is done and the last
-    strip is ready."""
-    ready, free, done, out = ready_times(sheet), 0, 0, []
-    for last in lasts:
+    strip is ready. The first batches are those of `before`, whatever their times."""
+    ready, out = ready_times(sheet), [*before]
+    done, _, free = out[-1] if out else (0, 0, 0)
+    for last in lasts[len(out):]:
         start = free + wait()
         free = max(start + sheet.mount, ready[last - 1]) + bench_time(sheet, done, last)
         out.append([last, start, free])
