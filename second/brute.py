@@ -2,8 +2,8 @@
 
 `of_choices` tries every batching, every interleaving and every proper order, each with its earliest starts. `of_timetables`, for tiny sheets, tries idle
 timetables too: in mosaic every mount up to two minutes later than it may start, in sorting those that wait one minute at one or two starts, in flight every
-row of starts up to a time behind which no start is needed, with every delay of each window. That a flight without order is impossible is found by trying
-every proper order, never by its delays.
+row of starts up to a time behind which no start is needed, with every delay of each window. `least_by_batching`, for tiny mosaics, tries every start of every
+mount, its bench minute by minute. That a flight without order is impossible is found by trying every proper order, never by its delays.
 """
 import itertools
 

@@ -279,7 +279,7 @@ def mounts_fixed():
     """Name and cases of those of mosaics whose mounts start ahead, which are the same for every seed too."""
     yield "the first worked sheet and its plans", worked_mosaic()
     yield "every tiny mosaic with every start of its mounts", (PlanCase(sheet, least=of_every_mount) for sheet in mounts.every_mosaic())
-    yield "strips that are ready about when the mount is done", (PlanCase(sheet) for sheet, _, _ in itertools.chain(mounts.about_mounts(), mounts.about_one_mount()))
+    yield "strips that are ready about when the mount is done", (PlanCase(sheet) for sheet, *_ in [*mounts.about_mounts(), *mounts.about_one_mount()])
     yield "mosaics whose best batching is another where mounts wait", (PlanCase(sheet, least=of_choices) for sheet in mounts.other_best())
     yield "every tiny plan of mounts", every_mount()
     yield "plans with a mount or a finish about the due ones, up to the ceiling", judged_mounts()

@@ -32,10 +32,9 @@ import reader
 import sheets
 import timetable
 import tiny
-from longest import CEILING
 from reader import MOST_TIME
 from sheets import mosaic_head, strip
-from timetable import batches_of
+from timetable import CEILING, batches_of
 
 TOP = 1 << 32
 
@@ -110,7 +109,7 @@ def with_ready(mount, bench, ready):
 
 
 def about_mounts():
-    """A sheet, the last strips of its batches and the batches that are tried. Each strip is its own batch. All strips before one are ready in time, and that one so
+    """A sheet, the last strips of its batches and the batches that are tried. Each strip is its own batch. All strips before one are ready in time, that one so
     much later than its mount is done."""
     places = [(n, at) for n in (1, 2, 3) for at in range(n)] + [(40, at) for at in (0, 1, 20, 38, 39)]
     for (n, at), (mount, bench), late in itertools.product(places, ((0, 1), (1, 3), (255, 1), (256, 40), (59_000, 600)), (-1, 0, 1, 2)):
@@ -197,14 +196,14 @@ def starts_about(free, latest):
 
 
 def about_batch(sheet, lasts, k):
-    """Batches, and None or the index of the one that breaks a rule: batch k with the starts above, each with the finish that is due, with finishes one minute off
-    and with those of other rules. All other batches are as early as they may."""
+    """Batches, and None or the index of the one that breaks a rule: batch k with the starts above, each with the finish that is due, with finishes one minute
+    off and with those of other rules. All other batches are as early as they may."""
     before = batches_of(sheet, lasts[:k])
     done, _, free = before[-1] if before else (0, 0, 0)
     latest = max(free, timetable.ready_times(sheet)[lasts[k] - 1] - sheet.mount)
     for start in starts_about(free, latest):
         due = batches_of(sheet, lasts[:k + 1], lambda: start - free, before)[k][2]
-        for finish in {due, due - 1, due + 1, *other_finishes(sheet, done, lasts[k], start)}:
+        for finish in sorted({due, due - 1, due + 1, *other_finishes(sheet, done, lasts[k], start)}):
             batches = batches_of(sheet, lasts, before=[*before, [lasts[k], start, finish]])
             yield batches, None if finish == due and start >= free else k
 
@@ -227,27 +226,28 @@ def missing():
 
 
 def at_ceiling():
-    """A sheet, its batches, and None or the index of the one that breaks a rule: one batch starts so late that it finishes about the ceiling, or where four bytes
-    end; with the finish that is due, with the ceiling, and with finishes that would be due if some sum were of four bytes."""
+    """A sheet, its batches, and None or the index of the one that breaks a rule: one batch starts so late that it finishes about the ceiling, or where four
+    bytes end; with the finish that is due, with the ceiling, and with finishes that would be due if some sum were of four bytes."""
     for mount, bench, n in itertools.product((0, 1, MOST_TIME), (1, MOST_TIME), (1, 3)):
         sheet = mosaic(mount, [(7, 0, bench)] * n)
         parsed, lasts, fits = reader.read(sheet), singly(n), CEILING - bench - mount
-        for k, start in itertools.product(range(n), (fits - 1, fits, fits + 1, CEILING - bench, CEILING, CEILING + 1, TOP - bench - mount, TOP - max(1, mount), TOP - 1)):
+        starts = (fits - 1, fits, fits + 1, CEILING - bench, CEILING, CEILING + 1, TOP - bench - mount, TOP - max(1, mount), TOP - 1)
+        for k, start in itertools.product(range(n), starts):
             due, before = start + mount + bench, batches_of(parsed, lasts[:k])
-            for finish in {due % TOP, due - 1, CEILING, CEILING + 1, 7 * (k + 1) + bench, (start + mount) % TOP + bench}:
+            for finish in sorted({due % TOP, due - 1, CEILING, CEILING + 1, 7 * (k + 1) + bench, (start + mount) % TOP + bench}):
                 batches = batches_of(parsed, lasts, before=[*before, [k + 1, start, finish]])
                 behind = next((j for j in range(k, n) if batches[j][2] > CEILING), None)
                 yield sheet, batches, behind if finish == due else k
 
 
 def same_finish():
-    """A sheet and two rows of batches, which differ in the start of one mount at most."""
-    for (sheet, lasts), late in itertools.product([(WORKED, [1, 2, 4]), (WORKED, [2, 4]), (mosaic(10, [(3, 9), (200, 1), (1, 1)]), [1, 3])], (0, 1, 9, 10, 100)):
+    """A sheet and two rows of batches, which differ in the start of one mount alone, or not at all."""
+    for sheet, lasts in ((WORKED, [1, 2, 4]), (WORKED, [2, 4]), (mosaic(10, [(3, 9), (200, 1), (1, 1)]), [1, 3]), (mosaic(0, [(255, 1), (256, 1)]), [1, 2])):
         parsed = reader.read(sheet)
         batches = batches_of(parsed, lasts)
-        for k, (_, _, finish) in enumerate(batches):
-            other = batches_of(parsed, lasts, before=[*batches[:k], *batches_of(parsed, lasts[:k + 1], lambda: late, batches[:k])[k:]])
-            yield sheet, batches, other
+        for k, (last, latest, finish) in enumerate(timetable.latest_mounts(parsed, batches)):
+            others = ([*batches[:k], [last, start, finish], *batches[k + 1:]] for start in range(batches[k][1], latest + 1))
+            yield from ((sheet, batches, other) for other in others)
 
 
 # Of the worked sheet, a batch whose mount is done before its strips are ready, one whose mount is done at that minute, and one of two strips.

@@ -145,7 +145,7 @@ def move_to_ceiling(rng, sheet, plan, over):
     head[0] = figure_of(sheet, tag, members)
 
 
-# Faults of meaning: each changes a plan.
+# Faults of meaning: each changes a plan. A mount may also start elsewhere without a fault.
 
 def one_off(rng, sheet, plan):
     """One time of one member is one earlier or later."""
@@ -165,6 +165,35 @@ def tail_moved(rng, sheet, plan):
     tag, head, members = rng.choice(plan.sections)
     shift(tag, members[rng.randrange(len(members)):], -rng.choice((1, 1, 2, 5)))
     head[0] = figure_of(sheet, tag, members)
+
+
+def any_batch(rng, plan):
+    """The strips done and the finish before a batch, and the batch; None where there is no mosaic."""
+    tag, _, members = plan.sections[0]
+    if tag != 0x90:
+        return None
+    k = rng.randrange(len(members))
+    done, _, free = members[k - 1] if k else (0, 0, 0)
+    return done, free, members[k]
+
+
+def mount_elsewhere(rng, sheet, plan):
+    """One mount starts when the batch before finishes, as late as its finish lets it, or between, or one minute before or behind; the finish stays."""
+    found = any_batch(rng, plan)
+    if found:
+        done, free, batch = found
+        latest = max(free, batch[2] - timetable.bench_time(sheet, done, batch[0]) - sheet.mount)
+        batch[1] = max(0, rng.choice((free - 1, free, rng.randint(free, latest), latest, latest + 1)))
+
+
+def bench_too_soon(rng, sheet, plan):
+    """One finish is as if the bench had not waited for the mount, for the last strip or for the other strips; the figure is that of the members then."""
+    found = any_batch(rng, plan)
+    if found:
+        (done, _, batch), ready = found, timetable.ready_times(sheet)
+        mounted, times = batch[1] + sheet.mount, ready[done:batch[0]]
+        batch[2] = rng.choice((mounted, max(batch[1], times[-1]), max(mounted, times[0]))) + timetable.bench_time(sheet, done, batch[0])
+        plan.sections[0][1][0] = timetable.mosaic_figure(plan.sections[0][2])
 
 
 def exchanged(rng, sheet, plan):
@@ -267,7 +296,7 @@ def section_displaced(rng, sheet, plan):
 
 FAULTS = (
     one_off, member_moved, tail_moved, exchanged, times_exchanged, one_more, one_less, last_missing, renumbered, untrue, other_number, other_flight,
-    turn_too_short, delay_at_an_end, near_the_top, section_displaced,
+    turn_too_short, delay_at_an_end, near_the_top, section_displaced, mount_elsewhere, bench_too_soon,
 )
 
 

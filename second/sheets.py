@@ -68,6 +68,8 @@ MOSAICS = {
     "longest times": (span(MOST_TIME, MOST_TIME), span(MOST_TIME, MOST_TIME), span(MOST_TIME, MOST_TIME)),
     "long stations": (span(0, 1000), span(0, MOST_TIME), span(1, 1000)),
     "long bench": (span(0, 1000), span(0, 1000), span(1, MOST_TIME)),
+    "strips as slow as the bench": (span(5, 15), span(10, 25), span(5, 15)),
+    "mounts as long as strips": (span(100, 120), span(90, 140), span(1, 9)),
     "long mounts": (span(MOST_TIME - 1000, MOST_TIME), span(0, 500), span(1, 500)),
     "no mounts": (span(0, 0), span(0, 100), span(1, 100)),
     "cameras off": (span(1, 60), either(0, 0, 0, 50), span(1, 20)),
