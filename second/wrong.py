@@ -6,6 +6,8 @@
 builds the model (model/), a right planner, judge and page in plain C, and every wrong program of wrong.txt. All cases that second.py has (kinds.py) go through
 the model, which must agree, and through each wrong program until it differs. Ends with status 1 where the model differs or a wrong program does not.
 """
+import concurrent.futures
+import os
 import pathlib
 import subprocess
 import sys
@@ -54,14 +56,18 @@ def build(folder, table):
     sources = {path: path.read_text() for path in sorted((HERE / "model").glob("*.c"))}
     harness = compile_c(HERE / "harness.c", folder / "harness.o", STRICT)
     objects = {path: compile_c(path, folder / (path.stem + ".o"), STRICT) for path in sources}
-    model, wrong = link([harness, *objects.values()], folder / "model"), {}
-    for number, (name, old, new) in enumerate(table):
-        path, text = changed(sources, name, old, new)
+    model = link([harness, *objects.values()], folder / "model")
+
+    def build_wrong(number):
+        path, text = changed(sources, *table[number])
         source = folder / ("wrong%d.c" % number)
         source.write_text(text)
         others = [harness] + [objects[other] for other in sources if other != path]
-        wrong[name] = link(others + [compile_c(source, source.with_suffix(".o"))], source.with_suffix(""))
-    return model, wrong
+        return link(others + [compile_c(source, source.with_suffix(".o"))], source.with_suffix(""))
+
+    with concurrent.futures.ThreadPoolExecutor(os.cpu_count()) as pool:
+        programs = list(pool.map(build_wrong, range(len(table))))
+    return model, dict(zip((name for name, _, _ in table), programs))
 
 
 def run_chunk(chunk, where, model, wrong):
