@@ -22,7 +22,7 @@ struct choice {
     u64 figure;
 };
 
-/* When the bench work of a batch begins: its mount is done, and its last strip is ready. */
+/* When the bench work of a batch starts: its mount is done, and its last strip is ready. */
 static inline u64 bench_start(u64 mount, u64 start, u64 ready) {
     return start + mount < ready ? ready : start + mount;
 }

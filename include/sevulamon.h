@@ -35,8 +35,8 @@
  *   B1   8       block            start of its first pass (4), of its second pass (4)
  *
  * A strip is ready when every station has done it. A mount starts no earlier than the batch before
- * finishes. The batch finishes its bench times after the later of two times: its mount is done, its
- * last strip is ready.
+ * finishes. Bench work starts when the mount is done and the last strip of the batch is ready; the
+ * batch finishes when its bench times are over.
  *
  * The page: an allowed plan as text, one line for each field of the plan, in its order. Each line
  * has 32 columns and a line feed. A head's line is a letter and the figure in 31 columns; a

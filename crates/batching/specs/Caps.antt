@@ -6,7 +6,7 @@ use Rattle.sheet.specs.Limits.{mostStrips, mostTime}
 abbrev pub readyCap : ℕ
 readyCap = mostStrips * mostTime
 
--- what a batch takes beside its bench times
+-- how long a mount takes
 abbrev pub mountCap : ℕ
 mountCap = mostTime
 
@@ -18,11 +18,11 @@ mountsCap = mostStrips * mountCap
 abbrev pub benchCap : ℕ
 benchCap = mostStrips * mostTime
 
--- when the bench work of a batch of the plan begins, and when the batch finishes: the last strip is ready, and then come all mounts and bench times
+-- when the bench work of a batch of the plan starts, and when the batch finishes: at most as if all mounts and bench times came after the last strip is ready
 abbrev pub beginCap : ℕ
 beginCap = readyCap + mountsCap + benchCap
 
--- when the bench work of a block begins that has further mounts put before it
+-- when the bench work of a block starts that has further mounts put before it
 abbrev pub blockCap : ℕ
 blockCap = beginCap + mountsCap
 

@@ -13,7 +13,7 @@ pub record Instance : Type 0 where
   pub weight : ℕ → ℕ → ℕ
 
 -- 02, Req 08: "a mount starts no earlier than the batch before finishes, or 0", so at `free` at the earliest. "Bench work starts when the mount is done and the
--- batch's last strip is ready": when the bench work of a batch starts at the earliest, and when the batch i, q finishes
+-- batch's last strip is ready": when it starts for a mount at `free` (`benchWorkStart` of the rules), and when the batch i, q finishes
 unfoldable pub benchStart : ℕ → ℕ → ℕ → ℕ
 benchStart mount free ready = max (free + mount) ready
 

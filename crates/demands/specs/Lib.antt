@@ -1087,14 +1087,15 @@ mounts-at-the-finish-before sheet plan table planAfter tableEnd r call z ours =
 abbrev pub withBatches : List Batch → Plan → Plan
 withBatches bs p = record { batches = bs; jobs = p .jobs; order = p .order; passes = p .passes }
 
-module _ (sheet q : List ℕ) (a : AllowedFor sheet q) (bs : List Batch) (moved : MountsMoved (readSheet sheet .mosaic) (a .allowed .plan .batches) bs) where
-  pub moved-mounts-allowed : AllowedFor sheet (planBytes (readSheet sheet) (withBatches bs (a .allowed .plan)))
-  moved-mounts-allowed = record {
+module _ (sheet q : List ℕ) (a : AllowedFor sheet q) (bs : List Batch) where
+  -- an allowed plan with the batches of another timetable is allowed
+  other-batches-allowed : MosaicLawful (readSheet sheet .mosaic) bs → AllowedFor sheet (planBytes (readSheet sheet) (withBatches bs (a .allowed .plan)))
+  other-batches-allowed law = record {
     sound = a .sound;
     allowed = record {
       plan = withBatches bs (a .allowed .plan);
       lawful = record {
-        mosaic = moved-obeys (readSheet sheet .mosaic) moved (a .allowed .lawful .mosaic);
+        mosaic = law;
         sorting = a .allowed .lawful .sorting;
         flight = a .allowed .lawful .flight;
         kept = a .allowed .lawful .kept;
@@ -1104,11 +1105,13 @@ module _ (sheet q : List ℕ) (a : AllowedFor sheet q) (bs : List Batch) (moved 
     };
   }
 
-  pub moved-mounts-judged : (j : Judged) → j ≡ judged sheet (planBytes (readSheet sheet) (withBatches bs (a .allowed .plan)))
+  pub moved-mounts-judged : MountsMoved (readSheet sheet .mosaic) (a .allowed .plan .batches) bs
+      → (j : Judged) → j ≡ judged sheet (planBytes (readSheet sheet) (withBatches bs (a .allowed .plan)))
       → (j .number ≡ 0) × FiguresTrue (readSheet sheet) (a .allowed .plan) j
-  unfolding moved-mounts-allowed
-  moved-mounts-judged j call =
-      let allows = allows-what-obeys sheet _ j call moved-mounts-allowed in (
+  unfolding other-batches-allowed
+  moved-mounts-judged moved j call =
+      let changed = other-batches-allowed (moved-obeys (readSheet sheet .mosaic) moved (a .allowed .lawful .mosaic)) in
+      let allows = allows-what-obeys sheet _ j call changed in (
         allows .0,
         record {
           place = allows .1 .place;
@@ -1118,29 +1121,31 @@ module _ (sheet q : List ℕ) (a : AllowedFor sheet q) (bs : List Batch) (moved 
         },
       )
 
--- A timetable whose mounts wait for the strips, by 01's own rule (`MountsWait`), is one by this rule too, with the same starts and finishes: so plans drawn by
--- that rule stay allowed. It has no smaller figure than ours (`no-smaller-figure`).
-pub waiting-mounts-obey : (sheet : List ℕ) (bs : List Batch) → MountsWait ceiling (readSheet sheet .mosaic) bs → MosaicLawful (readSheet sheet .mosaic) bs
-waiting-mounts-obey sheet bs waits = waiting-obeys (readSheet sheet .mosaic) bs waits
+  -- A timetable whose mounts wait for the strips, by 01's own rule (`MountsWait`), is one by this rule too, with the same starts and finishes: a plan with it
+  -- stays allowed. It has no smaller figure than ours (`no-smaller-figure`).
+  pub waiting-mounts-allowed : MountsWait ceiling (readSheet sheet .mosaic) bs
+      → AllowedFor sheet (planBytes (readSheet sheet) (withBatches bs (a .allowed .plan)))
+  waiting-mounts-allowed waits = other-batches-allowed (waiting-obeys (readSheet sheet .mosaic) bs waits)
 
 -- A plan is turned back with 13 at the first batch that breaks the rule: its finish is another than is due, one early or one late, whenever its mount starts ..
 module _ (sheet plan : List ℕ) (j : Judged) (call : j ≡ judged sheet plan) (sound : readSheet sheet .number ≡ 0) (laid : LaidOut (readSheet sheet) plan)
     (there : present (readSheet sheet) 1 ≡ true) (k : ℕ) (st : Progress) (judging : Judging (readSheet sheet) plan 1 k st)
     (more : k < partAt (readSheet sheet) plan 1 .members) where
-  -- the batch at its place in the plan
+  -- the batch at its place in the plan, and 13 at that place
   abbrev batchThere : Batch
   batchThere = batchFrom plan (memberPlace 1 (partAt (readSheet sheet) plan 1 .head) k)
 
-  pub other-finish-is-thirteen : (batchThere .finish ≡ finishDue (readSheet sheet .mosaic) (st .before) batchThere → ⊥)
-      → j ≡ turnedBack ruleBroken (memberPlace 1 (partAt (readSheet sheet) plan 1 .head) k)
+  abbrev thirteenThere : Judged
+  thirteenThere = turnedBack ruleBroken (memberPlace 1 (partAt (readSheet sheet) plan 1 .head) k)
+
+  pub other-finish-is-thirteen : (batchThere .finish ≡ finishDue (readSheet sheet .mosaic) (st .before) batchThere → ⊥) → j ≡ thirteenThere
   unfolding MemberFollows
   other-finish-is-thirteen other =
       member-is-thirteen sheet plan j call sound laid 1 (omega arith) (omega arith) (λ i l m. absurd (omega arith)) there k st judging more
       (λ h. other (h .lawful .finishes))
 
   -- .. or its mount starts before the batch before finishes.
-  pub mount-too-early-is-thirteen : batchThere .start < st .before .finish
-      → j ≡ turnedBack ruleBroken (memberPlace 1 (partAt (readSheet sheet) plan 1 .head) k)
+  pub mount-too-early-is-thirteen : batchThere .start < st .before .finish → j ≡ thirteenThere
   unfolding MemberFollows
   mount-too-early-is-thirteen early =
       member-is-thirteen sheet plan j call sound laid 1 (omega arith) (omega arith) (λ i l m. absurd (omega arith)) there k st judging more

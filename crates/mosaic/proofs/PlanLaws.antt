@@ -26,7 +26,7 @@ use Rattle.mosaic.specs.declared.MosaicPlan.{MosaicPlan}
 module _ {m : MosaicSection} (S : MosaicSound m) {rs sums : List ℕ} (R : ReadyTimes m rs) (B : BenchSums m sums) {s : ℕ} (U : SetupTold m s) where
   most-ready : (j : ℕ) → getD rs j 0 ≤ readyCap
   most-ready j = elim (decLt j mostStrips) [
-    | yes h ↦ omega (arith, R .at j h, ready-most S (j + 1) (omega arith))
+    | yes h ↦ omega (arith, R .at j h, ready-most S (j + 1))
     | no h ↦ omega (arith, List·getD-eq-default rs 0 {n = j} (omega (arith, R .len)))
   ]
 

@@ -21,9 +21,17 @@ use Rattle.rules_laws.specs.Equivalent as running
 use Rattle.rules_laws.specs.Fits.{mosaic-figure-least, batches-most}
 use Rattle.rules_laws.specs.MosaicRunning.{before-is}
 use Rattle.mosaic.specs.Laws.LowerBound.{lower-after}
-use Rattle.mosaic.specs.Laws.Attained.{latest, figure-most}
+use Rattle.mosaic.specs.Laws.Attained.{AsEarly, latest, figure-most}
 use Rattle.mosaic.specs.Laws.Whole.{least-is, attained, finish-at}
-use Rattle.mosaic.specs.Laws.Earliest.{early-start, earliest}
+use Rattle.mosaic.specs.Laws.Earliest.{early-start, earliest, earliest-figure}
+
+-- Of all timetables with the same batches one whose mounts start when the batch before finishes has the least figure.
+pub batches-least : (m : MosaicSection) (cs bs : List Batch) → AsEarly 0 cs → MosaicLawful m cs → MosaicLawful m bs → lasts bs ≡ lasts cs
+    → mosaicFigure m cs ≤ mosaicFigure m bs
+unfolding noBatch
+batches-least m cs bs E C B e =
+    rw (running.mosaic-figure m cs (running.mosaic-runs m cs C), running.mosaic-figure m bs (running.mosaic-runs m bs B))
+    (earliest-figure m cs bs noBatch noBatch E (running.mosaic-runs m cs C) (running.mosaic-runs m bs B) refl (omega arith) e)
 
 module _ (m : MosaicSection) (S : MosaicSound m) where
   chosen-runs : MosaicRuns m noBatch (chosenBatches m)
@@ -58,7 +66,7 @@ module _ (m : MosaicSection) (S : MosaicSound m) where
       starts : (i : ℕ) → i < length (chosenBatches m) → batchAt (chosenBatches m) i .start ≡ getD (noBatch ∷ chosenBatches m) i noBatch .finish
       starts i h = unfold noBatch batchAt in early-start (chosenBatches m) noBatch (attained m S .early) i h
 
-  -- the ceiling is never met: ready times, mounts and bench times of 40 strips at most
+  -- the ceiling is never met: mounts and bench times of 40 strips at most
   pub mosaic-finishes : (i : ℕ) → i < length (chosenBatches m) → batchAt (chosenBatches m) i .finish ≤ latest mostStrips
   unfolding batchAt
   mosaic-finishes i h = omega (arith, finish-at (latest (m .strips)) (chosenBatches m) (attained m S .finishes) i h, S .most-strips)

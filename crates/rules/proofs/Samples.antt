@@ -1,5 +1,5 @@
--- A test of the rules by samples: timetables with idle time that are lawful, with their figures; timetables that a rule refuses, one for each rule; and those
--- that only the ceiling refuses; last, two scanner lists.
+-- A test of the rules by samples: timetables, with and without idle time, that are lawful, with their figures; timetables that a rule refuses, one or more for
+-- each rule; and those that only the ceiling refuses; last, two scanner lists.
 -- Each timetable is tested by computing, and a test that holds says the sample in the words of the rules (tested). The sheets that 01 works through are crate
 -- worked_sheets.
 use Prim.{Unit, tt}
@@ -156,12 +156,14 @@ samples =
     -- .. the same mounted so late that the mount is done when the last strip is ready, which changes no finish, and later, which does
     ∷ row (ofMosaic fourStrips (batch 1 1 3 ∷ batch 3 6 12 ∷ batch 4 12 14 ∷ [])) (lawful 41)
     ∷ row (ofMosaic fourStrips (batch 1 3 5 ∷ batch 3 8 14 ∷ batch 4 14 16 ∷ [])) (lawful 49)
-    -- bench work before the mount is done: at 7, when strip 3 is ready
-    ∷ row (ofMosaic fourStrips (batch 1 0 3 ∷ batch 3 7 12 ∷ batch 4 12 14 ∷ [])) refused
+    -- bench work before the mount is done: at 9, when strip 4 is ready and the mount has started
+    ∷ row (ofMosaic fourStrips (batch 1 0 3 ∷ batch 4 9 15 ∷ [])) refused
     -- bench work of batch 2-3 that waits only for its first strip, ready at 4
     ∷ row (ofMosaic fourStrips (batch 1 0 3 ∷ batch 3 3 9 ∷ batch 4 9 11 ∷ [])) refused
     -- a mount before the batch before has finished, at 3; its own finish is as with a mount at 3
     ∷ row (ofMosaic fourStrips (batch 1 0 3 ∷ batch 2 2 7 ∷ batch 4 7 12 ∷ [])) refused
+    -- a batch without strips
+    ∷ row (ofMosaic fourStrips (batch 4 0 16 ∷ batch 4 16 17 ∷ [])) refused
     -- a strip that no batch has
     ∷ row (ofMosaic fourStrips (batch 1 0 3 ∷ batch 2 3 7 ∷ batch 3 7 10 ∷ [])) refused
     -- a finish one early, and one late

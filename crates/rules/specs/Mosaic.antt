@@ -35,7 +35,7 @@ unfoldable pub batchBefore : List Batch → ℕ → Batch
 batchBefore bs zero = noBatch
 batchBefore bs (suc i) = batchAt bs i
 
--- what a batch takes at the bench beside its strips' bench times: the mount time s (in the literature: setup time)
+-- how long a mount takes: the mount time s (in the literature: setup time)
 unfoldable pub setupTime : MosaicSection → ℕ
 setupTime m = m .mount
 

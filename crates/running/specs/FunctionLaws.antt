@@ -56,7 +56,7 @@ unfolding setupTime
 setup-told m r sound e = record { is = e; fits = omega (arith, sound .most-mount) }
 
 -- when the bench work of a batch starts
-pub record BenchWorkStarts (m : MosaicSection) (b : Batch) (r : ℕ) : Type 0 where
+pub record BenchWorkStartTold (m : MosaicSection) (b : Batch) (r : ℕ) : Type 0 where
   pub is : r ≡ benchWorkStart m b
   pub fits : r ≤ 2 ^ 32 + mostStrips * mostTime
 
@@ -137,12 +137,12 @@ module _ (m : MosaicSection) (i count : ℕ) (a : BenchSumPre m i count) where
       let l = a .strips in
       record { is = sum-all (λ k. getD (m .bench) (i + k) 0) count k sum s h; fits = omega arith }
 
-pub work-starts : (m : MosaicSection) (b : Batch) (r setup readyAt : ℕ) → BenchWorkStartPre m b → SetupTold m setup → SumTold (ready m (b .last)) readyAt
-    → r ≡ max (b .start + setup) readyAt → BenchWorkStarts m b r
+pub work-start-told : (m : MosaicSection) (b : Batch) (r setup readyAt : ℕ) → BenchWorkStartPre m b → SetupTold m setup → SumTold (ready m (b .last)) readyAt
+    → r ≡ max (b .start + setup) readyAt → BenchWorkStartTold m b r
 unfolding benchWorkStart
-work-starts m b r setup readyAt a u t e = record { is = rw (← u .is, ← t .is) e; fits = omega (arith, a .fits, u .fits, t .fits) }
+work-start-told m b r setup readyAt a u t e = record { is = rw (← u .is, ← t .is) e; fits = omega (arith, a .fits, u .fits, t .fits) }
 
-pub finish-is : (m : MosaicSection) (before b : Batch) (begin sum : ℕ) → BenchWorkStarts m b begin
+pub finish-is : (m : MosaicSection) (before b : Batch) (begin sum : ℕ) → BenchWorkStartTold m b begin
     → SumTold (benchSum m (before .last) (b .last - before .last)) sum → begin + sum ≡ finishDue m before b
 unfolding finishDue
 finish-is m before b begin sum u t = rw (u .is, t .is)

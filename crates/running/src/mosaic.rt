@@ -5,7 +5,7 @@ use sheet::MosaicSection;
 ghost use mathlib.Core.Path.{_≡_};
 ghost use Prim.Native.Nat.{_<_, _+_};
 ghost use Rattle.rules.specs.Mosaic.{stationSum, ready, benchSum, finishDue};
-ghost use Rattle.running.specs.FunctionLaws.{StationSumPre, ReadyTimePre, BenchSumPre, BenchWorkStartPre, BenchWorkStarts, FinishDuePre, SetupTold, SumTold};
+ghost use Rattle.running.specs.FunctionLaws.{StationSumPre, ReadyTimePre, BenchSumPre, BenchWorkStartPre, BenchWorkStartTold, FinishDuePre, SetupTold, SumTold};
 ghost use Rattle.sheet.specs.Sound.{MosaicSound};
 
 // When station k, from 0, is done with the first j strips.
@@ -53,7 +53,7 @@ fn bench_sum(m: MosaicSection, i: usize, count: usize) -> u64
     sum
 }
 
-// What a batch takes beside its bench times.
+// How long a mount takes.
 pub fn setup_time(m: MosaicSection) -> u64
     requires { ⌜ MosaicSound m ⌝ }
     ensures { λ r. ⌜ SetupTold m r ⌝ }
@@ -64,7 +64,7 @@ pub fn setup_time(m: MosaicSection) -> u64
 // When the bench work of a batch starts: its mount is done and its last strip is ready.
 fn bench_work_start(m: MosaicSection, b: Batch) -> u64
     requires { ⌜ BenchWorkStartPre m b ⌝ }
-    ensures { λ r. ⌜ BenchWorkStarts m b r ⌝ }
+    ensures { λ r. ⌜ BenchWorkStartTold m b r ⌝ }
 {
     let mounted = b.start + setup_time(m);
     greater(mounted, ready_time(m, b.last as usize))

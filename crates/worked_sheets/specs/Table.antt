@@ -21,6 +21,7 @@ use Rattle.rules.specs.declared.Batch.{Batch}
 use Rattle.rules.specs.declared.Job.{Job}
 use Rattle.rules.specs.declared.Passes.{Passes}
 use Rattle.plan_fields.specs.Stored.{batch, job, passes}
+use Rattle.mosaic.specs.Plan.{lasts}
 use Rattle.worked_sheets.specs.Sheets.{mosaicHead, stripOfTwo, sortingHead, stripOfDesk, flightHead, block, passOrder}
 
 -- the figures of the three sections, 0 for an absent one
@@ -33,11 +34,13 @@ unfoldable pub figuresOf : Sheet → Plan → Figures
 figuresOf s p = record { mosaic = figureOfMosaic s p; sorting = figureOfSorting s p; flight = figureOfFlight s p }
 
 -- what 01 and 02 say of a sheet: when the strips of its mosaic are ready, from strip 1 on; what the planner plans, which is best and whose scanner list comes
--- first; a plan that is best too; a plan that is allowed; that no timetable keeps its order, whose field stands at a place
+-- first; a plan that is best too; a plan that is best of those with its batches; a plan that is allowed; that no timetable keeps its order, whose field stands at
+-- a place
 pub data Claim : Type 0 where
   ready-at : List ℕ → Claim
   planned : Plan → Figures → Claim
   best : Plan → Figures → Claim
+  best-batched : Plan → Figures → Claim
   allowed : Plan → Figures → Claim
   impossible : ℕ → Claim
 
@@ -58,6 +61,12 @@ ListFirst sheet p =
     (q : List ℕ) (a : AllowedFor sheet q) → figureOfSorting (readSheet sheet) (a .allowed .plan) ≡ figureOfSorting (readSheet sheet) p
     → SameOrAfter (scannerList (a .allowed .plan .jobs)) (scannerList (p .jobs))
 
+-- each allowed plan of the sheet with the batches of p has no smaller mosaic figure
+abbrev pub LeastOfBatches : List ℕ → Plan → Type 0
+LeastOfBatches sheet p =
+    (q : List ℕ) (a : AllowedFor sheet q) → lasts (a .allowed .plan .batches) ≡ lasts (p .batches)
+    → figureOfMosaic (readSheet sheet) p ≤ figureOfMosaic (readSheet sheet) (a .allowed .plan)
+
 -- when so many strips are ready, from strip j on
 unfoldable pub readyTimes : MosaicSection → ℕ → ℕ → List ℕ
 readyTimes m zero j = []
@@ -70,6 +79,7 @@ Says sheet (planned p figures) =
     IsAllowed sheet p figures × NoneBelow sheet figures × ListFirst sheet p
     × (answerOf sheet planLength tableLength ≡ answer 0 0 (length (planBytes (readSheet sheet) p))) × (plannedBytes sheet planLength tableLength ≡ planBytes (readSheet sheet) p)
 Says sheet (best p figures) = IsAllowed sheet p figures × NoneBelow sheet figures
+Says sheet (best-batched p figures) = IsAllowed sheet p figures × LeastOfBatches sheet p
 Says sheet (allowed p figures) = IsAllowed sheet p figures
 Says sheet (impossible place) = (answerOf sheet planLength tableLength ≡ answer orderImpossible place 0) × Impossible (readSheet sheet)
 
@@ -116,9 +126,9 @@ table =
     row fourStrips (ready-at (2 ∷ 4 ∷ 7 ∷ 9 ∷ []))
     -- "Best: four batches": 02, Req 08, "The first worked sheet gives 32 (mounts 0, 3, 7, 10; finishing 3, 7, 10, 12)"
     ∷ row fourStrips (planned (mosaicPlan (batch 1 0 3 ∷ batch 2 3 7 ∷ batch 3 7 10 ∷ batch 4 10 12 ∷ [])) (mosaicAlone 32))
-    -- "its other two batchings 41 and 34": 1, 2-3, 4 and 1, 2, 3-4, with every mount as early as these batches allow
-    ∷ row fourStrips (allowed (mosaicPlan (batch 1 0 3 ∷ batch 3 3 12 ∷ batch 4 12 14 ∷ [])) (mosaicAlone 41))
-    ∷ row fourStrips (allowed (mosaicPlan (batch 1 0 3 ∷ batch 2 3 7 ∷ batch 4 7 12 ∷ [])) (mosaicAlone 34))
+    -- "its other two batchings 41 and 34": batches 1, 2-3, 4 and 1, 2, 3-4
+    ∷ row fourStrips (best-batched (mosaicPlan (batch 1 0 3 ∷ batch 3 3 12 ∷ batch 4 12 14 ∷ [])) (mosaicAlone 41))
+    ∷ row fourStrips (best-batched (mosaicPlan (batch 1 0 3 ∷ batch 2 3 7 ∷ batch 4 7 12 ∷ [])) (mosaicAlone 34))
     -- 01's own plans of the three batchings, whose mounts wait for the strips (figures 36, 45 and 38), are allowed too
     ∷ row fourStrips (allowed (mosaicPlan (batch 1 2 4 ∷ batch 2 4 8 ∷ batch 3 8 11 ∷ batch 4 11 13 ∷ [])) (mosaicAlone 36))
     ∷ row fourStrips (allowed (mosaicPlan (batch 1 2 4 ∷ batch 3 7 13 ∷ batch 4 13 15 ∷ [])) (mosaicAlone 45))

@@ -18,10 +18,12 @@ use Rattle.rules.proofs.Tests.{order-decided}
 use Rattle.base.specs.Answer.{answer}
 use Rattle.planner.specs.Call.{chosenPlan, answerOf, plannedBytes}
 use Rattle.planner.specs.Computes.{plannerComputes}
-use Rattle.planner.specs.Theorems.{figureOfSorting, Least, impossible-exactly, plan-lawful, plan-least-mosaic, plan-least-sorting, plan-least-flight, plan-taken}
+use Rattle.planner.specs.Theorems.{figureOfMosaic, figureOfSorting, Least, impossible-exactly, plan-lawful, plan-least-mosaic, plan-least-sorting, plan-least-flight, plan-taken}
 use Rattle.flight.specs.Choice.{isPossible}
-use Rattle.worked_sheets.specs.Table.{Figures, figuresOf, Claim, IsAllowed, NoneBelow, ListFirst, Says, Row, table, readyTimes, All, FirstCase, ready-at, planned}
-use Rattle.worked_sheets.specs.Table.{best, allowed, impossible}
+use Rattle.mosaic.specs.Laws.Attained.{AsEarly}
+use Rattle.mosaic.specs.Theorems.{batches-least}
+use Rattle.worked_sheets.specs.Table.{Figures, figuresOf, Claim, IsAllowed, NoneBelow, ListFirst, LeastOfBatches, Says, Row, table, readyTimes, All, FirstCase, ready-at, planned}
+use Rattle.worked_sheets.specs.Table.{best, best-batched, allowed, impossible}
 
 -- What is computed of a row.
 isPlan : Sheet → Plan → Bool
@@ -37,6 +39,8 @@ Computed sheet (planned p figures) =
     × (answerOf sheet planLength tableLength ≡ answer 0 0 (length (planBytes (readSheet sheet) p))) × (plannedBytes sheet planLength tableLength ≡ planBytes (readSheet sheet) p) × (readSheet sheet .number ≡ 0)
 Computed sheet (best p figures) =
     (isPlan (readSheet sheet) p ≡ true) × (figuresOf (readSheet sheet) p ≡ figures) × (figuresOf (readSheet sheet) (chosenPlan (readSheet sheet)) ≡ figures) × (readSheet sheet .number ≡ 0)
+Computed sheet (best-batched p figures) =
+    (isPlan (readSheet sheet) p ≡ true) × (figuresOf (readSheet sheet) p ≡ figures) × AsEarly 0 (p .batches) × (readSheet sheet .number ≡ 0)
 Computed sheet (allowed p figures) = (isPlan (readSheet sheet) p ≡ true) × (figuresOf (readSheet sheet) p ≡ figures) × (readSheet sheet .number ≡ 0)
 Computed sheet (impossible place) =
     (answerOf sheet planLength tableLength ≡ answer orderImpossible place 0) × (isPossible (readSheet sheet .flight) ≡ false) × (readSheet sheet .number ≡ 0)
@@ -82,11 +86,17 @@ list-first : (sheet : List ℕ) (p : Plan) → chosenPlan (readSheet sheet) ≡ 
 unfolding figureOfSorting
 list-first sheet p c = subst (ListFirst sheet) c (λ q a. plan-taken sheet (a .sound) .comes-first (a .allowed .plan .jobs) (a .allowed .lawful .sorting))
 
+least-of-batches : (sheet : List ℕ) (p : Plan) → isPlan (readSheet sheet) p ≡ true → AsEarly 0 (p .batches) → LeastOfBatches sheet p
+unfolding figureOfMosaic
+least-of-batches sheet p e early q a same =
+    batches-least (readSheet sheet .mosaic) (p .batches) (a .allowed .plan .batches) early (plan-true (readSheet sheet) p e .mosaic) (a .allowed .lawful .mosaic) same
+
 says : (sheet : List ℕ) (c : Claim) → Computed sheet c → Says sheet c
 says sheet (ready-at times) c = c
 says sheet (planned p figures) c =
     (ours-allowed sheet p figures (c .0) (c .1) (c .2) (c .5), none-below sheet figures (ap (figuresOf (readSheet sheet)) (c .1) ∙ c .2), list-first sheet p (c .1), c .3, c .4)
 says sheet (best p figures) c = (is-allowed sheet p figures (c .0) (c .1) (c .3), none-below sheet figures (c .2))
+says sheet (best-batched p figures) c = (is-allowed sheet p figures (c .0) (c .1) (c .3), least-of-batches sheet p (c .0) (c .2))
 says sheet (allowed p figures) c = is-allowed sheet p figures (c .0) (c .1) (c .2)
 says sheet (impossible place) c = (c .0, impossible-exactly sheet (c .2) .0 (c .1))
 
@@ -95,9 +105,9 @@ all-say [] c = tt
 all-say (r ∷ rs) c = (says (r .sheet) (r .claim) (c .0), all-say rs (c .1))
 
 computed : All Computed table × FirstCase
-unfolding readyTimes isPlan figuresOf sheetComputes rulesCompute plannerComputes
+unfolding readyTimes isPlan figuresOf AsEarly sheetComputes rulesCompute plannerComputes
 computed = (
-  (refl, ((refl, refl, refl, refl, refl, refl), ((refl, refl, refl), ((refl, refl, refl), ((refl, refl, refl), ((refl, refl, refl), ((refl, refl, refl), ((refl, refl, refl, refl, refl, refl), ((refl, refl, refl), ((refl, refl, refl, refl, refl, refl), ((refl, refl, refl, refl), ((refl, refl, refl, refl, refl, refl), ((refl, refl, refl, refl, refl, refl), ((refl, refl, refl), ((refl, refl, refl, refl, refl, refl), ((refl, refl, refl, refl, refl, refl), tt)))))))))))))))),
+  (refl, ((refl, refl, refl, refl, refl, refl), ((refl, refl, (refl, refl, refl, tt), refl), ((refl, refl, (refl, refl, refl, tt), refl), ((refl, refl, refl), ((refl, refl, refl), ((refl, refl, refl), ((refl, refl, refl, refl, refl, refl), ((refl, refl, refl), ((refl, refl, refl, refl, refl, refl), ((refl, refl, refl, refl), ((refl, refl, refl, refl, refl, refl), ((refl, refl, refl, refl, refl, refl), ((refl, refl, refl), ((refl, refl, refl, refl, refl, refl), ((refl, refl, refl, refl, refl, refl), tt)))))))))))))))),
   (refl, refl),
 )
 

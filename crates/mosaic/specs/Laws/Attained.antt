@@ -32,9 +32,9 @@ unfoldable pub FinishBy : ℕ → List Batch → Type 0
 FinishBy c [] = Unit
 FinishBy c (b ∷ bs) = (b .finish ≤ c) × FinishBy c bs
 
--- no batch up to strip i finishes later
+-- no batch up to strip i finishes later: its last strip is ready by i station times, and each strip adds a mount and a bench time at most
 abbrev pub latest : ℕ → ℕ
-latest i = mostStrips * mostTime + i * (mostSetup + mostTime)
+latest i = i * (mostSetup + mostTime)
 
 -- the batches of the strips after i, the bench free at `free`
 pub record Attains (m : MosaicSection) (i free figure : ℕ) (bs : List Batch) : Type 0 where
@@ -57,7 +57,7 @@ module _ {m : MosaicSection} (S : MosaicSound m) where
     finish-most : finishOf (instanceOf m) free i q ≤ latest q
     unfolding instanceOf finishOf benchStart
     finish-most =
-        omega (arith, bench-most S i (q - i), ready-most S q (omega (arith, S .most-strips)), setup-most m S)
+        omega (arith, bench-most S i (q - i), ready-most S q, setup-most m S)
 
     pub attains-batch : (figure : ℕ) (bs : List Batch) → Attains m q (finishOf (instanceOf m) free i q) figure bs
         → Attains m i free ((q - i) * finishOf (instanceOf m) free i q + figure) (batchOf (instanceOf m) free i q ∷ bs)

@@ -33,11 +33,10 @@ module _ {m : MosaicSection} (S : MosaicSound m) where
   unfolding benchSum
   bench-most i count = sum-most count mostTime (λ k. getD (m .bench) (i + k) 0) (λ k l. S .most-bench (i + k))
 
-  station-most : (k q : ℕ) → q ≤ mostStrips → stationSum m k q ≤ mostStrips * mostTime
+  station-most : (k q : ℕ) → stationSum m k q ≤ q * mostTime
   unfolding stationSum
-  station-most k q h =
-      omega (arith, sum-most q mostTime (λ i. getD (m .station) (4 * i + k) 0) (λ i l. S .most-station (4 * i + k)))
+  station-most k q = sum-most q mostTime (λ i. getD (m .station) (4 * i + k) 0) (λ i l. S .most-station (4 * i + k))
 
-  pub ready-most : (q : ℕ) → q ≤ mostStrips → ready m q ≤ mostStrips * mostTime
+  pub ready-most : (q : ℕ) → ready m q ≤ q * mostTime
   unfolding ready
-  ready-most q h = greatest-most (m .stations) (mostStrips * mostTime) (λ k. stationSum m k q) (λ k l. station-most k q h)
+  ready-most q = greatest-most (m .stations) (q * mostTime) (λ k. stationSum m k q) (λ k l. station-most k q)

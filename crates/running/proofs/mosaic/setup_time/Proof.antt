@@ -1,4 +1,4 @@
--- The mount time is what a batch takes beside its bench times, and it fits.
+-- `setup_time` meets its contract: the mount time is how long a mount takes, and it fits.
 use Rattle.rules.specs.Mosaic.{setupTime}
 use Rattle.running.specs.FunctionLaws.{setup-told}
 use Rattle.running.proofs.mosaic.setup_time.Statement.{statement}
