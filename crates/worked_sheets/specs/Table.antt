@@ -34,8 +34,8 @@ unfoldable pub figuresOf : Sheet → Plan → Figures
 figuresOf s p = record { mosaic = figureOfMosaic s p; sorting = figureOfSorting s p; flight = figureOfFlight s p }
 
 -- what 01 and 02 say of a sheet: when the strips of its mosaic are ready, from strip 1 on; what the planner plans, which is best and whose scanner list comes
--- first; a plan that is best too; a plan that is best of those with its batches; a plan that is allowed; that no timetable keeps its order, whose field stands at
--- a place
+-- first; a plan that is best too; a plan that is best of those with its batches; a plan that is allowed; that no timetable keeps its order, whose field stands
+-- at a place
 pub data Claim : Type 0 where
   ready-at : List ℕ → Claim
   planned : Plan → Figures → Claim
