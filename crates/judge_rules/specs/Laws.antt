@@ -32,6 +32,10 @@ pub run-is : (strips before last : ℕ) → batchInRun strips before last ≡ tr
 unfolding batchInRun
 run-is strips before last e = let p = both _ _ e in (ltb-true _ _ (p .0), leb-true _ _ (p .1))
 
+-- the finish before may be written in any way
+same-before : (x y start finish due : ℕ) → x ≡ y → batchInTime x start finish due ≡ batchInTime y start finish due
+same-before x y start finish due e = ap (λ (z : ℕ). batchInTime z start finish due) e
+
 module _ (m : MosaicSection) (before b : Batch) (x : Bool) (ex : x ≡ batchInRun (m .strips) (before .last) (b .last)) where
   pub batch-wrong : not x ≡ true → false ≡ batchFollows m before b
   unfolding batchFollows
@@ -50,7 +54,7 @@ module _ (m : MosaicSection) (before b : Batch) (x : Bool) (ex : x ≡ batchInRu
     pub batch-right : (r : Bool) (due : ℕ) → due ≡ finishDue m before b → r ≡ batchInTime (before .finish) (b .start) (b .finish) due
         → r ≡ batchFollows m before b
     unfolding batchFollows
-    batch-right r due u e = rw (← ex, not-false x h, ← u) e
+    batch-right r due u e = rw (← ex, not-false x h, ← u) (e ∙ same-before (before .finish) _ (b .start) (b .finish) due (omega arith))
 
 -- jobs
 
