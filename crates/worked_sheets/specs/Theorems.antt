@@ -107,7 +107,55 @@ all-say (r ∷ rs) c = (says (r .sheet) (r .claim) (c .0), all-say rs (c .1))
 computed : All Computed table × FirstCase
 unfolding readyTimes isPlan figuresOf AsEarly sheetComputes rulesCompute plannerComputes
 computed = (
-  (refl, ((refl, refl, refl, refl, refl, refl), ((refl, refl, (refl, (refl, (refl, tt))), refl), ((refl, refl, (refl, (refl, (refl, tt))), refl), ((refl, refl, refl), ((refl, refl, refl), ((refl, refl, refl), ((refl, refl, refl, refl, refl, refl), ((refl, refl, refl), ((refl, refl, refl, refl, refl, refl), ((refl, refl, refl, refl), ((refl, refl, refl, refl, refl, refl), ((refl, refl, refl, refl, refl, refl), ((refl, refl, refl), ((refl, refl, refl, refl, refl, refl), ((refl, refl, refl, refl, refl, refl), tt)))))))))))))))),
+  (
+    refl,
+    (
+      (refl, refl, refl, refl, refl, refl),
+      (
+        (refl, refl, (refl, (refl, (refl, tt))), refl),
+        (
+          (refl, refl, (refl, (refl, (refl, tt))), refl),
+          (
+            (refl, refl, refl),
+            (
+              (refl, refl, refl),
+              (
+                (refl, refl, refl),
+                (
+                  (refl, refl, refl, refl, refl, refl),
+                  (
+                    (refl, refl, refl),
+                    (
+                      (refl, refl, refl, refl, refl, refl),
+                      (
+                        (refl, refl, refl, refl),
+                        (
+                          (refl, refl, refl, refl, refl, refl),
+                          (
+                            (refl, refl, refl, refl, refl, refl),
+                            (
+                              (refl, refl, refl),
+                              (
+                                (refl, refl, refl, refl, refl, refl),
+                                (
+                                  (refl, refl, refl, refl, refl, refl),
+                                  tt,
+                                ),
+                              ),
+                            ),
+                          ),
+                        ),
+                      ),
+                    ),
+                  ),
+                ),
+              ),
+            ),
+          ),
+        ),
+      ),
+    ),
+  ),
   (refl, refl),
 )
 
