@@ -866,19 +866,19 @@ short-turn-is-thirteen sheet plan j call sound laid before there st judging shor
     (SectionFault.at-head st judging (λ h. short (all-apart (readSheet sheet .flight) _ _ (h .allowed .proper) (h .in-order))) refl refl))
 
 -- Two sheets that are the same but for places (`SameButPlaces`): two calls with the same buffers, and the judge.
-planned-same : (sheet other plan table planAfter tableEnd otherAfter otherEnd : List ℕ) (r q : Answer) (n : ℕ)
-    → SameButPlaces n (readSheet sheet) (readSheet other) → Called sheet plan table planAfter tableEnd r → Called other plan table otherAfter otherEnd q
-    → (q ≡ movedAnswer n r) × (otherAfter ≡ planAfter) × (otherEnd ≡ tableEnd)
-planned-same sheet other plan table planAfter tableEnd otherAfter otherEnd r q n same call next = (
-  same-answer sheet other plan table planAfter tableEnd otherAfter otherEnd r q n same call next,
-  same-buffer sheet other plan table planAfter tableEnd otherAfter otherEnd r q n same call next,
-  same-table sheet other plan table planAfter tableEnd otherAfter otherEnd r q n same call next,
+planned-same : (sheet other plan table planAfter tableEnd otherAfter otherEnd : List ℕ) (r q : Answer) (d n : ℕ)
+    → SameButPlaces d n (readSheet sheet) (readSheet other) → Called sheet plan table planAfter tableEnd r → Called other plan table otherAfter otherEnd q
+    → (q ≡ movedAnswer d n r) × (otherAfter ≡ planAfter) × (otherEnd ≡ tableEnd)
+planned-same sheet other plan table planAfter tableEnd otherAfter otherEnd r q d n same call next = (
+  same-answer sheet other plan table planAfter tableEnd otherAfter otherEnd r q d n same call next,
+  same-buffer sheet other plan table planAfter tableEnd otherAfter otherEnd r q d n same call next,
+  same-table sheet other plan table planAfter tableEnd otherAfter otherEnd r q d n same call next,
 )
 
-judged-same : (sheet other : List ℕ) (n : ℕ) → SameButPlaces n (readSheet sheet) (readSheet other) → (plan : List ℕ) (j k : Judged) → j ≡ judged sheet plan
+judged-same : (sheet other : List ℕ) (d n : ℕ) → SameButPlaces d n (readSheet sheet) (readSheet other) → (plan : List ℕ) (j k : Judged) → j ≡ judged sheet plan
     → k ≡ judged other plan
-    → (readSheet sheet .number ≡ 0 → k ≡ j) × ((readSheet sheet .number ≡ 0 → ⊥) → k ≡ turnedBack (j .number) (movedPlace n (j .place)))
-judged-same sheet other n same plan j k judging also = rw (judging, also) (same-judged _ _ _ same plan, same-refused _ _ _ same plan)
+    → (readSheet sheet .number ≡ 0 → k ≡ j) × ((readSheet sheet .number ≡ 0 → ⊥) → k ≡ turnedBack (j .number) (movedPlace d n (j .place)))
+judged-same sheet other d n same plan j k judging also = rw (judging, also) (same-judged _ _ _ _ same plan, same-refused _ _ _ _ same plan)
 
 -- "an empty head means 0": with an empty flight head behind some bytes, and with a written turn of 0 in its place, wherever the reading comes to that head, two
 -- calls with the same buffers give the same number, plan bytes and length, and places behind the head are two higher (`movedPlace`). A sheet that is refused at
@@ -886,14 +886,14 @@ judged-same sheet other n same plan j k judging also = rw (judging, also) (same-
 module _ (before rest : List ℕ) (st : Reading) (reached : Reached (withEmptyHead before rest) st) (here : st .at ≡ length before) where
   module _ (plan table planAfter tableEnd otherAfter otherEnd : List ℕ) (r q : Answer)
       (call : Called (withEmptyHead before rest) plan table planAfter tableEnd r) (other : Called (withWrittenZero before rest) plan table otherAfter otherEnd q) where
-    pub written-zero-planned : (q ≡ movedAnswer (length before) r) × (otherAfter ≡ planAfter) × (otherEnd ≡ tableEnd)
-    written-zero-planned = planned-same _ _ plan table planAfter tableEnd otherAfter otherEnd r q _ (written-zero before rest st reached here) call other
+    pub written-zero-planned : (q ≡ movedAnswer 2 (length before) r) × (otherAfter ≡ planAfter) × (otherEnd ≡ tableEnd)
+    written-zero-planned = planned-same _ _ plan table planAfter tableEnd otherAfter otherEnd r q _ _ (written-zero before rest st reached here) call other
 
   -- and the judge gives every plan the same number, place and figures where the sheet is sound, and else turns both back with the same number
   pub written-zero-judged : (plan : List ℕ) (j k : Judged) → j ≡ judged (withEmptyHead before rest) plan → k ≡ judged (withWrittenZero before rest) plan
       → (readSheet (withEmptyHead before rest) .number ≡ 0 → k ≡ j)
-      × ((readSheet (withEmptyHead before rest) .number ≡ 0 → ⊥) → k ≡ turnedBack (j .number) (movedPlace (length before) (j .place)))
-  written-zero-judged plan j k judging also = judged-same _ _ _ (written-zero before rest st reached here) plan j k judging also
+      × ((readSheet (withEmptyHead before rest) .number ≡ 0 → ⊥) → k ≡ turnedBack (j .number) (movedPlace 2 (length before) (j .place)))
+  written-zero-judged plan j k judging also = judged-same _ _ _ _ (written-zero before rest st reached here) plan j k judging also
 
 -- REQ 07. "For slow divers the biologists accept any interval between two bounds." When a delay lies in the window of its block is said in Flight.antt of crate
 -- rules (`DelayKept`); all that is said above of allowed plans, of least figures, of starts and of 11 is said of these rules.
@@ -1060,13 +1060,13 @@ module _ (before : List ℕ) (a l b : ℕ) (rest : List ℕ) (st : Reading) (rea
   module _ (plan table planAfter tableEnd otherAfter otherEnd : List ℕ) (r q : Answer)
       (call : Called (withExactDelay before a l b rest) plan table planAfter tableEnd r)
       (other : Called (withOneValue before a l b rest) plan table otherAfter otherEnd q) where
-    pub one-value-planned : (q ≡ movedAnswer (length before) r) × (otherAfter ≡ planAfter) × (otherEnd ≡ tableEnd)
-    one-value-planned = planned-same _ _ plan table planAfter tableEnd otherAfter otherEnd r q _ (one-value before a l b rest st reached here) call other
+    pub one-value-planned : (q ≡ movedAnswer 2 (length before) r) × (otherAfter ≡ planAfter) × (otherEnd ≡ tableEnd)
+    one-value-planned = planned-same _ _ plan table planAfter tableEnd otherAfter otherEnd r q _ _ (one-value before a l b rest st reached here) call other
 
   pub one-value-judged : (plan : List ℕ) (j k : Judged) → j ≡ judged (withExactDelay before a l b rest) plan → k ≡ judged (withOneValue before a l b rest) plan
       → (readSheet (withExactDelay before a l b rest) .number ≡ 0 → k ≡ j)
-      × ((readSheet (withExactDelay before a l b rest) .number ≡ 0 → ⊥) → k ≡ turnedBack (j .number) (movedPlace (length before) (j .place)))
-  one-value-judged plan j k judging also = judged-same _ _ _ (one-value before a l b rest st reached here) plan j k judging also
+      × ((readSheet (withExactDelay before a l b rest) .number ≡ 0 → ⊥) → k ≡ turnedBack (j .number) (movedPlace 2 (length before) (j .place)))
+  one-value-judged plan j k judging also = judged-same _ _ _ _ (one-value before a l b rest st reached here) plan j k judging also
 
 -- REQ 08. "The bench has a second frame, so mounting can begin before the strips are there." When a mount may start, when the bench work of its batch does and
 -- when the batch finishes is said in Mosaic.antt of crate rules (`BatchUnder`, `benchWorkStart`, `finishDue`). "mosaic figures are judged, and compared as

@@ -69,8 +69,8 @@ module _ (place eleven : ℕ) (s : Sheet) where
       (sections-placed 3 plan 1)
 
 -- Two sheets that are the same but for places: a plan is judged the same by both where they are sound, and else each is turned back with its own place.
-module _ (sheet other : List ℕ) (n : ℕ) (same : SameButPlaces n (readSheet sheet) (readSheet other)) (plan : List ℕ) where
-  relocation : readSheet other ≡ relocated (readSheet other .place) (movedPlace n (readSheet sheet .flight .place)) (readSheet sheet)
+module _ (sheet other : List ℕ) (d n : ℕ) (same : SameButPlaces d n (readSheet sheet) (readSheet other)) (plan : List ℕ) where
+  relocation : readSheet other ≡ relocated (readSheet other .place) (movedPlace d n (readSheet sheet .flight .place)) (readSheet sheet)
   relocation = λ i. record {
     number = same .number i;
     place = readSheet other .place;
@@ -86,7 +86,7 @@ module _ (sheet other : List ℕ) (n : ℕ) (same : SameButPlaces n (readSheet s
       (ap (λ (x : Sheet). judgedPlan x plan) relocation ∙ plan-placed (readSheet other .place) _ (readSheet sheet) plan)
 
   pub same-refused : (readSheet sheet .number ≡ 0 → ⊥)
-      → judged other plan ≡ turnedBack (judged sheet plan .number) (movedPlace n (judged sheet plan .place))
+      → judged other plan ≡ turnedBack (judged sheet plan .number) (movedPlace d n (judged sheet plan .place))
   unfolding judged turnedBack
   same-refused z =
       rw (ne-eqb (readSheet other .number) 0 (λ e. z (sym (same .number) ∙ e)), ne-eqb (readSheet sheet .number) 0 z, same .number, same .place)

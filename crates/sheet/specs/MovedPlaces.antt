@@ -1,6 +1,6 @@
--- Two sheets that part in one field, which is two bytes longer in the one than in the other: where these fields are checked and decoded alike, both sheets are
--- read with the same number and the same sections, and the places of later fields are two higher.
--- The idea: up to the field the two sheets are the same; behind it their readings stand at the same fields, two bytes apart, and stay alike.
+-- Two sheets that part in one field, which is d bytes longer in the one than in the other: where these fields are checked and decoded alike, both sheets are
+-- read with the same number and the same sections, and the places of later fields are d higher.
+-- The idea: up to the field the two sheets are the same; behind it their readings stand at the same fields, d bytes apart, and stay alike.
 use Prim.Native.Nat.{ℕ, zero, suc, _+_, _-_, _≤_, _<_}
 use mathlib.Core.Path.{_≡_, refl, sym, ap, ap₂, subst, _∙_}
 use mathlib.Core.Bool.{Bool, true, false, cond}
@@ -16,18 +16,17 @@ use Rattle.field.specs.Field.{fieldAt, fieldBytes}
 use Rattle.field.specs.Fields.{whole-at}
 use Rattle.field.specs.declared.Field.{Field}
 use Rattle.field.specs.declared.Field.the-variants.{End, Cut, Whole}
-use Rattle.sheet.specs.Tags.{flightHeadTag, flightBlockTag, flightOrderTag, flightWindowBlockTag}
+use Rattle.sheet.specs.Tags.{flightHeadTag, flightOrderTag}
 use Rattle.sheet.specs.Refusals.{fieldCut, noMembers, orderMissing}
-use Rattle.sheet.specs.Sections.{inFlight}
 use Rattle.sheet.specs.Among.{Among}
 use Rattle.sheet.specs.FieldTable.{tableOf, lengthsDue}
 use Rattle.sheet.specs.Rows.{NoCause}
 use Rattle.sheet.specs.RowLaws.{answer-passes, passes-answer, answer-fails}
-use Rattle.sheet.specs.Causes.{Permitted, fieldRows, rowsAt}
+use Rattle.sheet.specs.Causes.{fieldRows, rowsAt}
 use Rattle.sheet.specs.Checks.{endsSection}
 use Rattle.sheet.specs.Table.{Reached}
 use Rattle.sheet.specs.Table.Reached.{at-start, past-field}
-use Rattle.sheet.specs.Decode.{noFlight, nextFlight, nextSection, nextHead, nextReading, startReading}
+use Rattle.sheet.specs.Decode.{noFlight, nextFlight, nextHead, nextReading, startReading}
 use Rattle.sheet.specs.Read.{fieldNumber, endNumber, placeOf, refused, accepted, readSheet}
 use Rattle.sheet.specs.Passed.{passed-rows}
 use Rattle.sheet.specs.Decided.{field-answers, end-answers, cut-answers}
@@ -36,24 +35,24 @@ use Rattle.sheet.specs.SameContent.{withPlace, placeAfter, SameBytes, fi
 use Rattle.sheet.specs.declared.Reading.{Reading}
 use Rattle.sheet.specs.declared.Sheet.{Sheet}
 
--- a place of the one sheet in the other: two higher behind the field in which they part, which stands at n
-unfoldable pub movedPlace : ℕ → ℕ → ℕ
-movedPlace n place = cond (leb place n) place (place + 2)
+-- a place of the one sheet in the other: d higher behind the field in which they part, which stands at n
+unfoldable pub movedPlace : ℕ → ℕ → ℕ → ℕ
+movedPlace d n place = cond (leb place n) place (place + d)
 
 -- what is read of the two sheets: the same but for places behind n
-pub record SameButPlaces (n : ℕ) (x y : Sheet) : Type 0 where
+pub record SameButPlaces (d n : ℕ) (x y : Sheet) : Type 0 where
   pub number : y .number ≡ x .number
-  pub place : y .place ≡ movedPlace n (x .place)
+  pub place : y .place ≡ movedPlace d n (x .place)
   pub mosaic : y .mosaic ≡ x .mosaic
   pub sorting : y .sorting ≡ x .sorting
-  pub flight : y .flight ≡ withPlace (movedPlace n (x .flight .place)) (x .flight)
+  pub flight : y .flight ≡ withPlace (movedPlace d n (x .flight .place)) (x .flight)
 
-module _ (n place : ℕ) where
-  pub stays : place ≤ n → movedPlace n place ≡ place
+module _ (d n place : ℕ) where
+  pub stays : place ≤ n → movedPlace d n place ≡ place
   unfolding movedPlace
   stays l = rw (le-leb place n l)
 
-  pub moves : n < place → movedPlace n place ≡ place + 2
+  pub moves : n < place → movedPlace d n place ≡ place + d
   unfolding movedPlace
   moves l = rw (lt-leb place n l) refl
 
@@ -133,46 +132,42 @@ place-before s st (past-field {st = st₀} tag len r e c) =
     go false false h = omega arith
 
 -- Two results that are refusals of the same number, and two that are accepted.
-refused-same : (n number place there : ℕ) → there ≡ movedPlace n place → SameButPlaces n (refused number place) (refused number there)
+refused-same : (d n number place there : ℕ) → there ≡ movedPlace d n place → SameButPlaces d n (refused number place) (refused number there)
 unfolding refused noFlight
-refused-same n number place there e = record {
+refused-same d n number place there e = record {
   number = refl;
   place = e;
   mosaic = refl;
   sorting = refl;
-  flight = ap (λ x. withPlace x noFlight) (sym (stays n 0 (omega arith)));
+  flight = ap (λ x. withPlace x noFlight) (sym (stays d n 0 (omega arith)));
 }
 
-accepted-same : (n : ℕ) (st other : Reading) → Alike st other → other .flight .place ≡ movedPlace n (st .flight .place)
-    → SameButPlaces n (accepted st) (accepted other)
+accepted-same : (d n : ℕ) (st other : Reading) → Alike st other → other .flight .place ≡ movedPlace d n (st .flight .place)
+    → SameButPlaces d n (accepted st) (accepted other)
 unfolding accepted
-accepted-same n st other a e = record {
+accepted-same d n st other a e = record {
   number = refl;
-  place = sym (stays n 0 (omega arith));
+  place = sym (stays d n 0 (omega arith));
   mosaic = a .mosaic;
   sorting = a .sorting;
   flight = a .flight ∙ ap (λ x. withPlace x (st .flight)) e;
 }
 
--- the place of a refusal: that of the head stays, that of a later field moves
-place-moved : (n k head at there : ℕ) → head ≤ n → n < at → there ≡ at + 2 → placeOf k head there ≡ movedPlace n (placeOf k head at)
-unfolding placeOf
-place-moved n k head at there h l e = go (eqb k noMembers) (eqb k orderMissing)
-  where
-    go : (a b : Bool) → cond a head (cond b head there) ≡ movedPlace n (cond a head (cond b head at))
-    go true b = sym (stays n head h)
-    go false true = sym (stays n head h)
-    go false false = e ∙ sym (moves n at l)
+-- one of two places, each moved
+either-moved : (d n : ℕ) (b : Bool) (here there place moved : ℕ) → there ≡ movedPlace d n here → moved ≡ movedPlace d n place
+    → cond b there moved ≡ movedPlace d n (cond b here place)
+either-moved d n true here there place moved e f = e
+either-moved d n false here there place moved e f = f
 
--- Sheets whose bytes from an offset on are the same, two bytes apart. The field in which they part stands at n.
-module _ (s t : List ℕ) (n from : ℕ) (later : n < from) (long : length t ≡ length s + 2) (same : (i : ℕ) → from ≤ i → getD s i 0 ≡ getD t (i + 2) 0) where
-  bytes-behind : (c d len : ℕ) → d ≡ c + 2 → from ≤ c → SameBytes s c t d len
-  bytes-behind c d len e l = record { same = λ j h. same (c + j) (omega arith) ∙ ap (λ i. getD t i 0) (there j) }
+-- Sheets whose bytes from an offset on are the same, d bytes apart. The field in which they part stands at n.
+module _ (s t : List ℕ) (d n from : ℕ) (later : n < from) (long : length t ≡ length s + d) (same : (i : ℕ) → from ≤ i → getD s i 0 ≡ getD t (i + d) 0) where
+  bytes-behind : (c c′ len : ℕ) → c′ ≡ c + d → from ≤ c → SameBytes s c t c′ len
+  bytes-behind c c′ len e l = record { same = λ j h. same (c + j) (omega arith) ∙ ap (λ i. getD t i 0) (there j) }
     where
-      there : (j : ℕ) → c + j + 2 ≡ d + j
+      there : (j : ℕ) → c + j + d ≡ c′ + j
       there j = omega arith
 
-  field-behind : (at there : ℕ) → there ≡ at + 2 → from ≤ at → fieldAt t there ≡ fieldAt s at
+  field-behind : (at there : ℕ) → there ≡ at + d → from ≤ at → fieldAt t there ≡ fieldAt s at
   unfolding fieldAt
   field-behind at there e l = rw (ends (leb (length s) at) refl, left, number, tag)
     where
@@ -189,73 +184,57 @@ module _ (s t : List ℕ) (n from : ℕ) (later : n < from) (long : length t ≡
       tag : getD t there 0 ≡ getD s at 0
       tag = ap (λ i. getD t i 0) e ∙ sym (same at l)
 
-  -- a tag that may stand in a flight
-  data InFlight (tag : ℕ) : Type 0 where
-    block : tag ≡ flightBlockTag → InFlight tag
-    window-block : tag ≡ flightWindowBlockTag → InFlight tag
-    order : tag ≡ flightOrderTag → InFlight tag
-
   -- a reading of s behind that field, and one of t that stands at the same field
   pub record Later (st other : Reading) : Type 0 where
     pub alike : Alike st other
-    pub at-two : other .at ≡ st .at + 2
+    pub at-apart : other .at ≡ st .at + d
     pub behind : from ≤ st .at
-    pub head-same : other .head ≡ st .head
-    pub head-here : st .head ≤ n
-    pub in-flight : inFlight ≤ st .section
-    pub place : other .flight .place ≡ movedPlace n (st .flight .place)
+    pub head : other .head ≡ movedPlace d n (st .head)
+    pub place : other .flight .place ≡ movedPlace d n (st .flight .place)
 
   module _ (st other : Reading) (p : Later st other) (r : Reached s st) (q : Reached t other) where
     content : (len : ℕ) → SameBytes s (st .at + 3) t (other .at + 3) len
-    content len = bytes-behind (st .at + 3) (other .at + 3) len (omega (arith, p .at-two)) (omega (arith, p .behind))
+    content len = bytes-behind (st .at + 3) (other .at + 3) len (omega (arith, p .at-apart)) (omega (arith, p .behind))
 
     there : fieldAt t (other .at) ≡ fieldAt s (st .at)
-    there = field-behind (st .at) (other .at) (p .at-two) (p .behind)
+    there = field-behind (st .at) (other .at) (p .at-apart) (p .behind)
 
-    next-later : (tag len : ℕ) → InFlight tag → Among len (lengthsDue tag (tableOf st))
-        → Later (nextReading s st tag len) (nextReading t other tag len)
-    unfolding nextReading nextHead nextSection endsSection placeAfter
-    next-later tag len ok due = record {
+    at-moved : other .at ≡ movedPlace d n (st .at)
+    at-moved = p .at-apart ∙ sym (moves d n (st .at) (omega (arith, p .behind)))
+
+    next-later : (tag len : ℕ) → Among len (lengthsDue tag (tableOf st)) → Later (nextReading s st tag len) (nextReading t other tag len)
+    unfolding nextReading nextHead placeAfter
+    next-later tag len due = record {
       alike = alike-behind (p .alike) (content len) tag due;
-      at-two = omega (arith, p .at-two);
+      at-apart = omega (arith, p .at-apart);
       behind = omega (arith, p .behind);
-      head-same = head-is (other .at) (other .head) ok ∙ p .head-same ∙ sym (head-is (st .at) (st .head) ok);
-      head-here = rw (head-is (st .at) (st .head) ok) (p .head-here);
-      in-flight = section-is ok;
+      head = either-moved d n (endsSection tag) (st .at) (other .at) (st .head) (other .head) at-moved (p .head);
       place =
           place-after t _ tag len (other .at) (other .flight)
-          ∙ place-is ok
-          ∙ ap (movedPlace n) (sym (place-after s _ tag len (st .at) (st .flight)));
+          ∙ either-moved d n (eqb tag flightHeadTag) (st .at) (other .at) _ _ at-moved
+          (either-moved d n (eqb tag flightOrderTag) (st .at) (other .at) (st .flight .place) (other .flight .place) at-moved (p .place))
+          ∙ ap (movedPlace d n) (sym (place-after s _ tag len (st .at) (st .flight)));
     }
-      where
-        head-is : (at head : ℕ) → InFlight tag → nextHead tag head at ≡ head
-        head-is at head (block e) = ap (λ x. nextHead x head at) e
-        head-is at head (window-block e) = ap (λ x. nextHead x head at) e
-        head-is at head (order e) = ap (λ x. nextHead x head at) e
 
-        section-is : InFlight tag → inFlight ≤ nextSection tag (st .section)
-        section-is (block e) = rw e (p .in-flight)
-        section-is (window-block e) = rw e (p .in-flight)
-        section-is (order e) = rw e (omega arith)
-
-        place-is : InFlight tag
-            → placeAfter tag (other .at) (other .flight .place) ≡ movedPlace n (placeAfter tag (st .at) (st .flight .place))
-        place-is (block e) = rw e (p .place)
-        place-is (window-block e) = rw e (p .place)
-        place-is (order e) = rw e (p .at-two ∙ sym (moves n (st .at) (omega (arith, p .behind))))
+    -- the place of a refusal
+    place-moved : (k : ℕ) → placeOf k (other .head) (other .at) ≡ movedPlace d n (placeOf k (st .head) (st .at))
+    unfolding placeOf
+    place-moved k =
+        either-moved d n (eqb k noMembers) (st .head) (other .head) _ _ (p .head)
+        (either-moved d n (eqb k orderMissing) (st .head) (other .head) (st .at) (other .at) (p .head) at-moved)
 
     same-end : endNumber (other .section) (other .members) ≡ endNumber (st .section) (st .members)
     same-end = ap₂ endNumber (p .alike .section) (p .alike .members)
 
     -- how the two go on from there: both end, both are refused, or both come to the next field
-    ends : (k : ℕ) → endNumber (st .section) (st .members) ≡ k → fieldAt s (st .at) ≡ End → Dec (k ≡ 0) → SameButPlaces n (readSheet s) (readSheet t)
+    ends : (k : ℕ) → endNumber (st .section) (st .members) ≡ k → fieldAt s (st .at) ≡ End → Dec (k ≡ 0) → SameButPlaces d n (readSheet s) (readSheet t)
     unfolding rowsAt
     ends k ek e (yes z) =
         rw (
           read-accepted s st r (record { at-end = e; passed = answer-passes _ _ _ (end-answers st) (ek ∙ z) }),
           read-accepted t other q (record { at-end = there ∙ e; passed = answer-passes _ _ _ (end-answers other) (same-end ∙ ek ∙ z) }),
         )
-        (accepted-same n st other (p .alike) (p .place))
+        (accepted-same d n st other (p .alike) (p .place))
     ends k ek e (no z) =
         rw (
           read-refused s st _ (st .head) r (at-field s st End _ (st .head) e (answer-fails _ _ _ (end-answers st) (λ x. z (sym ek ∙ x)))),
@@ -263,9 +242,9 @@ module _ (s t : List ℕ) (n from : ℕ) (later : n < from) (long : length t ≡
               (at-field t other End _ (other .head) (there ∙ e) (answer-fails _ _ _ (end-answers other) (λ x. z (sym ek ∙ sym same-end ∙ x)))),
           same-end,
         )
-        (refused-same n _ (st .head) (other .head) (p .head-same ∙ sym (stays n (st .head) (p .head-here))))
+        (refused-same d n _ (st .head) (other .head) (p .head))
 
-    cut : fieldAt s (st .at) ≡ Cut → SameButPlaces n (readSheet s) (readSheet t)
+    cut : fieldAt s (st .at) ≡ Cut → SameButPlaces d n (readSheet s) (readSheet t)
     unfolding rowsAt
     cut e =
         rw (
@@ -273,9 +252,9 @@ module _ (s t : List ℕ) (n from : ℕ) (later : n < from) (long : length t ≡
           read-refused t other fieldCut (other .at) q
               (at-field t other Cut _ _ (there ∙ e) (answer-fails _ _ _ (cut-answers t other (there ∙ e)) (λ z. omega arith))),
         )
-        (refused-same n fieldCut (st .at) (other .at) (p .at-two ∙ sym (moves n (st .at) (omega (arith, p .behind)))))
+        (refused-same d n fieldCut (st .at) (other .at) at-moved)
 
-    wrong : (tag len : ℕ) → fieldAt s (st .at) ≡ Whole tag len → (fieldNumber s st tag len ≡ 0 → ⊥) → SameButPlaces n (readSheet s) (readSheet t)
+    wrong : (tag len : ℕ) → fieldAt s (st .at) ≡ Whole tag len → (fieldNumber s st tag len ≡ 0 → ⊥) → SameButPlaces d n (readSheet s) (readSheet t)
     unfolding rowsAt
     wrong tag len e z =
         rw (
@@ -284,47 +263,33 @@ module _ (s t : List ℕ) (n from : ℕ) (later : n < from) (long : length t ≡
               (at-field t other (Whole tag len) _ _ (there ∙ e) (answer-fails _ _ _ (field-answers t other tag len (there ∙ e)) (λ x. z (number-same ∙ x)))),
           ← number-same,
         )
-        (refused-same n _ _ _
-        (ap (λ h. placeOf (fieldNumber s st tag len) h (other .at)) (p .head-same)
-        ∙ place-moved n (fieldNumber s st tag len) (st .head) (st .at) (other .at) (p .head-here) (omega (arith, p .behind)) (p .at-two)))
+        (refused-same d n _ _ _ (place-moved (fieldNumber s st tag len)))
       where
         number-same : fieldNumber s st tag len ≡ fieldNumber t other tag len
         number-same = same-field (p .alike) (content len) tag
 
-  -- what is permitted in a flight
-  in-a-flight : (tag section members : ℕ) → inFlight ≤ section → Permitted tag section members → InFlight tag
-  in-a-flight tag section members l (Permitted.mosaic-head e h) = absurd (omega arith)
-  in-a-flight tag section members l (Permitted.mosaic-strip e h) = absurd (omega arith)
-  in-a-flight tag section members l (Permitted.sorting-head e h) = absurd (omega arith)
-  in-a-flight tag section members l (Permitted.sorting-strip e h) = absurd (omega arith)
-  in-a-flight tag section members l (Permitted.flight-head e h) = absurd (omega arith)
-  in-a-flight tag section members l (Permitted.flight-block e h) = block e
-  in-a-flight tag section members l (Permitted.flight-window-block e h) = window-block e
-  in-a-flight tag section members l (Permitted.flight-order e h m) = order e
-
   pub later-same : (steps : ℕ) (st other : Reading) → Later st other → Reached s st → Reached t other → length s - st .at < steps
-      → SameButPlaces n (readSheet s) (readSheet t)
+      → SameButPlaces d n (readSheet s) (readSheet t)
   unfolding nextReading
   later-same zero st other p r q l = absurd (omega arith)
   later-same (suc steps) st other p r q l = go (fieldAt s (st .at)) refl (later-same steps)
     where
       go : (f : Field) → fieldAt s (st .at) ≡ f
           → ((next following : Reading) → Later next following → Reached s next → Reached t following → length s - next .at < steps
-          → SameButPlaces n (readSheet s) (readSheet t))
-          → SameButPlaces n (readSheet s) (readSheet t)
+          → SameButPlaces d n (readSheet s) (readSheet t))
+          → SameButPlaces d n (readSheet s) (readSheet t)
       go End e on = ends st other p r q _ refl e (ℕ-discrete _ 0)
       go Cut e on = cut st other p r q e
       go (Whole tag len) e on = goes (ℕ-discrete (fieldNumber s st tag len) 0)
         where
-          goes : Dec (fieldNumber s st tag len ≡ 0) → SameButPlaces n (readSheet s) (readSheet t)
+          goes : Dec (fieldNumber s st tag len ≡ 0) → SameButPlaces d n (readSheet s) (readSheet t)
           goes (no z) = wrong st other p r q tag len e z
           goes (yes z) =
               let c = answer-passes _ _ _ (field-answers s st tag len e) z in
-              let ok = passed-rows s st tag len c in
               let w = whole-at s (st .at) tag len e .within in
               let f : fieldAt t (other .at) ≡ Whole tag len = there st other p r q ∙ e in
               on (nextReading s st tag len) (nextReading t other tag len)
-              (next-later st other p r q tag len (in-a-flight tag (st .section) (st .members) (p .in-flight) (ok .tag-ok)) (ok .length-ok))
+              (next-later st other p r q tag len (passed-rows s st tag len c .length-ok))
               (past-field tag len r e c)
               (past-field tag len q f
               (answer-passes _ _ _ (field-answers t other tag len f) (sym (same-field (p .alike) (content st other p r q len) tag) ∙ z)))
@@ -384,18 +349,18 @@ module _ (before : List ℕ) (tag : ℕ) (content rest : List ℕ) where
       (ap (λ x. numberAt (withField before tag content rest) x 2) (omega arith) ∙ first-number (field-from 1 2) 2 (omega arith) ∙ told)
       (omega (arith, field-length))
 
--- A field, and one in its place that is two bytes longer.
-module _ (before rest : List ℕ) (tag tag′ : ℕ) (content content′ : List ℕ) (two : length content′ ≡ length content + 2)
+-- A field, and one in its place that is d bytes longer.
+module _ (before rest : List ℕ) (tag tag′ : ℕ) (content content′ : List ℕ) (d : ℕ) (apart : length content′ ≡ length content + d)
     (told : numberAt (bytesOf 2 (length content)) 0 2 ≡ length content) (told′ : numberAt (bytesOf 2 (length content′)) 0 2 ≡ length content′)
     (st : Reading) (r : Reached (withField before tag content rest) st) (e : st .at ≡ length before) where
   same-before : (i : ℕ) → i < length before → getD (withField before tag content rest) i 0 ≡ getD (withField before tag′ content′ rest) i 0
   same-before i l = field-before-same before tag content rest i l ∙ sym (field-before-same before tag′ content′ rest i l)
 
-  pub longer : length (withField before tag′ content′ rest) ≡ length (withField before tag content rest) + 2
+  pub longer : length (withField before tag′ content′ rest) ≡ length (withField before tag content rest) + d
   longer = omega (arith, field-length before tag content rest, field-length before tag′ content′ rest)
 
   pub same-behind : (i : ℕ) → length before + 3 + length content ≤ i
-      → getD (withField before tag content rest) i 0 ≡ getD (withField before tag′ content′ rest) (i + 2) 0
+      → getD (withField before tag content rest) i 0 ≡ getD (withField before tag′ content′ rest) (i + d) 0
   same-behind i l =
       ap (λ x. getD (withField before tag content rest) x 0) here
       ∙ behind-same before tag content rest (i - (length before + 3 + length content))
@@ -405,7 +370,7 @@ module _ (before rest : List ℕ) (tag tag′ : ℕ) (content content′ : List 
       here : i ≡ length before + 3 + length content + (i - (length before + 3 + length content))
       here = omega arith
 
-      there : length before + 3 + length content′ + (i - (length before + 3 + length content)) ≡ i + 2
+      there : length before + 3 + length content′ + (i - (length before + 3 + length content)) ≡ i + d
       there = omega arith
 
   reached-there : Reached (withField before tag′ content′ rest) st
@@ -423,7 +388,6 @@ module _ (before rest : List ℕ) (tag tag′ : ℕ) (content content′ : List 
   module _ (number : fieldNumber (withField before tag content rest) st tag (length content) ≡ fieldNumber (withField before tag′ content′ rest) st tag′ (length content′))
       (alike : fieldNumber (withField before tag content rest) st tag (length content) ≡ 0 → Alike behindField behindLonger)
       (same-head : behindLonger .head ≡ behindField .head) (head-here : behindField .head ≤ length before)
-      (in-flight : fieldNumber (withField before tag content rest) st tag (length content) ≡ 0 → inFlight ≤ behindField .section)
       (place : behindLonger .flight .place ≡ behindField .flight .place) (place-here : behindField .flight .place ≤ length before) where
     refusal-here : (k : ℕ) → placeOf k (st .head) (st .at) ≤ length before
     unfolding placeOf
@@ -435,17 +399,15 @@ module _ (before rest : List ℕ) (tag tag′ : ℕ) (content content′ : List 
         go false false h = omega arith
 
     begun : fieldNumber (withField before tag content rest) st tag (length content) ≡ 0
-        → Later (withField before tag content rest) (withField before tag′ content′ rest) (length before) (length before + 3 + length content) (omega arith) longer
-        same-behind behindField behindLonger
+        → Later (withField before tag content rest) (withField before tag′ content′ rest) d (length before) (length before + 3 + length content) (omega arith)
+        longer same-behind behindField behindLonger
     unfolding nextReading
     begun z = record {
       alike = alike z;
-      at-two = omega arith;
+      at-apart = omega arith;
       behind = omega arith;
-      head-same = same-head;
-      head-here = head-here;
-      in-flight = in-flight z;
-      place = place ∙ sym (stays (length before) _ place-here);
+      head = same-head ∙ sym (stays d (length before) _ head-here);
+      place = place ∙ sym (stays d (length before) _ place-here);
     }
 
     field-here : fieldAt (withField before tag content rest) (st .at) ≡ Whole tag (length content)
@@ -455,10 +417,10 @@ module _ (before rest : List ℕ) (tag tag′ : ℕ) (content content′ : List 
     longer-here = field-there before tag′ content′ rest told′ (st .at) e
 
     go-on : Dec (fieldNumber (withField before tag content rest) st tag (length content) ≡ 0)
-        → SameButPlaces (length before) (readSheet (withField before tag content rest)) (readSheet (withField before tag′ content′ rest))
+        → SameButPlaces d (length before) (readSheet (withField before tag content rest)) (readSheet (withField before tag′ content′ rest))
     unfolding rowsAt nextReading
     go-on (yes z) =
-        later-same (withField before tag content rest) (withField before tag′ content′ rest) (length before) (length before + 3 + length content) (omega arith)
+        later-same (withField before tag content rest) (withField before tag′ content′ rest) d (length before) (length before + 3 + length content) (omega arith)
         longer same-behind (suc (length (withField before tag content rest))) behindField behindLonger (begun z)
         (past-field tag (length content) r field-here (answer-passes _ _ _ (field-answers (withField before tag content rest) st tag (length content) field-here) z))
         (past-field tag′ (length content′) reached-there longer-here
@@ -474,7 +436,7 @@ module _ (before rest : List ℕ) (tag tag′ : ℕ) (content content′ : List 
               (answer-fails _ _ _ (field-answers (withField before tag′ content′ rest) st tag′ (length content′) longer-here) (λ x. z (number ∙ x)))),
           ← number,
         )
-        (refused-same (length before) _ _ _ (sym (stays (length before) _ (refusal-here _))))
+        (refused-same d (length before) _ _ _ (sym (stays d (length before) _ (refusal-here _))))
 
-    pub replaced-same : SameButPlaces (length before) (readSheet (withField before tag content rest)) (readSheet (withField before tag′ content′ rest))
+    pub replaced-same : SameButPlaces d (length before) (readSheet (withField before tag content rest)) (readSheet (withField before tag′ content′ rest))
     replaced-same = go-on (ℕ-discrete _ 0)

@@ -89,16 +89,6 @@ range-same : (a l b : ℕ) → rangeNumber (valuesOf flightBlock (a ∷ l ∷ b 
 unfolding flightBlock flightWindowBlock valuesOf rangeNumber valueNumbers
 range-same a l b = twice _ _ _
 
--- A block that passes stands in a flight.
-passes-in-flight : (st : Reading) (range : ℕ) → blockNumber st range ≡ 0 → st .section ≡ inFlight
-unfolding blockNumber firstFailure check
-passes-in-flight st range z = go (eqb (st .section) inFlight) refl z
-  where
-    go : (c : Bool) → eqb (st .section) inFlight ≡ c → firstFailure (0 ∷ 0 ∷ check c tagNotPermitted 0 ∷ 0 ∷ range ∷ 0 ∷ check (ltb (st .members) mostBlocks) tooMany 0 ∷ 0 ∷ []) ≡ 0
-        → st .section ≡ inFlight
-    go true e q = eqb-true _ _ e
-    go false e q = absurd (omega (arith, q))
-
 -- what the two bytes of a number are read as
 told : ℕ → ℕ
 told v = numberAt (bytesOf 2 v) 0 2
@@ -160,16 +150,13 @@ module _ (before : List ℕ) (a l b : ℕ) (rest : List ℕ) (st : Reading) (e :
   unfolding windowBlock exactBlock
   same-block = rw (window-first, window-shortest, window-longest, window-second, exact-first, exact-delay, exact-second)
 
-  in-the-flight : fieldNumber s st flightBlockTag 6 ≡ 0 → st .section ≡ inFlight
-  in-the-flight z = passes-in-flight st _ (sym exact-is ∙ z)
-
 -- With an exact delay and with a window of that one value, wherever the reading comes to that block.
 pub one-value : (before : List ℕ) (a l b : ℕ) (rest : List ℕ) (st : Reading) → Reached (withExactDelay before a l b rest) st → st .at ≡ length before
-    → SameButPlaces (length before) (readSheet (withExactDelay before a l b rest)) (readSheet (withOneValue before a l b rest))
+    → SameButPlaces 2 (length before) (readSheet (withExactDelay before a l b rest)) (readSheet (withOneValue before a l b rest))
 unfolding s t bytesOf numberAt nextReading nextSection nextHead nextMembers nextMosaic nextSorting nextFlight endsSection withBlock
 one-value before a l b rest st r e =
     replaced-same before rest flightBlockTag flightWindowBlockTag (bytesOf 2 a ++ bytesOf 2 l ++ bytesOf 2 b) (bytesOf 2 a ++ bytesOf 2 l ++ bytesOf 2 l ++ bytesOf 2 b)
-    refl refl refl st r e (same-number-given before a l b rest st e)
+    2 refl refl refl st r e (same-number-given before a l b rest st e)
     (λ _. record {
       section = refl;
       members = refl;
@@ -177,4 +164,4 @@ one-value before a l b rest st r e =
       sorting = refl;
       flight = ap (λ (c : Block). withBlock c (st .flight)) (same-block before a l b rest st e);
     })
-    refl (omega (arith, head-before _ st r)) (λ z. omega (arith, in-the-flight before a l b rest st e z)) refl (omega (arith, place-before _ st r))
+    refl (omega (arith, head-before _ st r)) refl (omega (arith, place-before _ st r))

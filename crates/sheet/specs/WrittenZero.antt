@@ -66,12 +66,12 @@ zero-turn before rest at e =
 
 -- With an empty head and with a written turn of 0, wherever the reading comes to that head.
 pub written-zero : (before rest : List ℕ) (st : Reading) → Reached (withEmptyHead before rest) st → st .at ≡ length before
-    → SameButPlaces (length before) (readSheet (withEmptyHead before rest)) (readSheet (withWrittenZero before rest))
+    → SameButPlaces 2 (length before) (readSheet (withEmptyHead before rest)) (readSheet (withWrittenZero before rest))
 unfolding bytesOf numberAt nextReading nextSection nextHead nextMembers nextMosaic nextSorting nextFlight endsSection withFlightHead turnOf
 written-zero before rest st r e =
-    replaced-same before rest flightHeadTag flightHeadTag [] (bytesOf 2 0) refl refl refl st r e (empty-number ∙ sym zero-number)
+    replaced-same before rest flightHeadTag flightHeadTag [] (bytesOf 2 0) 2 refl refl refl st r e (empty-number ∙ sym zero-number)
     (λ _. record { section = refl; members = refl; mosaic = refl; sorting = refl; flight = ap (λ turn. begunFlight turn (st .at)) (zero-turn before rest (st .at) e) })
-    refl (omega arith) (λ _. omega arith) refl (omega arith)
+    refl (omega arith) refl (omega arith)
   where
     empty-number : fieldNumber (withEmptyHead before rest) st flightHeadTag 0 ≡ headNumber st
     empty-number = empty-passes (withEmptyHead before rest) st
