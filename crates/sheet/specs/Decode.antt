@@ -18,14 +18,13 @@ use Rattle.sheet.specs.declared.Reading.{Reading}
 unfoldable pub zeros : ℕ → List ℕ
 zeros n = replicate n 0
 
--- absent sections
-unfoldable pub noMosaic : MosaicSection
-noMosaic = record { stations = 0; mount = 0; strips = 0; station = zeros 160; bench = zeros 40 }
+-- a mosaic without a strip, a sorting without one, and a flight without a block
+abbrev pub begunMosaic : ℕ → ℕ → MosaicSection
+begunMosaic stations mount = record { stations = stations; mount = mount; strips = 0; station = zeros 160; bench = zeros 40 }
 
-unfoldable pub noSorting : SortingSection
-noSorting = record { desks = 0; counts = zeros 3; scan = zeros 18; desk = zeros 18 }
+abbrev pub begunSorting : ℕ → SortingSection
+begunSorting desks = record { desks = desks; counts = zeros 3; scan = zeros 18; desk = zeros 18 }
 
--- a flight without a block
 abbrev pub begunFlight : ℕ → ℕ → FlightSection
 begunFlight turn place =
     record {
@@ -40,12 +39,19 @@ begunFlight turn place =
       place = place;
     }
 
+-- absent sections
+unfoldable pub noMosaic : MosaicSection
+noMosaic = begunMosaic 0 0
+
+unfoldable pub noSorting : SortingSection
+noSorting = begunSorting 0
+
 unfoldable pub noFlight : FlightSection
 noFlight = begunFlight 0 0
 
 -- a mosaic of a head alone, and with one strip more
 unfoldable pub withMosaicHead : List ℕ → ℕ → MosaicSection
-withMosaicHead s c = record { stations = numberAt s c 1; mount = numberAt s (c + 1) 2; strips = 0; station = zeros 160; bench = zeros 40 }
+withMosaicHead s c = begunMosaic (numberAt s c 1) (numberAt s (c + 1) 2)
 
 unfoldable pub withStationTimes : List ℕ → ℕ → ℕ → ℕ → List ℕ → List ℕ
 withStationTimes s c base zero times = times
@@ -63,7 +69,7 @@ withMosaicStrip s c m =
 
 -- a sorting of a head alone, and with one strip more
 unfoldable pub withSortingHead : List ℕ → ℕ → SortingSection
-withSortingHead s c = record { desks = numberAt s c 1; counts = zeros 3; scan = zeros 18; desk = zeros 18 }
+withSortingHead s c = begunSorting (numberAt s c 1)
 
 -- strip k of desk d, both from 0
 unfoldable pub withStripAt : List ℕ → ℕ → SortingSection → ℕ → ℕ → SortingSection

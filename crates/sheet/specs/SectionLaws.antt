@@ -16,7 +16,7 @@ use Rattle.sheet.specs.FieldTable.{Between, Within, InRange}
 use Rattle.sheet.specs.FieldTable.Range.{time}
 use Rattle.sheet.specs.FieldTable.Value.{value}
 use Rattle.sheet.specs.Contents.{stripFrom, strip-from-start, strip-bench-left, strip-time-left}
-use Rattle.sheet.specs.Decode.{zeros, noMosaic, noSorting, noFlight, withMosaicHead, withStationTimes, withMosaicStrip, withSortingHead, withStripAt}
+use Rattle.sheet.specs.Decode.{zeros, begunMosaic, begunSorting, noMosaic, noSorting, noFlight, withMosaicHead, withStationTimes, withMosaicStrip, withSortingHead, withStripAt}
 use Rattle.sheet.specs.Decode.{withSortingStrip, begunFlight, turnOf, withFlightHead, exactBlock, windowBlock, withBlock, withOrder}
 use Rattle.sheet.specs.Sound.{MosaicSound, SortingSound, FlightWithin, stripsInAll}
 use Rattle.sheet.specs.Stores.{length-zeros, zeros-at, set-here, set-there, set-most, set-least, set-ordered}
@@ -32,7 +32,7 @@ zero-most n i most = omega (arith, zeros-at n i)
 -- the mosaic
 
 mosaic-begun : (stations mount : ℕ) → stations ≤ mostStations → mount ≤ mostTime
-    → MosaicSound (record { stations = stations; mount = mount; strips = 0; station = zeros 160; bench = zeros 40 })
+    → MosaicSound (begunMosaic stations mount)
 mosaic-begun stations mount h₁ h₂ =
     record {
       most-stations = h₁;
@@ -110,7 +110,7 @@ mosaic-strip-sound s c m h room q =
 
 -- the sorting
 
-sorting-begun : (desks : ℕ) → desks ≤ mostDesks → SortingSound (record { desks = desks; counts = zeros 3; scan = zeros 18; desk = zeros 18 })
+sorting-begun : (desks : ℕ) → desks ≤ mostDesks → SortingSound (begunSorting desks)
 sorting-begun desks h =
     record {
       most-desks = h;

@@ -6,7 +6,7 @@ use native.Mathlib.Numerals.{add-one}
 use native.Mathlib.Omega.{arith}
 use lib.ListN.{length, set, length-set}
 use Rattle.field.specs.Bytes.{numberAt, NumberRead}
-use Rattle.sheet.specs.Decode.{zeros, noMosaic, noSorting, noFlight, startReading, withMosaicHead, withStationTimes, withMosaicStrip, withSortingHead}
+use Rattle.sheet.specs.Decode.{begunMosaic, begunSorting, noMosaic, noSorting, noFlight, startReading, withMosaicHead, withStationTimes, withMosaicStrip, withSortingHead}
 use Rattle.sheet.specs.Decode.{withStripAt, withSortingStrip, nextMosaic, nextSorting, nextFlight, nextSection, nextHead, nextMembers, nextReading}
 use Rattle.sheet.specs.Sections.{stripsOfDesk}
 use Rattle.sheet.specs.Tags.{sortingStripTag}
@@ -27,12 +27,12 @@ module _ (m : MosaicSection) (t : SortingSection) (f : FlightSection) (em : m �
   refused-is number place = rw (em, et, ef)
 
 pub mosaic-head-is : (s : List ℕ) (c m mount : ℕ) → NumberRead s c 1 m → NumberRead s (c + 1) 2 mount
-    → _≡_ {A = MosaicSection} (record { stations = m; mount = mount; strips = 0; station = zeros 160; bench = zeros 40 }) (withMosaicHead s c)
+    → begunMosaic m mount ≡ withMosaicHead s c
 unfolding withMosaicHead
 mosaic-head-is s c m mount n₁ n₂ = rw (n₁ .is, n₂ .is)
 
 pub sorting-head-is : (s : List ℕ) (c m : ℕ) → NumberRead s c 1 m
-    → _≡_ {A = SortingSection} (record { desks = m; counts = zeros 3; scan = zeros 18; desk = zeros 18 }) (withSortingHead s c)
+    → begunSorting m ≡ withSortingHead s c
 unfolding withSortingHead
 sorting-head-is s c m n = rw (n .is)
 
