@@ -1,9 +1,13 @@
 -- Sums and greatest values over the numbers below n: split in two, of equal terms, of terms that are bounded or compared, of sums.
-use mathlib.Core.Path.{_≡_, refl}
-use Prim.Native.Nat.{ℕ, zero, suc, _+_, _*_, _≤_, _<_, max}
+use mathlib.Core.Path.{_≡_, refl, sym, ap}
+use mathlib.Core.List.{List}
+use Prim.Native.Nat.{ℕ, zero, suc, _+_, _-_, _*_, _≤_, _<_, max}
+use native.Mathlib.Nat.{add-assoc}
+use native.Mathlib.Numerals.{add-one}
 use native.Mathlib.Decide.{ℕ-discrete}
 use native.Mathlib.Omega.{arith}
-use Rattle.base.specs.Sums.{sumOver, greatestOver}
+use lib.ListN.{getD}
+use Rattle.base.specs.Sums.{sumOver, sumAfter, greatestOver}
 
 pub sum-split : (a c : ℕ) (f : ℕ → ℕ) → sumOver (a + c) f ≡ sumOver a f + sumOver c (λ k. f (a + k))
 unfolding sumOver
@@ -85,6 +89,35 @@ pub sum-swap : (m n : ℕ) (g : ℕ → ℕ → ℕ) → sumOver m (λ v. sumOve
 unfolding sumOver
 sum-swap zero n g = omega (arith, sum-const n 0 (λ k. 0) (λ k l. refl))
 sum-swap (suc m) n g = omega (arith, sum-swap m n g, sum-add n (λ k. sumOver m (g k)) (λ k. g k m))
+
+-- the numbers of a list after the first i: split in two, those up to the q-th, one more, bounded from above and from below
+module _ (values : List ℕ) where
+  pub after-split : (i a c : ℕ) → sumAfter values i (a + c) ≡ sumAfter values i a + sumAfter values (i + a) c
+  unfolding sumAfter
+  after-split i a c =
+      let f : ℕ → ℕ = λ k. getD values (i + k) 0 in
+      let e = sum-same c (λ k. f (a + k)) (λ k. getD values (i + a + k) 0) (λ k h. ap (λ (n : ℕ). getD values n 0) (sym (add-assoc i a k))) in
+      omega (arith, sum-split a c f, e)
+
+  pub after-upto : (i q : ℕ) → i ≤ q → sumAfter values 0 q ≡ sumAfter values 0 i + sumAfter values i (q - i)
+  after-upto i q h =
+      let e : i + (q - i) ≡ q = omega arith in
+      let z : 0 + i ≡ i = omega arith in
+      rw (e, z) at (after-split 0 i (q - i))
+
+  pub after-next : (j : ℕ) → sumAfter values 0 (j + 1) ≡ sumAfter values 0 j + getD values j 0
+  unfolding sumAfter sumOver
+  after-next j =
+      let e : 0 + j ≡ j = omega arith in
+      rw (add-one j, e)
+
+  pub after-most : (most : ℕ) → ((k : ℕ) → getD values k 0 ≤ most) → (i count : ℕ) → sumAfter values i count ≤ count * most
+  unfolding sumAfter
+  after-most most h i count = sum-most count most (λ k. getD values (i + k) 0) (λ k l. h (i + k))
+
+  pub after-least : (n : ℕ) → ((k : ℕ) → k < n → 1 ≤ getD values k 0) → (i count : ℕ) → i + count ≤ n → count ≤ sumAfter values i count
+  unfolding sumAfter
+  after-least n h i count l = sum-least count (λ k. getD values (i + k) 0) (λ k p. h (i + k) (omega arith))
 
 pub greatest-most : (n c : ℕ) (f : ℕ → ℕ) → ((k : ℕ) → k < n → f k ≤ c) → greatestOver n f ≤ c
 unfolding greatestOver

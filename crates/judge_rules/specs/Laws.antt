@@ -98,10 +98,12 @@ module _ (s : SortingSection) (d : Desks) (j : Job) (strips done : ℕ) (es : st
         let t = turn-is (s .desks) strips done (j .desk) (j .number) (sym ex ∙ not-false x h) in
         record {
           sound = a .sound;
-          least-desk = t .0;
-          most-desk = omega (arith, t .1, a .sound .most-desks);
-          least-number = omega (arith, t .2);
-          most-number = omega (arith, t .3, es, a .sound .most-strips (j .desk - 1));
+          in-slots = record {
+            least-desk = t .0;
+            most-desk = omega (arith, t .1, a .sound .most-desks);
+            least-number = omega (arith, t .2);
+            most-number = omega (arith, t .3, es, a .sound .most-strips (j .desk - 1));
+          };
         }
 
     pub job-right : (r : Bool) (free scan time : ℕ) → free ≡ getD (d .free) (j .desk - 1) 0 → TimeTold (scanTime s j) scan → TimeTold (deskTime s j) time

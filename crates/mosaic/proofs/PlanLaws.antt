@@ -6,7 +6,7 @@ use native.Mathlib.Decide.{decLt}
 use native.Mathlib.Omega.{arith}
 use lib.ListN.{length, getD, replicate, length-replicate, List·getD-eq-default}
 use Rattle.base.specs.Listed.{listed-length}
-use Rattle.sheet.specs.Limits.{mostStrips}
+use Rattle.sheet.specs.Limits.{mostStrips, mostTime}
 use Rattle.sheet.specs.Sound.{MosaicSound}
 use Rattle.sheet.specs.declared.MosaicSection.{MosaicSection}
 use Rattle.rules.specs.Mosaic.{ready, benchSum}
@@ -15,15 +15,20 @@ use Rattle.mosaic.specs.Chosen.{chosenBatches}
 use Rattle.mosaic.specs.Plan.{entry, batchesOf, Planned}
 use Rattle.batching.specs.Caps.{readyCap, benchCap}
 use Rattle.batching.specs.Tables.{lateLength, instanceIn, Input, FillLatePre, LateFilled}
-use Rattle.mosaic.specs.Tables.{ChooseBatchesPre, BatchesTaken, ReadyTimes, BenchSums}
+use Rattle.mosaic.specs.Tables.{ChooseBatchesPre, BatchesTaken, ReadyTimes, PrefixSumsPre, PrefixSums}
 use Rattle.running.specs.FunctionLaws.{SetupTold}
-use Rattle.mosaic.specs.Laws.Rules.{bench-upto, bench-most, ready-most, weight-count}
+use Rattle.base.specs.SumLaws.{after-upto, after-most}
+use Rattle.mosaic.specs.Laws.Rules.{ready-most, weight-count}
 use Rattle.batching.specs.Alike.{Alike, least-same, chosen-same}
 use Rattle.mosaic.specs.Laws.Whole.{least-is, chosen-is}
 use Rattle.mosaic.specs.Theorems.{mosaic-count}
 use Rattle.mosaic.specs.declared.MosaicPlan.{MosaicPlan}
 
-module _ {m : MosaicSection} (S : MosaicSound m) {rs sums : List ℕ} (R : ReadyTimes m rs) (B : BenchSums m sums) {s : ℕ} (U : SetupTold m s) where
+-- the bench times may be added up
+pub bench-pre : {m : MosaicSection} → MosaicSound m → PrefixSumsPre (m .bench)
+bench-pre S = record { len = S .bench-length; most = S .most-bench }
+
+module _ {m : MosaicSection} (S : MosaicSound m) {rs sums : List ℕ} (R : ReadyTimes m rs) (B : PrefixSums (m .bench) sums) {s : ℕ} (U : SetupTold m s) where
   most-ready : (j : ℕ) → getD rs j 0 ≤ readyCap
   most-ready j = elim (decLt j mostStrips) [
     | yes h ↦ omega (arith, R .at j h, ready-most S (j + 1))
@@ -31,10 +36,11 @@ module _ {m : MosaicSection} (S : MosaicSound m) {rs sums : List ℕ} (R : Ready
   ]
 
   most-sum : (q : ℕ) → q ≤ mostStrips → getD sums q 0 ≤ benchCap
-  most-sum q h = omega (arith, B .at q h, bench-most S 0 q)
+  most-sum q h = omega (arith, B .at q h, after-most (m .bench) mostTime (S .most-bench) 0 q)
 
   rise : (i q : ℕ) → i ≤ q → q ≤ mostStrips → getD sums q 0 ≡ getD sums i 0 + benchSum m i (q - i)
-  rise i q h k = omega (arith, B .at q k, B .at i (omega arith), bench-upto m i q h)
+  unfolding benchSum
+  rise i q h k = omega (arith, B .at q k, B .at i (omega arith), after-upto (m .bench) i q h)
 
   input-is : Input rs sums s (m .strips)
   input-is = record {

@@ -1,4 +1,4 @@
--- The greatest of the stations' sums; the ready times and the bench sums, strip by strip.
+-- The greatest of the stations' sums; the ready times, strip by strip; values added up, one by one.
 use mathlib.Core.Path.{_≡_, refl, ap, _∙_}
 use mathlib.Core.List.{List, [], _∷_}
 use Prim.Native.Nat.{ℕ, zero, suc, _+_, _*_, _-_, _≤_, _<_, _^_, max}
@@ -11,10 +11,10 @@ use lib.Seq.{getD-set-same, getD-set-other}
 use Rattle.sheet.specs.Limits.{mostTime, mostStrips}
 use Rattle.sheet.specs.Sound.{MosaicSound}
 use Rattle.sheet.specs.declared.MosaicSection.{MosaicSection}
-use Rattle.base.specs.Sums.{sumOver, greatestOver}
-use Rattle.rules.specs.Mosaic.{stationSum, ready, benchSum}
-use Rattle.mosaic.specs.Tables.{ReadyTimes, BenchSums}
-use Rattle.base.specs.SumLaws.{greatest-same}
+use Rattle.base.specs.Sums.{sumOver, sumAfter, greatestOver}
+use Rattle.rules.specs.Mosaic.{stationSum, ready}
+use Rattle.mosaic.specs.Tables.{ReadyTimes, PrefixSumsPre, PrefixSums}
+use Rattle.base.specs.SumLaws.{after-next, greatest-same}
 
 pub greatest-four : (a b c d ab abc abcd : ℕ) → ab ≡ max a b → abc ≡ max ab c → abcd ≡ max abc d → abcd ≡ max (max (max (max 0 a) b) c) d
 greatest-four a b c d ab abc abcd e f g = rw (g, f, e, zero-max a)
@@ -24,23 +24,17 @@ station-next : (m : MosaicSection) (k j : ℕ) → stationSum m k (j + 1) ≡ st
 unfolding stationSum sumOver
 station-next m k j = rw (add-one j)
 
-bench-next : (m : MosaicSection) (j : ℕ) → benchSum m 0 (j + 1) ≡ benchSum m 0 j + getD (m .bench) j 0
-unfolding benchSum sumOver
-bench-next m j =
-    let e : 0 + j ≡ j = omega arith in
-    rw (add-one j, e)
-
--- the bench sums of the first j strips are done, and `sum` is the last
-pub record SumsSoFar (m : MosaicSection) (sums : List ℕ) (sum j : ℕ) : Type 0 where
+-- the sums of the first j values are done, and `sum` is the last
+pub record SumsSoFar (values sums : List ℕ) (sum j : ℕ) : Type 0 where
   pub len : length sums ≡ 41
   pub to : j ≤ mostStrips
-  pub sum-is : sum ≡ benchSum m 0 j
+  pub sum-is : sum ≡ sumAfter values 0 j
   pub sum-most : sum ≤ j * mostTime
-  pub done : (q : ℕ) → q ≤ j → getD sums q 0 ≡ benchSum m 0 q
+  pub done : (q : ℕ) → q ≤ j → getD sums q 0 ≡ sumAfter values 0 q
 
-module _ {m : MosaicSection} (S : MosaicSound m) where
-  pub sums-start : (sums : List ℕ) → length sums ≡ 41 → getD sums 0 0 ≡ 0 → SumsSoFar m sums 0 0
-  unfolding benchSum sumOver
+module _ {values : List ℕ} (S : PrefixSumsPre values) where
+  pub sums-start : (sums : List ℕ) → length sums ≡ 41 → getD sums 0 0 ≡ 0 → SumsSoFar values sums 0 0
+  unfolding sumAfter sumOver
   sums-start sums l e = record {
     len = l;
     to = omega arith;
@@ -49,17 +43,20 @@ module _ {m : MosaicSection} (S : MosaicSound m) where
     done = λ q h. let z : q ≡ 0 = omega arith in rw z e;
   }
 
-  module _ {sums : List ℕ} {sum j : ℕ} (M : SumsSoFar m sums sum j) (h : j < mostStrips) where
-    next-most : sum + getD (m .bench) j 0 ≤ (j + 1) * mostTime
-    next-most = omega (arith, M .sum-most, S .most-bench j)
+  module _ {sums : List ℕ} {sum j : ℕ} (M : SumsSoFar values sums sum j) (h : j < mostStrips) where
+    pub sums-read : j < length values
+    sums-read = omega (arith, S .len)
 
-    pub sums-fits : sum + getD (m .bench) j 0 < 2 ^ 64
+    next-most : sum + getD values j 0 ≤ (j + 1) * mostTime
+    next-most = omega (arith, M .sum-most, S .most j)
+
+    pub sums-fits : sum + getD values j 0 < 2 ^ 64
     sums-fits = omega (arith, next-most)
 
-    pub sums-step : SumsSoFar m (set sums (j + 1) (sum + getD (m .bench) j 0)) (sum + getD (m .bench) j 0) (j + 1)
+    pub sums-step : SumsSoFar values (set sums (j + 1) (sum + getD values j 0)) (sum + getD values j 0) (j + 1)
     sums-step =
-        let v : ℕ = sum + getD (m .bench) j 0 in
-        let e : v ≡ benchSum m 0 (j + 1) = omega (arith, bench-next m j, M .sum-is) in record {
+        let v : ℕ = sum + getD values j 0 in
+        let e : v ≡ sumAfter values 0 (j + 1) = omega (arith, after-next values j, M .sum-is) in record {
           len = length-set sums (j + 1) v ∙ M .len;
           to = omega arith;
           sum-is = e;
@@ -72,7 +69,7 @@ module _ {m : MosaicSection} (S : MosaicSound m) where
           ];
         }
 
-  pub sums-end : {sums : List ℕ} {sum j : ℕ} → SumsSoFar m sums sum j → mostStrips ≤ j → BenchSums m sums
+  pub sums-end : {sums : List ℕ} {sum j : ℕ} → SumsSoFar values sums sum j → mostStrips ≤ j → PrefixSums values sums
   sums-end M h = record { len = M .len; at = λ q l. M .done q (omega arith) }
 
 -- the ready times of the first j strips are done; a, b, c, d are the stations' sums

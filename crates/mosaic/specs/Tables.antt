@@ -4,9 +4,10 @@ use mathlib.Core.Path.{_≡_}
 use mathlib.Core.List.{List, [], _∷_, _++_}
 use Prim.Native.Nat.{ℕ, _+_, _*_, _≤_, _<_, _^_}
 use lib.ListN.{length, getD}
-use Rattle.sheet.specs.Limits.{mostStrips}
+use Rattle.sheet.specs.Limits.{mostStrips, mostTime}
 use Rattle.sheet.specs.declared.MosaicSection.{MosaicSection}
-use Rattle.rules.specs.Mosaic.{ready, benchSum}
+use Rattle.base.specs.Sums.{sumAfter}
+use Rattle.rules.specs.Mosaic.{ready}
 use Rattle.batching.specs.Index.{leastAt, chosenAt}
 use Rattle.batching.specs.Tables.{width, lateLength, instanceIn, Input, LateFrom}
 use Rattle.mosaic.specs.Plan.{batchesOf, NoMore}
@@ -42,11 +43,16 @@ pub record BatchesTaken (rs sums : List ℕ) (s n : ℕ) (plan : MosaicPlan) : T
   pub batches : batchesOf plan ≡ chosenAt (instanceIn rs sums s n) 0 0
   pub no-more : NoMore plan
 
--- what `ready_times` and `bench_sums` give: every entry
+-- what `ready_times` gives: every entry
 pub record ReadyTimes (m : MosaicSection) (rs : List ℕ) : Type 0 where
   pub len : length rs ≡ mostStrips
   pub at : (j : ℕ) → j < mostStrips → getD rs j 0 ≡ ready m (j + 1)
 
-pub record BenchSums (m : MosaicSection) (sums : List ℕ) : Type 0 where
+-- what `prefix_sums` asks of its values, and what it gives: every entry
+pub record PrefixSumsPre (values : List ℕ) : Type 0 where
+  pub len : length values ≡ mostStrips
+  pub most : (k : ℕ) → getD values k 0 ≤ mostTime
+
+pub record PrefixSums (values sums : List ℕ) : Type 0 where
   pub len : length sums ≡ width
-  pub at : (q : ℕ) → q ≤ mostStrips → getD sums q 0 ≡ benchSum m 0 q
+  pub at : (q : ℕ) → q ≤ mostStrips → getD sums q 0 ≡ sumAfter values 0 q

@@ -26,7 +26,8 @@ pub fn plan_mosaic(m: MosaicSection) -> MosaicPlan
     let n = m.strips;
     let s = setup_time(m);
     let rs = ready::ready_times(m);
-    let sums = ready::bench_sums(m);
+    let bench = m.bench;
+    let sums = ready::prefix_sums(&bench);
     let mut late = [0u64; batching::LATE_LENGTH];
     batching::fill_late(&rs, &sums, &mut late, s, n);
     batches::choose_batches(&rs, &sums, &late, s, n)

@@ -1,11 +1,11 @@
-// The times that the planner reads: when each strip is ready, and the bench times added up.
+// What the planner reads: when each strip is ready, and values added up.
 ghost use mathlib.Core.Path.{_≡_};
 ghost use mathlib.Core.List.{[], _∷_};
 ghost use Prim.Native.Nat.{_≤_};
 ghost use lib.ListN.{getD};
 ghost use Rattle.sheet.specs.Sound.{MosaicSound};
 ghost use Rattle.base.specs.Sums.{greatestOver};
-ghost use Rattle.mosaic.specs.Tables.{ReadyTimes, BenchSums};
+ghost use Rattle.mosaic.specs.Tables.{ReadyTimes, PrefixSumsPre, PrefixSums};
 use base::greater;
 use sheet::MosaicSection;
 use sheet::limits::MOST_STRIPS;
@@ -55,16 +55,16 @@ pub fn ready_times(m: MosaicSection) -> [u64; 40]
     rs
 }
 
-// Entry q is the sum of the bench times of the first q strips.
-pub fn bench_sums(m: MosaicSection) -> [u64; 41]
-    requires { ⌜ MosaicSound m ⌝ }
-    ensures { λ sums. ⌜ BenchSums m sums ⌝ }
+// Entry q is the sum of the first q of 40 values.
+pub fn prefix_sums(values: &[u64]) -> [u64; 41]
+    requires { ⌜ PrefixSumsPre (now values) ⌝ }
+    ensures { λ sums. ⌜ PrefixSums (now (values .entry)) sums ⌝ }
 {
     let mut sums = [0u64; 41];
     let mut sum = 0;
     let mut j = 0;
     while j < MOST_STRIPS {
-        sum += m.bench[j];
+        sum += values[j];
         j += 1;
         sums[j] = sum;
     }

@@ -1,6 +1,6 @@
 -- For proofs that compute: to unfold `rulesCompute` is to unfold every definition of the rules, of their tests and of a plan's bytes.
 use Prim.{Unit, tt}
-use Rattle.base.specs.Sums.{sumOver, greatestOver}
+use Rattle.base.specs.Sums.{sumOver, sumAfter, greatestOver}
 use Rattle.order.specs.Order.{seconds, firsts, neverMoreSeconds, isProper}
 use Rattle.order.specs.Passes.{passAt, timeOf}
 use Rattle.plan_format.specs.Format.{numbersBytes, formBytes}
@@ -14,7 +14,7 @@ use Rattle.rules.proofs.Tests.{blockTest, clearTest, apartTest, isFligh
 
 unfoldable pub rulesCompute : Unit {0}
 unfolding
-    sumOver greatestOver seconds firsts neverMoreSeconds isProper passAt timeOf
+    sumOver sumAfter greatestOver seconds firsts neverMoreSeconds isProper passAt timeOf
     stationSum ready benchSum noBatch batchAt batchBefore setupTime benchWorkStart finishDue completion mosaicFigure
     stripsOf slot scanTime deskTime scanEnd deskFinish noJob jobAt jobsOf sortingFigure
     noPasses passesAt passStart passTime passEnd secondDue clearAt flightFigure

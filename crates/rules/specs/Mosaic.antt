@@ -8,7 +8,7 @@ use lib.ListN.{length, getD}
 use lib.Dec.{leb}
 use Rattle.sheet.specs.Limits.{ceiling}
 use Rattle.sheet.specs.declared.MosaicSection.{MosaicSection}
-use Rattle.base.specs.Sums.{sumOver, greatestOver}
+use Rattle.base.specs.Sums.{sumOver, sumAfter, greatestOver}
 use Rattle.rules.specs.declared.Batch.{Batch}
 
 -- "Each station works the strips in order from time 0 without pause": when station k (from 0) is done with the first j strips
@@ -21,7 +21,7 @@ ready m j = greatestOver (m .stations) (λ k. stationSum m k j)
 
 -- the bench times of so many strips after the first i
 unfoldable pub benchSum : MosaicSection → ℕ → ℕ → ℕ
-benchSum m i count = sumOver count (λ k. getD (m .bench) (i + k) 0)
+benchSum m i count = sumAfter (m .bench) i count
 
 -- what stands before the first batch: no strip, finished at 0
 unfoldable pub noBatch : Batch

@@ -25,7 +25,7 @@ use Rattle.plan_read.specs.PlanRead.{BatchFits, JobFits, PassesFits}
 use Rattle.rules.specs.declared.Batch.{Batch}
 use Rattle.rules.specs.declared.Job.{Job}
 use Rattle.rules.specs.declared.Passes.{Passes}
-use Rattle.base.specs.SumLaws.{sum-most, sum-least, greatest-most, greatest-part}
+use Rattle.base.specs.SumLaws.{sum-most, sum-least, after-least, greatest-most, greatest-part}
 use Rattle.rules_laws.specs.Finish.{finish-worked}
 use Rattle.rules_laws.specs.MosaicRunning.{count-within, follows-at, runningFigure}
 use Rattle.rules_laws.specs.Equivalent.{mosaic-runs, mosaic-figure}
@@ -50,7 +50,7 @@ module _ (m : MosaicSection) (bs : List Batch) (sound : MosaicSound m) (L : Mosa
 
   bench-some : (i count : ℕ) → i + count ≤ m .strips → count ≤ benchSum m i count
   unfolding benchSum
-  bench-some i count h = sum-least count (λ k. getD (m .bench) (i + k) 0) (λ k l. sound .least-bench (i + k) (omega arith))
+  bench-some i count h = after-least (m .bench) (m .strips) (sound .least-bench) i count h
 
   pub batch-follows : (i : ℕ) → i < length bs → BatchFollows m (batchBefore bs i) (batchAt bs i)
   batch-follows i l = follows-at m bs (mosaic-runs m bs L) i l

@@ -1,10 +1,11 @@
 -- What the functions on sections require and tell, and the laws of their loops: a sum so far, the greatest value so far.
 use Prim.Native.Nat.{ℕ, suc, _+_, _-_, _*_, _^_, _≤_, _<_, max}
 use mathlib.Core.Path.{_≡_, refl, sym, ap, _∙_}
+use mathlib.Core.List.{List}
 use native.Mathlib.Numerals.{add-one}
 use native.Mathlib.Decide.{decLt}
 use native.Mathlib.Omega.{arith}
-use lib.ListN.{getD}
+use lib.ListN.{length, getD}
 use Rattle.order.specs.Passes.{timeOf}
 use Rattle.order.specs.PassLaws.{first-time, second-time}
 use Rattle.sheet.specs.Limits.{mostTime, mostStrips, mostDesks, mostStripsOfDesk}
@@ -12,7 +13,7 @@ use Rattle.sheet.specs.Sound.{MosaicSound, SortingSound, FlightSound}
 use Rattle.sheet.specs.declared.MosaicSection.{MosaicSection}
 use Rattle.sheet.specs.declared.SortingSection.{SortingSection}
 use Rattle.sheet.specs.declared.FlightSection.{FlightSection}
-use Rattle.base.specs.Sums.{sumOver, greatestOver}
+use Rattle.base.specs.Sums.{sumOver, sumAfter, greatestOver}
 use Rattle.rules.specs.Mosaic.{stationSum, ready, benchSum, setupTime, benchWorkStart, finishDue}
 use Rattle.rules.specs.Sorting.{slot, scanTime, deskTime}
 use Rattle.rules.specs.Flight.{passTime}
@@ -28,9 +29,11 @@ pub record ReadyTimePre (m : MosaicSection) (j : ℕ) : Type 0 where
   pub sound : MosaicSound m
   pub strips : j ≤ mostStrips
 
-pub record BenchSumPre (m : MosaicSection) (i count : ℕ) : Type 0 where
-  pub sound : MosaicSound m
-  pub strips : i + count ≤ mostStrips
+-- values of which none is above the greatest time, as many as there are strips at most
+pub record SumAfterPre (values : List ℕ) (i count : ℕ) : Type 0 where
+  pub long : i + count ≤ length values
+  pub few : count ≤ mostStrips
+  pub most : (k : ℕ) → getD values k 0 ≤ mostTime
 
 -- a batch of known strips whose start has four bytes
 pub record BenchWorkStartPre (m : MosaicSection) (b : Batch) : Type 0 where
@@ -69,12 +72,21 @@ pub record TimeTold (value r : ℕ) : Type 0 where
   pub is : r ≡ value
   pub fits : r ≤ mostTime
 
-pub record SlotPre (s : SortingSection) (j : Job) : Type 0 where
-  pub sound : SortingSound s
+-- a desk and a number within it that a strip may have
+pub record InSlots (j : Job) : Type 0 where
   pub least-desk : 1 ≤ j .desk
   pub most-desk : j .desk ≤ mostDesks
   pub least-number : 1 ≤ j .number
   pub most-number : j .number ≤ mostStripsOfDesk
+
+-- where its values stand
+pub record SlotTold (j : Job) (r : ℕ) : Type 0 where
+  pub is : r ≡ slot (j .desk) (j .number)
+  pub few : r < mostDesks * mostStripsOfDesk
+
+pub record SlotPre (s : SortingSection) (j : Job) : Type 0 where
+  pub sound : SortingSound s
+  pub in-slots : InSlots j
 
 pub record PassTimePre (f : FlightSection) (p : ℕ) : Type 0 where
   pub sound : FlightSound f
@@ -121,21 +133,29 @@ module _ (m : MosaicSection) (k j : ℕ) (a : StationSumPre m k j) where
       let l = a .strips in
       record { is = sum-all (λ i. getD (m .station) (4 * i + k) 0) j i sum s h; fits = omega arith }
 
-module _ (m : MosaicSection) (i count : ℕ) (a : BenchSumPre m i count) where
-  pub bench-more : (k sum : ℕ) → Summed (λ k. getD (m .bench) (i + k) 0) mostTime count k sum → k < count
-      → Summed (λ k. getD (m .bench) (i + k) 0) mostTime count (k + 1) (sum + getD (m .bench) (i + k) 0)
-  bench-more k sum s h = sum-more (λ k. getD (m .bench) (i + k) 0) count k sum _ s h refl (a .sound .most-bench (i + k))
+module _ (values : List ℕ) (i count : ℕ) (a : SumAfterPre values i count) where
+  pub after-more : (k sum : ℕ) → Summed (λ k. getD values (i + k) 0) mostTime count k sum → k < count
+      → Summed (λ k. getD values (i + k) 0) mostTime count (k + 1) (sum + getD values (i + k) 0)
+  after-more k sum s h = sum-more (λ k. getD values (i + k) 0) count k sum _ s h refl (a .most (i + k))
 
-  pub bench-fits : (k sum : ℕ) → Summed (λ k. getD (m .bench) (i + k) 0) mostTime count k sum → k < count → sum + getD (m .bench) (i + k) 0 < 2 ^ 64
-  bench-fits k sum s h = let b = s .fits in let l = a .strips in omega (arith, a .sound .most-bench (i + k))
+  pub after-fits : (k sum : ℕ) → Summed (λ k. getD values (i + k) 0) mostTime count k sum → k < count → sum + getD values (i + k) 0 < 2 ^ 64
+  after-fits k sum s h = let b = s .fits in let l = a .few in omega (arith, a .most (i + k))
 
-  pub bench-all : (k sum : ℕ) → Summed (λ k. getD (m .bench) (i + k) 0) mostTime count k sum → count ≤ k → SumTold (benchSum m i count) sum
-  unfolding benchSum
-  bench-all k sum s h =
+  pub after-all : (k sum : ℕ) → Summed (λ k. getD values (i + k) 0) mostTime count k sum → count ≤ k → SumTold (sumAfter values i count) sum
+  unfolding sumAfter
+  after-all k sum s h =
       let b = s .fits in
       let w = s .within in
-      let l = a .strips in
-      record { is = sum-all (λ k. getD (m .bench) (i + k) 0) count k sum s h; fits = omega arith }
+      let l = a .few in
+      record { is = sum-all (λ k. getD values (i + k) 0) count k sum s h; fits = omega arith }
+
+-- the bench times of a batch of known strips
+pub bench-pre : (m : MosaicSection) (before b : Batch) → FinishDuePre m before b → SumAfterPre (m .bench) (before .last) (b .last - before .last)
+bench-pre m before b a = record {
+  long = omega (arith, a .rises, a .asked .strips, a .asked .sound .bench-length);
+  few = omega (arith, a .asked .strips);
+  most = a .asked .sound .most-bench;
+}
 
 pub work-start-told : (m : MosaicSection) (b : Batch) (r setup readyAt : ℕ) → BenchWorkStartPre m b → SetupTold m setup → SumTold (ready m (b .last)) readyAt
     → r ≡ max (b .start + setup) readyAt → BenchWorkStartTold m b r
@@ -143,8 +163,8 @@ unfolding benchWorkStart
 work-start-told m b r setup readyAt a u t e = record { is = rw (← u .is, ← t .is) e; fits = omega (arith, a .fits, u .fits, t .fits) }
 
 pub finish-is : (m : MosaicSection) (before b : Batch) (begin sum : ℕ) → BenchWorkStartTold m b begin
-    → SumTold (benchSum m (before .last) (b .last - before .last)) sum → begin + sum ≡ finishDue m before b
-unfolding finishDue
+    → SumTold (sumAfter (m .bench) (before .last) (b .last - before .last)) sum → begin + sum ≡ finishDue m before b
+unfolding finishDue benchSum
 finish-is m before b begin sum u t = rw (u .is, t .is)
 
 -- the greatest of the first k stations' sums
@@ -177,13 +197,18 @@ module _ (m : MosaicSection) (j : ℕ) where
       all = let w = g .within in omega arith
 
 -- single times
-pub scan-told : (s : SortingSection) (j : Job) → SlotPre s j → TimeTold (scanTime s j) (getD (s .scan) (6 * (j .desk - 1) + (j .number - 1)) 0)
-unfolding scanTime slot
-scan-told s j a = record { is = refl; fits = a .sound .most-scan _ }
+pub slot-told : (j : Job) → InSlots j → SlotTold j (6 * (j .desk - 1) + (j .number - 1))
+unfolding slot
+slot-told j a = record { is = refl; few = omega (arith, a .least-desk, a .most-desk, a .least-number, a .most-number) }
 
-pub desk-told : (s : SortingSection) (j : Job) → SlotPre s j → TimeTold (deskTime s j) (getD (s .desk) (6 * (j .desk - 1) + (j .number - 1)) 0)
-unfolding deskTime slot
-desk-told s j a = record { is = refl; fits = a .sound .most-desk _ }
+module _ (s : SortingSection) (j : Job) (a : SlotPre s j) (r : ℕ) (t : SlotTold j r) where
+  pub scan-told : TimeTold (scanTime s j) (getD (s .scan) r 0)
+  unfolding scanTime
+  scan-told = record { is = ap (λ i. getD (s .scan) i 0) (t .is); fits = a .sound .most-scan r }
+
+  pub desk-told : TimeTold (deskTime s j) (getD (s .desk) r 0)
+  unfolding deskTime
+  desk-told = record { is = ap (λ i. getD (s .desk) i 0) (t .is); fits = a .sound .most-desk r }
 
 -- the time of a pass
 pub time-told : (f : FlightSection) (p r : ℕ) → PassTimePre f p → r ≡ timeOf (f .blocks) (f .first) (f .second) p → TimeTold (passTime f p) r

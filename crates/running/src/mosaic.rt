@@ -4,8 +4,9 @@ use rules::Batch;
 use sheet::MosaicSection;
 ghost use mathlib.Core.Path.{_≡_};
 ghost use Prim.Native.Nat.{_<_, _+_};
-ghost use Rattle.rules.specs.Mosaic.{stationSum, ready, benchSum, finishDue};
-ghost use Rattle.running.specs.FunctionLaws.{StationSumPre, ReadyTimePre, BenchSumPre, BenchWorkStartPre, BenchWorkStartTold, FinishDuePre, SetupTold, SumTold};
+ghost use Rattle.base.specs.Sums.{sumAfter};
+ghost use Rattle.rules.specs.Mosaic.{stationSum, ready, finishDue};
+ghost use Rattle.running.specs.FunctionLaws.{StationSumPre, ReadyTimePre, SumAfterPre, BenchWorkStartPre, BenchWorkStartTold, FinishDuePre, SetupTold, SumTold};
 ghost use Rattle.sheet.specs.Sound.{MosaicSound};
 
 // When station k, from 0, is done with the first j strips.
@@ -38,16 +39,15 @@ pub fn ready_time(m: MosaicSection, j: usize) -> u64
     greatest
 }
 
-// The bench times of `count` strips after the first i.
-fn bench_sum(m: MosaicSection, i: usize, count: usize) -> u64
-    requires { ⌜ BenchSumPre m i count ⌝ }
-    ensures { λ r. ⌜ SumTold (benchSum m i count) r ⌝ }
+// The sum of `count` values after the first i.
+fn sum_after(values: &[u64], i: usize, count: usize) -> u64
+    requires { ⌜ SumAfterPre (now values) i count ⌝ }
+    ensures { λ r. ⌜ SumTold (sumAfter (now (values .entry)) i count) r ⌝ }
 {
-    let times = m.bench;
     let mut sum: u64 = 0;
     let mut k: usize = 0;
     while k < count {
-        sum += times[i + k];
+        sum += values[i + k];
         k += 1;
     }
     sum
@@ -75,8 +75,9 @@ pub fn finish_due(m: MosaicSection, before: Batch, b: Batch) -> u64
     requires { ⌜ FinishDuePre m before b ⌝ }
     ensures { λ r. ⌜ r ≡ finishDue m before b ⌝ }
 {
+    let bench = m.bench;
     let from = before.last;
     let count = b.last - from;
     let begin = bench_work_start(m, b);
-    begin + bench_sum(m, from as usize, count as usize)
+    begin + sum_after(&bench, from as usize, count as usize)
 }

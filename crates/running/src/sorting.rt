@@ -1,9 +1,17 @@
 // The times of a sorting's jobs.
 use rules::Job;
 use sheet::SortingSection;
-ghost use Prim.Native.Nat.{_+_};
 ghost use Rattle.rules.specs.Sorting.{scanTime, deskTime};
-ghost use Rattle.running.specs.FunctionLaws.{SlotPre, TimeTold};
+ghost use Rattle.running.specs.FunctionLaws.{InSlots, SlotTold, SlotPre, TimeTold};
+
+// Where the values of a strip stand.
+fn slot_of(j: Job) -> usize
+    requires { ⌜ InSlots j ⌝ }
+    ensures { λ r. ⌜ SlotTold j r ⌝ }
+{
+    let at = 6 * (j.desk - 1) + (j.number - 1);
+    at as usize
+}
 
 // The scan time of a strip.
 pub fn scan_time(s: SortingSection, j: Job) -> u64
@@ -11,9 +19,7 @@ pub fn scan_time(s: SortingSection, j: Job) -> u64
     ensures { λ r. ⌜ TimeTold (scanTime s j) r ⌝ }
 {
     let times = s.scan;
-    let at = 6 * (j.desk - 1) + (j.number - 1);
-    let i = at as usize;
-    times[i]
+    times[slot_of(j)]
 }
 
 // The desk time of a strip.
@@ -22,7 +28,5 @@ pub fn desk_time(s: SortingSection, j: Job) -> u64
     ensures { λ r. ⌜ TimeTold (deskTime s j) r ⌝ }
 {
     let times = s.desk;
-    let at = 6 * (j.desk - 1) + (j.number - 1);
-    let i = at as usize;
-    times[i]
+    times[slot_of(j)]
 }

@@ -1,5 +1,5 @@
 -- `plan_mosaic` meets its contract: the tables are filled and read with the times of the section, and the instance that these give agrees with the section's.
-use Rattle.mosaic.proofs.PlanLaws.{late-pre, batches-pre, planned}
+use Rattle.mosaic.proofs.PlanLaws.{bench-pre, late-pre, batches-pre, planned}
 use borrow.Author.Needs.{needs}
 use Rattle.mosaic.proofs.plan_mosaic.Statement.{statement}
 use Rattle.mosaic.proofs.plan_mosaic.Tie as tie
@@ -10,8 +10,11 @@ setup-time-requires c κs = search needs
 ready-times-requires : tie.Need-ready-times-requires
 ready-times-requires c κs = search needs
 
-bench-sums-requires : tie.Need-bench-sums-requires
-bench-sums-requires c κs = search needs
+slice-aggregate-prefix-sums : tie.Need-slice-aggregate-prefix-sums
+slice-aggregate-prefix-sums c = search needs
+
+prefix-sums-requires : tie.Need-prefix-sums-requires
+prefix-sums-requires c κs = search bench-pre
 
 slice-aggregate-fill-late : tie.Need-slice-aggregate-fill-late
 slice-aggregate-fill-late c = search needs
@@ -46,7 +49,8 @@ plan-mosaic-spec =
     (tie.spec
     setup-time-requires
     ready-times-requires
-    bench-sums-requires
+    slice-aggregate-prefix-sums
+    prefix-sums-requires
     slice-aggregate-fill-late
     slice-aggregate-fill-late-2
     slice-aggregate-fill-late-3

@@ -1,4 +1,4 @@
--- The rules' quantities: bounds of ready times and bench sums, bench sums split in two, and the weight of a batch.
+-- The rules' quantities: bounds of ready times and bench sums, and the weight of a batch.
 use mathlib.Core.Path.{_≡_, refl, ap, sym}
 use Prim.Native.Nat.{ℕ, _+_, _*_, _-_, _≤_}
 use native.Mathlib.Nat.{add-assoc}
@@ -9,20 +9,7 @@ use Rattle.sheet.specs.Sound.{MosaicSound}
 use Rattle.sheet.specs.declared.MosaicSection.{MosaicSection}
 use Rattle.rules.specs.Mosaic.{stationSum, ready, benchSum}
 use Rattle.mosaic.specs.Least.{weightOf, weightSum}
-use Rattle.base.specs.SumLaws.{sum-split, sum-same, sum-const, sum-most, greatest-most}
-
-pub bench-split : (m : MosaicSection) (i a c : ℕ) → benchSum m i (a + c) ≡ benchSum m i a + benchSum m (i + a) c
-unfolding benchSum
-bench-split m i a c =
-    let f : ℕ → ℕ = λ k. getD (m .bench) (i + k) 0 in
-    let e = sum-same c (λ k. f (a + k)) (λ k. getD (m .bench) (i + a + k) 0) (λ k h. ap (λ (n : ℕ). getD (m .bench) n 0) (sym (add-assoc i a k))) in
-    omega (arith, sum-split a c f, e)
-
-pub bench-upto : (m : MosaicSection) (i q : ℕ) → i ≤ q → benchSum m 0 q ≡ benchSum m 0 i + benchSum m i (q - i)
-bench-upto m i q h =
-    let e : i + (q - i) ≡ q = omega arith in
-    let z : 0 + i ≡ i = omega arith in
-    rw (e, z) at (bench-split m 0 i (q - i))
+use Rattle.base.specs.SumLaws.{sum-const, sum-most, after-most, greatest-most}
 
 pub weight-count : (m : MosaicSection) (i count : ℕ) → weightSum m i count ≡ count
 unfolding weightSum weightOf
@@ -31,7 +18,7 @@ weight-count m i count = omega (arith, sum-const count 1 (λ k. 1) (λ k h. refl
 module _ {m : MosaicSection} (S : MosaicSound m) where
   pub bench-most : (i count : ℕ) → benchSum m i count ≤ count * mostTime
   unfolding benchSum
-  bench-most i count = sum-most count mostTime (λ k. getD (m .bench) (i + k) 0) (λ k l. S .most-bench (i + k))
+  bench-most i count = after-most (m .bench) mostTime (S .most-bench) i count
 
   station-most : (k q : ℕ) → stationSum m k q ≤ q * mostTime
   unfolding stationSum

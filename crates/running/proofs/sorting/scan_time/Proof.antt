@@ -4,17 +4,8 @@ use borrow.Author.Needs.{needs}
 use Rattle.running.proofs.sorting.scan_time.Statement.{statement}
 use Rattle.running.proofs.sorting.scan_time.Tie as tie
 
-sub-at : tie.Need-sub-at
-sub-at c = search needs
-
-mul-at : tie.Need-mul-at
-mul-at c = search needs
-
-sub-at-2 : tie.Need-sub-at-2
-sub-at-2 c = search needs
-
-add-at : tie.Need-add-at
-add-at c = search needs
+slot-of-requires : tie.Need-slot-of-requires
+slot-of-requires c κs = search needs
 
 mul-result : tie.Need-mul-result
 mul-result c = search needs
@@ -26,5 +17,4 @@ returns : tie.Need-returns
 returns c = search scan-told
 
 pub scan-time-spec : {M : Type 1} → statement M
-scan-time-spec =
-    tie.close (tie.spec sub-at mul-at sub-at-2 add-at mul-result array-read-result returns)
+scan-time-spec = tie.close (tie.spec slot-of-requires mul-result array-read-result returns)

@@ -1,16 +1,16 @@
--- `bench_sums` meets its contract. Invariant: the sum is that of the strips passed, and so are the entries written.
+-- `prefix_sums` meets its contract. Invariant: the sum is that of the values passed, and so are the entries written.
 use mathlib.Core.Path.{refl}
 use Prim.Native.Nat.{_-_}
 use borrow.Author.Needs.{needs}
-use Rattle.mosaic.proofs.TimeLaws.{SumsSoFar, sums-start, sums-fits, sums-step, sums-end}
-use Rattle.mosaic.proofs.ready.bench_sums.Statement.{statement}
-use Rattle.mosaic.proofs.ready.bench_sums.Tie as tie
+use Rattle.mosaic.proofs.TimeLaws.{SumsSoFar, sums-start, sums-read, sums-fits, sums-step, sums-end}
+use Rattle.mosaic.proofs.ready.prefix_sums.Statement.{statement}
+use Rattle.mosaic.proofs.ready.prefix_sums.Tie as tie
 
 abbrev Inv-loop : tie.InvT-loop
-Inv-loop m sums₀ sum₀ j₀ sums sum j = SumsSoFar m sums sum j
+Inv-loop values sums₀ sum₀ j₀ sums sum j = SumsSoFar values sums sum j
 
 abbrev μ-loop : tie.MeasureT-loop
-μ-loop m sums₀ sum₀ j₀ sums sum j = 40 - j
+μ-loop values sums₀ sum₀ j₀ sums sum j = 40 - j
 
 loop-holds : tie.Need-loop-holds Inv-loop μ-loop
 loop-holds c = sums-start (c .pre) _ refl refl
@@ -18,8 +18,8 @@ loop-holds c = sums-start (c .pre) _ refl refl
 mul-sum : tie.Need-mul-sum Inv-loop μ-loop
 mul-sum c = search needs
 
-element-copy-out-sum : tie.Need-element-copy-out-sum Inv-loop μ-loop
-element-copy-out-sum c = search needs
+shared-slice-read-sum : tie.Need-shared-slice-read-sum Inv-loop μ-loop
+shared-slice-read-sum c = search sums-read
 
 add-sum : tie.Need-add-sum Inv-loop μ-loop
 add-sum c = search sums-fits
@@ -42,15 +42,15 @@ loop-again c = search sums-step
 returns : tie.Need-returns Inv-loop μ-loop
 returns c = search sums-end
 
-pub bench-sums-spec : {M : Type 1} → statement M
-bench-sums-spec =
+pub prefix-sums-spec : {M : Type 1} → statement M
+prefix-sums-spec =
     tie.close
     (tie.spec
     Inv-loop
     μ-loop
     loop-holds
     mul-sum
-    element-copy-out-sum
+    shared-slice-read-sum
     add-sum
     add-j
     mul-sums
