@@ -2,7 +2,7 @@
 use mathlib.Core.Path.{_≡_, refl, sym, ap}
 use mathlib.Core.List.{List}
 use Prim.Native.Nat.{ℕ, zero, suc, _+_, _-_, _*_, _≤_, _<_, max}
-use native.Mathlib.Nat.{add-assoc}
+use native.Mathlib.Nat.{add-assoc, add-mul}
 use native.Mathlib.Numerals.{add-one}
 use native.Mathlib.Decide.{ℕ-discrete}
 use native.Mathlib.Omega.{arith}
@@ -58,6 +58,12 @@ sum-lt (suc n) f g h k l s = go (ℕ-discrete k n) (λ q. sum-lt n f g (λ j p. 
     go : Dec (k ≡ n) → (k < n → sumOver n f < sumOver n g) → sumOver n f + f n < sumOver n g + g n
     go (yes e) ih = omega (arith, sum-le n f g (λ j p. h j (omega arith)), rw e at s)
     go (no ne) ih = omega (arith, h n (omega arith), ih (omega arith))
+
+-- of terms with a common factor
+pub sum-times : (n c : ℕ) (f : ℕ → ℕ) → sumOver n (λ k. f k * c) ≡ sumOver n f * c
+unfolding sumOver
+sum-times zero c f = omega arith
+sum-times (suc n) c f = omega (arith, sum-times n c f, add-mul (sumOver n f) (f n) c)
 
 -- a term is at most the sum
 pub sum-part : (n : ℕ) (f : ℕ → ℕ) (k : ℕ) → k < n → f k ≤ sumOver n f

@@ -12,8 +12,8 @@ use Rattle.batching.specs.Tables.{instanceIn, RowIs, FillRowPre, RowFill
 use Rattle.batching.specs.Recursion.{least-end}
 
 -- the row from p on is done; `at` is its time
-pub record BlockSoFar (rs sums row₀ row : List ℕ) (s n begin i lo p at : ℕ) : Type 0 where
-  pub row-is : RowIs rs sums row s n at i p
+pub record BlockSoFar (rs sums weights row₀ row : List ℕ) (s n begin i lo p at : ℕ) : Type 0 where
+  pub row-is : RowIs rs sums weights row s n at i p
   pub row-long : n < length row
   pub len : length row ≡ length row₀
   pub below : (k : ℕ) → k < lo → getD row k 0 ≡ getD row₀ k 0
@@ -22,7 +22,7 @@ pub record BlockSoFar (rs sums row₀ row : List ℕ) (s n begin i lo p at : ℕ
   pub from : lo ≤ p
   pub to : p ≤ n
 
-module _ {rs sums late entry : List ℕ} {s n begin i lo : ℕ} (P : FillBlockPre rs sums late entry s n begin i lo) where
+module _ {rs sums weights late entry : List ℕ} {s n begin i lo : ℕ} (P : FillBlockPre rs sums weights late entry s n begin i lo) where
   mounts-most : (p : ℕ) → p ≤ n → (p - lo) * s ≤ mountsCap
   mounts-most p h = mul-le-mul {n₂ = mostStrips} {m₂ = mountCap} (omega (arith, P .input .most-strips)) (P .input .most-mount)
 
@@ -32,12 +32,12 @@ module _ {rs sums late entry : List ℕ} {s n begin i lo : ℕ} (P : FillBlockPr
   pub block-at : begin + (n - lo) * s < 2 ^ 64
   block-at = omega (arith, mounts-most n (omega arith), P .most-begin)
 
-  pub block-start : BlockSoFar rs sums (set entry n 0) (set entry n 0) s n begin i lo n (begin + (n - lo) * s)
+  pub block-start : BlockSoFar rs sums weights (set entry n 0) (set entry n 0) s n begin i lo n (begin + (n - lo) * s)
   block-start = record {
     row-is = record {
       at = λ p h k.
           let e : p ≡ n = omega arith in
-          rw e (getD-set-same entry n 0 0 (P .row-long) ∙ sym (least-end (instanceIn rs sums s n) n _ (omega arith)));
+          rw e (getD-set-same entry n 0 0 (P .row-long) ∙ sym (least-end (instanceIn rs sums weights s n) n _ (omega arith)));
     };
     row-long = omega (arith, P .row-long, length-set entry n 0);
     len = refl;
@@ -48,7 +48,7 @@ module _ {rs sums late entry : List ℕ} {s n begin i lo : ℕ} (P : FillBlockPr
     to = omega arith;
   }
 
-  module _ {row₀ row : List ℕ} {p at : ℕ} (M : BlockSoFar rs sums row₀ row s n begin i lo p at) (h : lo < p) where
+  module _ {row₀ row : List ℕ} {p at : ℕ} (M : BlockSoFar rs sums weights row₀ row s n begin i lo p at) (h : lo < p) where
     mount : (p - 1 - lo) * s + s ≡ (p - lo) * s
     mount =
         let e : p - lo ≡ p - 1 - lo + 1 = omega arith in
@@ -57,7 +57,7 @@ module _ {rs sums late entry : List ℕ} {s n begin i lo : ℕ} (P : FillBlockPr
     pub block-sub : s ≤ at
     block-sub = omega (arith, mount, M .at-is)
 
-    pub block-row : FillRowPre rs sums late row s n (at - s) i (p - 1)
+    pub block-row : FillRowPre rs sums weights late row s n (at - s) i (p - 1)
     block-row =
         let e : at - s + s ≡ at = omega (arith, block-sub) in
         let f : p - 1 + 1 ≡ p = omega arith in record {
@@ -71,7 +71,7 @@ module _ {rs sums late entry : List ℕ} {s n begin i lo : ℕ} (P : FillBlockPr
           inside = omega (arith, M .to);
         }
 
-    pub block-step : {row₁ : List ℕ} → RowFilled rs sums row row₁ s n (at - s) i (p - 1) → BlockSoFar rs sums row₀ row₁ s n begin i lo (p - 1) (at - s)
+    pub block-step : {row₁ : List ℕ} → RowFilled rs sums weights row row₁ s n (at - s) i (p - 1) → BlockSoFar rs sums weights row₀ row₁ s n begin i lo (p - 1) (at - s)
     block-step R = record {
       row-is = R .row;
       row-long = omega (arith, M .row-long, R .len);
@@ -83,7 +83,7 @@ module _ {rs sums late entry : List ℕ} {s n begin i lo : ℕ} (P : FillBlockPr
       to = omega (arith, M .to);
     }
 
-  pub block-end : {row : List ℕ} {p at : ℕ} → BlockSoFar rs sums (set entry n 0) row s n begin i lo p at → p ≤ lo → RowFilled rs sums entry row s n begin i lo
+  pub block-end : {row : List ℕ} {p at : ℕ} → BlockSoFar rs sums weights (set entry n 0) row s n begin i lo p at → p ≤ lo → RowFilled rs sums weights entry row s n begin i lo
   block-end {p = p} {at = at} M h =
       let e : p ≡ lo = omega (arith, M .from) in
       let z : p - lo ≡ 0 = omega arith in

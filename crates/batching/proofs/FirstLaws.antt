@@ -6,11 +6,11 @@ use native.Mathlib.Omega.{arith}
 use lib.ListN.{length}
 use Rattle.batching.specs.Tables.{width, RowFilled, FillBlockPre, ChooseBatchPre, FirstBatchPre}
 
-module _ {rs sums late : List ℕ} {s n free i : ℕ} (P : FirstBatchPre rs sums late s n free i) where
+module _ {rs sums weights late : List ℕ} {s n free i : ℕ} (P : FirstBatchPre rs sums weights late s n free i) where
   pub first-begin : free + s < 2 ^ 64
   first-begin = omega (arith, P .most-free)
 
-  pub first-block : {row : List ℕ} → length row ≡ width → FillBlockPre rs sums late row s n (free + s) i (i + 1)
+  pub first-block : {row : List ℕ} → length row ≡ width → FillBlockPre rs sums weights late row s n (free + s) i (i + 1)
   first-block l = record {
     input = P .input;
     later = record { at = λ j q g k l. P .later .at j q (omega arith) k l };
@@ -21,7 +21,7 @@ module _ {rs sums late : List ℕ} {s n free i : ℕ} (P : FirstBatchPre rs sums
     most-begin = P .most-free;
   }
 
-  pub first-from : {row row₁ : List ℕ} → RowFilled rs sums row row₁ s n (free + s) i (i + 1) → length row ≡ width → ChooseBatchPre rs sums late row₁ s n free i
+  pub first-from : {row row₁ : List ℕ} → RowFilled rs sums weights row row₁ s n (free + s) i (i + 1) → length row ≡ width → ChooseBatchPre rs sums weights late row₁ s n free i
   first-from R l = record {
     input = P .input;
     ahead = record { row-at = λ p g k. R .row .at p (omega arith) k; late-at = λ q g k. P .later .at i q (omega arith) g k };

@@ -13,16 +13,16 @@ use Rattle.batching.specs.Tables.{instanceIn, ChooseBatchPre, First, Fil
 use Rattle.batching.specs.Recursion.{least-end}
 
 -- the entries lo .. p - 1 are done, those from p on are as they were
-pub record RowSoFar (rs sums row₀ row : List ℕ) (s n begin i lo p : ℕ) : Type 0 where
+pub record RowSoFar (rs sums weights row₀ row : List ℕ) (s n begin i lo p : ℕ) : Type 0 where
   pub from : lo ≤ p
   pub to : p ≤ n
   pub len : length row ≡ length row₀
-  pub done : (k : ℕ) → lo ≤ k → k < p → getD row k 0 ≡ leastAt (instanceIn rs sums s n) k (begin + (getD sums k 0 - getD sums i 0))
+  pub done : (k : ℕ) → lo ≤ k → k < p → getD row k 0 ≡ leastAt (instanceIn rs sums weights s n) k (begin + (getD sums k 0 - getD sums i 0))
   pub below : (k : ℕ) → k < lo → getD row k 0 ≡ getD row₀ k 0
   pub above : (k : ℕ) → p ≤ k → getD row k 0 ≡ getD row₀ k 0
 
-module _ {rs sums late row₀ : List ℕ} {s n begin i lo : ℕ} (P : FillRowPre rs sums late row₀ s n begin i lo) where
-  pub row-start : RowSoFar rs sums row₀ row₀ s n begin i lo lo
+module _ {rs sums weights late row₀ : List ℕ} {s n begin i lo : ℕ} (P : FillRowPre rs sums weights late row₀ s n begin i lo) where
+  pub row-start : RowSoFar rs sums weights row₀ row₀ s n begin i lo lo
   row-start = record {
     from = omega arith;
     to = omega (arith, P .inside);
@@ -32,7 +32,7 @@ module _ {rs sums late row₀ : List ℕ} {s n begin i lo : ℕ} (P : FillRowPre
     above = λ k h. refl;
   }
 
-  module _ {row : List ℕ} {p : ℕ} (M : RowSoFar rs sums row₀ row s n begin i lo p) (h : p < n) where
+  module _ {row : List ℕ} {p : ℕ} (M : RowSoFar rs sums weights row₀ row s n begin i lo p) (h : p < n) where
     pub row-sub : getD sums i 0 ≤ getD sums p 0
     row-sub = P .input .rise i p (omega (arith, P .from, M .from)) (omega arith)
 
@@ -46,12 +46,12 @@ module _ {rs sums late row₀ : List ℕ} {s n begin i lo : ℕ} (P : FillRowPre
         → begin + s + (getD sums k 0 - getD sums i 0) ≡ begin + (getD sums p 0 - getD sums i 0) + s + (getD sums k 0 - getD sums p 0)
     later-free k l e = omega (arith, row-sub, P .input .rise p k (omega arith) e)
 
-    pub row-from : ChooseBatchPre rs sums late row s n (begin + (getD sums p 0 - getD sums i 0)) p
+    pub row-from : ChooseBatchPre rs sums weights late row s n (begin + (getD sums p 0 - getD sums i 0)) p
     row-from = record {
       input = P .input;
       ahead = record {
         row-at = λ k l e.
-            M .above k (omega arith) ∙ P .next .at k (omega (arith, M .from)) e ∙ ap (λ (t : ℕ). leastAt (instanceIn rs sums s n) k t) (later-free k l e);
+            M .above k (omega arith) ∙ P .next .at k (omega (arith, M .from)) e ∙ ap (λ (t : ℕ). leastAt (instanceIn rs sums weights s n) k t) (later-free k l e);
         late-at = λ q l e. P .later .at p q (M .from) l e;
       };
       late-long = P .late-long;
@@ -60,8 +60,8 @@ module _ {rs sums late row₀ : List ℕ} {s n begin i lo : ℕ} (P : FillRowPre
       inside = h;
     }
 
-    pub row-step : {q least : ℕ} → First rs sums s n (begin + (getD sums p 0 - getD sums i 0)) p q least
-        → RowSoFar rs sums row₀ (set row p least) s n begin i lo (p + 1)
+    pub row-step : {q least : ℕ} → First rs sums weights s n (begin + (getD sums p 0 - getD sums i 0)) p q least
+        → RowSoFar rs sums weights row₀ (set row p least) s n begin i lo (p + 1)
     row-step {least = least} C = record {
       from = omega (arith, M .from);
       to = omega arith;
@@ -76,15 +76,15 @@ module _ {rs sums late row₀ : List ℕ} {s n begin i lo : ℕ} (P : FillRowPre
       above = λ k l. getD-set-other row p k least 0 (omega arith) ∙ M .above k (omega arith);
     }
 
-  pub row-end : {row : List ℕ} {p : ℕ} → RowSoFar rs sums row₀ row s n begin i lo p → n ≤ p → RowFilled rs sums row₀ row s n begin i lo
+  pub row-end : {row : List ℕ} {p : ℕ} → RowSoFar rs sums weights row₀ row s n begin i lo p → n ≤ p → RowFilled rs sums weights row₀ row s n begin i lo
   row-end {row} {p} M h = record {
     row = record {
       at = λ k l e. elim (decLt k p) [
         | yes y ↦ M .done k l y
         | no y ↦
             M .above k (omega arith) ∙ P .next .at k (omega (arith, P .inside)) e
-            ∙ least-end (instanceIn rs sums s n) k (begin + s + (getD sums k 0 - getD sums i 0)) (omega (arith, M .to))
-            ∙ sym (least-end (instanceIn rs sums s n) k (begin + (getD sums k 0 - getD sums i 0)) (omega (arith, M .to)))
+            ∙ least-end (instanceIn rs sums weights s n) k (begin + s + (getD sums k 0 - getD sums i 0)) (omega (arith, M .to))
+            ∙ sym (least-end (instanceIn rs sums weights s n) k (begin + (getD sums k 0 - getD sums i 0)) (omega (arith, M .to)))
       ];
     };
     len = M .len;

@@ -1,6 +1,6 @@
 -- What the times and figures of a section come to at most, each out of the limits of a sheet and of caps above it; so every sum stays within 64 bits.
 use Prim.Native.Nat.{ℕ, _+_, _*_}
-use Rattle.sheet.specs.Limits.{mostStrips, mostTime}
+use Rattle.sheet.specs.Limits.{mostStrips, mostTime, mostWeight}
 
 -- when a strip is ready: at a station its own time and those of the strips before it are over
 abbrev pub readyCap : ℕ
@@ -38,10 +38,14 @@ finishCap = freeCap + mountCap + benchCap
 abbrev pub endCap : ℕ
 endCap = finishCap + mountCap + benchCap
 
+-- the weights of all strips
+abbrev pub weightsCap : ℕ
+weightsCap = mostStrips * mostWeight
+
 -- the figure of a batch that is tried
 abbrev pub batchCap : ℕ
-batchCap = mostStrips * finishCap
+batchCap = weightsCap * finishCap
 
 -- the least figure of the strips after it: an entry of a row
 abbrev pub leastCap : ℕ
-leastCap = mostStrips * endCap
+leastCap = weightsCap * endCap

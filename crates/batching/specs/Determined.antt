@@ -12,7 +12,7 @@ use Rattle.rules.specs.declared.Batch.{Batch}
 use Rattle.batching.specs.Chosen.{batchOf}
 use Rattle.batching.specs.Tables.{width, Input, LateFilled, First}
 
-module _ {rs sums late a b : List ℕ} {s n : ℕ} (I : Input rs sums s n) (A : LateFilled rs sums late a s n) (B : LateFilled rs sums late b s n) where
+module _ {rs sums weights late a b : List ℕ} {s n : ℕ} (I : Input rs sums weights s n) (A : LateFilled rs sums weights late a s n) (B : LateFilled rs sums weights late b s n) where
   same-batch : (k i q : ℕ) → k ≡ width * i + q → i < q → q ≤ n → getD a k 0 ≡ getD b k 0
   same-batch k i q e h l = rw e (A .all .at i q (omega arith) h l ∙ sym (B .all .at i q (omega arith) h l))
 
@@ -35,6 +35,6 @@ module _ {rs sums late a b : List ℕ} {s n : ℕ} (I : Input rs sums s n) (A : 
   pub late-determined : a ≡ b
   late-determined = ext-getD 0 a b (A .len ∙ sym (B .len)) (λ k l. same-at k (k / 41) (k % 41) (omega arith) (omega arith))
 
-pub first-determined : {rs sums : List ℕ} {s n free i q r x y : ℕ} → First rs sums s n free i q x → First rs sums s n free i r y → (q ≡ r) × (x ≡ y)
+pub first-determined : {rs sums weights : List ℕ} {s n free i q r x y : ℕ} → First rs sums weights s n free i q x → First rs sums weights s n free i r y → (q ≡ r) × (x ≡ y)
 unfolding batchOf
 first-determined A B = (ap (λ (bs : List Batch). getD bs 0 noBatch .last) (sym (A .taken) ∙ B .taken), A .figure ∙ sym (B .figure))

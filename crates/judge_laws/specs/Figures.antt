@@ -16,7 +16,7 @@ use Rattle.running.specs.Running.{MosaicRunsUnder, MosaicRuns}
 use Rattle.rules.specs.declared.Batch.{Batch}
 use Rattle.rules.specs.declared.Job.{Job}
 use Rattle.rules_laws.specs.MosaicRunning.{runningFigure}
-use Rattle.rules_laws.specs.SortingRunning.{runningFinishes}
+use Rattle.rules_laws.specs.SortingRunning.{weightedFinishes}
 use Rattle.rules_laws.specs.Equivalent.{mosaic-figure, sorting-figure}
 use Rattle.judge_layout.specs.declared.Part.{Part}
 use Rattle.judge_members.specs.Members.{headForm, memberPlace, begun, afterBatch, afterStrip, afterMember, figureOf}
@@ -78,26 +78,26 @@ module _ (s : Sheet) (plan : List ℕ) (section : ℕ) where
 module _ (s : Sheet) (plan : List ℕ) (part : Part) where
   mosaic-runs : (n k : ℕ) (st : Progress) → AllFollow s plan 1 (part .head) n k st → advanced s plan 1 (part .head) n k st .before .last ≡ s .mosaic .strips
       → MosaicRuns (s .mosaic) (st .before) (batchesFrom plan (memberPlace 1 (part .head) k) n)
-      × (advanced s plan 1 (part .head) n k st .figure ≡ st .figure + runningFigure (st .before) (batchesFrom plan (memberPlace 1 (part .head) k) n))
+      × (advanced s plan 1 (part .head) n k st .figure ≡ st .figure + runningFigure (s .mosaic) (st .before) (batchesFrom plan (memberPlace 1 (part .head) k) n))
   unfolding advanced AllFollow MemberFollows afterMember afterBatch membersFrom runningFigure
   mosaic-runs zero k st a e = (MosaicRunsUnder.none e, omega arith)
   mosaic-runs (suc n) k st a e =
       let b = batchFrom plan (memberPlace 1 (part .head) k) in
-      let r = mosaic-runs n (k + 1) (afterBatch st b) (a .1) e in
+      let r = mosaic-runs n (k + 1) (afterBatch s st b) (a .1) e in
       subst
-      (λ (bs : List Batch). MosaicRuns (s .mosaic) (st .before) bs × (advanced s plan 1 (part .head) n (k + 1) (afterBatch st b) .figure ≡ st .figure + runningFigure (st .before) bs))
+      (λ (bs : List Batch). MosaicRuns (s .mosaic) (st .before) bs × (advanced s plan 1 (part .head) n (k + 1) (afterBatch s st b) .figure ≡ st .figure + runningFigure (s .mosaic) (st .before) bs))
       (sym (batches-more s plan part n k))
       (MosaicRunsUnder.more (a .0) (r .0), r .1 ∙ regroup _ _ _)
 
   sorting-sum : (n k : ℕ) (st : Progress)
-      → advanced s plan 2 (part .head) n k st .figure ≡ st .figure + runningFinishes (s .sorting) (jobsFrom plan (memberPlace 2 (part .head) k) n)
-  unfolding advanced afterMember afterStrip membersFrom runningFinishes
+      → advanced s plan 2 (part .head) n k st .figure ≡ st .figure + weightedFinishes (s .sorting) (jobsFrom plan (memberPlace 2 (part .head) k) n)
+  unfolding advanced afterMember afterStrip membersFrom weightedFinishes
   sorting-sum zero k st = omega arith
   sorting-sum (suc n) k st =
       let j = jobFrom plan (memberPlace 2 (part .head) k) in
       sorting-sum n (k + 1) (afterStrip s st j)
       ∙ regroup _ _ _
-      ∙ ap (λ (js : List Job). st .figure + runningFinishes (s .sorting) js) (sym (jobs-more s plan part n k))
+      ∙ ap (λ (js : List Job). st .figure + weightedFinishes (s .sorting) js) (sym (jobs-more s plan part n k))
 
 first-place : (section head : ℕ) → memberPlace section head 0 ≡ head + sizeOf (headForm section)
 unfolding memberPlace
@@ -116,7 +116,7 @@ module _ (s : Sheet) (plan : List ℕ) where
       let m = mosaic-runs s plan part (part .members) 0 begun (a .0) (ap (λ (x : Progress). x .before .last) (sym (a .1)) ∙ h) in
       ap (λ (x : Progress). x .figure) (a .1)
       ∙ m .1
-      ∙ from-none (runningFigure noBatch (batchesFrom plan (memberPlace 1 (part .head) 0) (part .members)))
+      ∙ from-none (runningFigure (s .mosaic) noBatch (batchesFrom plan (memberPlace 1 (part .head) 0) (part .members)))
       ∙ sym (mosaic-figure (s .mosaic) (batchesFrom plan (memberPlace 1 (part .head) 0) (part .members)) (m .0))
       ∙ ap (λ (at : ℕ). mosaicFigure (s .mosaic) (batchesFrom plan at (part .members))) (first-place 1 (part .head))
 
@@ -128,7 +128,7 @@ module _ (s : Sheet) (plan : List ℕ) where
       let a = reached-all s plan 2 r in
       ap (λ (x : Progress). x .figure) (a .1)
       ∙ sorting-sum s plan part (part .members) 0 begun
-      ∙ from-none (runningFinishes (s .sorting) (jobsFrom plan (memberPlace 2 (part .head) 0) (part .members)))
+      ∙ from-none (weightedFinishes (s .sorting) (jobsFrom plan (memberPlace 2 (part .head) 0) (part .members)))
       ∙ sym (sorting-figure (s .sorting) (jobsFrom plan (memberPlace 2 (part .head) 0) (part .members)))
       ∙ ap (λ (at : ℕ). sortingFigure (s .sorting) (jobsFrom plan at (part .members))) (first-place 2 (part .head))
 

@@ -17,7 +17,7 @@ use Rattle.judge_rules.specs.Follows.{blockFollows, passesInOrder, flightHead}
 use Rattle.judge_layout.specs.Layout.{mosaicPart, sortingPart, flightPart, verdict, layoutVerdict}
 use Rattle.judge_layout.specs.declared.Part.{Part}
 use Rattle.judge_layout.specs.declared.Verdict.{Verdict}
-use Rattle.judge_members.specs.Members.{present, begun, memberFollows, afterStrip, afterMember, headFollows, figureOf, headNumber, memberPlace}
+use Rattle.judge_members.specs.Members.{present, begun, memberFollows, afterBatch, afterStrip, afterMember, headFollows, figureOf, headNumber, memberPlace}
 use Rattle.judge_members.specs.declared.Progress.{Progress}
 use Rattle.judge.specs.Judged.{partAt, sectionFrom, sectionVerdict, sectionsFrom, statedFigure, turnedBack, found, concluded, judgedPlan, judged}
 
@@ -41,7 +41,7 @@ module _ (place eleven : ℕ) (s : Sheet) where
 
   section-placed : (left : ℕ) (plan : List ℕ) (section : ℕ) (part : Part) (k : ℕ) (st : Progress)
       → sectionFrom left (relocated place eleven s) plan section part k st ≡ sectionFrom left s plan section part k st
-  unfolding sectionFrom headNumber headFollows figureOf flightFigure passEnd passStart passTime memberFollows blockFollows secondDue afterMember afterStrip
+  unfolding sectionFrom headNumber headFollows figureOf flightFigure passEnd passStart passTime memberFollows blockFollows secondDue afterMember afterBatch afterStrip
   section-placed zero plan section part k st = rw (head-placed (part .members) _ _)
   section-placed (suc left) plan section part k st =
       ap

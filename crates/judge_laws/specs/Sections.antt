@@ -22,7 +22,7 @@ use Rattle.rules.specs.declared.Batch.{Batch}
 use Rattle.rules.specs.declared.Job.{Job}
 use Rattle.running.specs.declared.Desks.{Desks}
 use Rattle.rules_laws.specs.MosaicRunning.{runningFigure}
-use Rattle.rules_laws.specs.SortingRunning.{runningFinishes}
+use Rattle.rules_laws.specs.SortingRunning.{weightedFinishes}
 use Rattle.judge_rules.specs.Follows.{flightHead}
 use Rattle.judge_layout.specs.Layout.{verdict}
 use Rattle.judge_layout.specs.declared.Part.{Part}
@@ -97,7 +97,7 @@ module _ (s : Sheet) (plan : List ℕ) (part : Part) where
   -- a list of batches keeps the rules and has the figure that the head states
   pub record MosaicTrue (st : Progress) (bs : List Batch) : Type 0 where
     pub runs : MosaicRuns (s .mosaic) (st .before) bs
-    pub figure : figureFrom mosaicHeadForm plan (part .head) ≡ st .figure + runningFigure (st .before) bs
+    pub figure : figureFrom mosaicHeadForm plan (part .head) ≡ st .figure + runningFigure (s .mosaic) (st .before) bs
 
   pub batches-more : (n k : ℕ)
       → batchesFrom plan (memberPlace 1 (part .head) k) (suc n)
@@ -114,7 +114,7 @@ module _ (s : Sheet) (plan : List ℕ) (part : Part) where
   mosaic-judged (suc n) k st e =
       let h = member-judged s plan 1 part n k st e in
       let b = batchFrom plan (memberPlace 1 (part .head) k) in
-      let r = mosaic-judged n (k + 1) (afterBatch st b) (h .1) in
+      let r = mosaic-judged n (k + 1) (afterBatch s st b) (h .1) in
       subst (MosaicTrue st) (sym (batches-more n k))
       (record { runs = MosaicRunsUnder.more (true-batch (s .mosaic) (st .before) b (h .0)) (r .runs); figure = r .figure ∙ regroup _ _ _ })
 
@@ -127,13 +127,13 @@ module _ (s : Sheet) (plan : List ℕ) (part : Part) where
       let u = subst (MosaicTrue st) (batches-more n k) t in
       let f = first-batch (u .runs) in
       judged-member s plan 1 part n k st (batch-true (s .mosaic) (st .before) b (f .0))
-      (judged-mosaic n (k + 1) (afterBatch st b) (record { runs = f .1; figure = u .figure ∙ sym (regroup _ _ _) }))
+      (judged-mosaic n (k + 1) (afterBatch s st b) (record { runs = f .1; figure = u .figure ∙ sym (regroup _ _ _) }))
 
 -- The sorting.
 module _ (s : Sheet) (plan : List ℕ) (part : Part) where
   pub record SortingTrue (st : Progress) (js : List Job) : Type 0 where
     pub runs : SortingRuns (s .sorting) (st .desks) js
-    pub figure : figureFrom sortingHeadForm plan (part .head) ≡ st .figure + runningFinishes (s .sorting) js
+    pub figure : figureFrom sortingHeadForm plan (part .head) ≡ st .figure + weightedFinishes (s .sorting) js
 
   pub jobs-more : (n k : ℕ)
       → jobsFrom plan (memberPlace 2 (part .head) k) (suc n)
@@ -143,7 +143,7 @@ module _ (s : Sheet) (plan : List ℕ) (part : Part) where
 
   pub sorting-judged : (n k : ℕ) (st : Progress) → sectionFrom n s plan 2 part k st .number ≡ 0
       → SortingTrue st (jobsFrom plan (memberPlace 2 (part .head) k) n)
-  unfolding membersFrom runningFinishes headForm headFollows figureOf memberFollows afterMember afterStrip
+  unfolding membersFrom weightedFinishes headForm headFollows figureOf memberFollows afterMember afterStrip
   sorting-judged zero k st e =
       let h = head-judged s plan 2 part k st e in
       record { runs = SortingRuns.none (true-done (s .sorting) (st .desks) (h .0)); figure = h .1 ∙ omega arith }
@@ -156,7 +156,7 @@ module _ (s : Sheet) (plan : List ℕ) (part : Part) where
 
   pub judged-sorting : (n k : ℕ) (st : Progress) → SortingTrue st (jobsFrom plan (memberPlace 2 (part .head) k) n)
       → sectionFrom n s plan 2 part k st .number ≡ 0
-  unfolding membersFrom runningFinishes headForm headFollows figureOf memberFollows afterMember afterStrip
+  unfolding membersFrom weightedFinishes headForm headFollows figureOf memberFollows afterMember afterStrip
   judged-sorting zero k st t = judged-head s plan 2 part k st (done-true (s .sorting) (st .desks) (no-job (t .runs))) (t .figure ∙ omega arith)
   judged-sorting (suc n) k st t =
       let j = jobFrom plan (memberPlace 2 (part .head) k) in

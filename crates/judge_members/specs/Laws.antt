@@ -3,24 +3,25 @@ use Prim.Native.Nat.{ℕ, zero, suc, _+_, _-_, _*_, _^_, _≤_, _<_}
 use mathlib.Core.Path.{_≡_, refl, sym, ap, _∙_}
 use mathlib.Core.Bool.{Bool, true, false, not, cond, _&&_}
 use mathlib.Core.List.{List, _∷_, []}
-use native.Mathlib.Nat.{mul-le-mul-left}
+use native.Mathlib.Nat.{mul-le-mul}
 use native.Mathlib.Omega.{arith}
 use lib.ListN.{length, getD, set, length-set}
 use lib.Dec.{ltb, leb, eqb}
 use borrow.Author.Tests.{eq-eqb, ne-eqb, eqb-true, ltb-true, leb-true, not-true, not-false}
 use Rattle.base.specs.Branch.{both, check}
-use Rattle.sheet.specs.Limits.{mostStrips, mostDesks, mostStripsOfDesk, mostBlocks, ceiling}
+use Rattle.base.specs.SumLaws.{after-most}
+use Rattle.sheet.specs.Limits.{mostWeight, mostStrips, mostDesks, mostStripsOfDesk, mostBlocks, ceiling}
 use Rattle.sheet.specs.Refusals.{ruleBroken, figureUntrue}
-use Rattle.sheet.specs.Sound.{SheetSound, stripsInAll}
+use Rattle.sheet.specs.Sound.{MosaicSound, SortingSound, SheetSound, stripsInAll}
 use Rattle.sheet.specs.Stores.{set-here, set-there, set-most}
 use Rattle.sheet.specs.declared.Sheet.{Sheet}
 use Rattle.rules.specs.Mosaic.{noBatch}
-use Rattle.rules.specs.Sorting.{stripsOf, deskFinish, deskTime}
+use Rattle.rules.specs.Sorting.{stripsOf, slot, jobWeight, deskFinish, deskTime}
 use Rattle.rules.specs.Flight.{flightFigure}
 use Rattle.plan_format.specs.Format.{sizeOf, mosaicHeadForm, batchForm, sortingHeadForm, jobForm, flightHeadForm, passesForm}
 use Rattle.plan_read.specs.PlanRead.{figureFrom, orderFrom, batchFrom, jobFrom, passesFrom, blocksFrom, BatchRead, JobRead, PassesRead}
-use Rattle.running.specs.Running.{freeDesks, afterJob}
-use Rattle.running.specs.FunctionLaws.{TimeTold}
+use Rattle.running.specs.Running.{batchWeight, freeDesks, afterJob}
+use Rattle.running.specs.FunctionLaws.{TimeTold, WeightTold, JobWeightTold}
 use Rattle.rules.specs.declared.Batch.{Batch}
 use Rattle.rules.specs.declared.Job.{Job}
 use Rattle.rules.specs.declared.Passes.{Passes}
@@ -33,11 +34,15 @@ use Rattle.judge_members.specs.Members.{present, headForm, memberForm, m
 use Rattle.judge_members.specs.Members.{headFollows, figureOf, headNumber}
 use Rattle.judge_members.specs.declared.Progress.{Progress}
 
--- what holds as members are judged: the figure so far is within the ceiling for each strip judged
+-- the most that one strip adds to a figure: the greatest weight times the ceiling
+abbrev pub mostOfStrip : ℕ
+mostOfStrip = mostWeight * ceiling
+
+-- what holds as members are judged: each strip judged has added no more than that
 pub record Kept (p : Progress) : Type 0 where
   pub desks : DesksFit (p .desks)
   pub most-last : p .before .last ≤ mostStrips
-  pub most-figure : p .figure ≤ (p .before .last + getD (p .desks .done) 0 0 + getD (p .desks .done) 1 0 + getD (p .desks .done) 2 0) * ceiling
+  pub most-figure : p .figure ≤ (p .before .last + getD (p .desks .done) 0 0 + getD (p .desks .done) 1 0 + getD (p .desks .done) 2 0) * mostOfStrip
 
 pub record MemberPlacePre (section head k : ℕ) : Type 0 where
   pub room : memberPlace section head k < 2 ^ 64
@@ -51,7 +56,8 @@ pub record AfterMemberPre (s : Sheet) (plan : List ℕ) (section place : ℕ) (p
   pub index : ℕ
   pub follows : memberFollows s plan section index place p ≡ true
 
-pub record AfterBatchPre (p : Progress) (b : Batch) : Type 0 where
+pub record AfterBatchPre (s : Sheet) (p : Progress) (b : Batch) : Type 0 where
+  pub sound : MosaicSound (s .mosaic)
   pub kept : Kept p
   pub rises : p .before .last ≤ b .last
   pub most-last : b .last ≤ mostStrips
@@ -202,11 +208,11 @@ job-facts s p j e =
     (leb-true _ _ (t .0), leb-true _ _ (u .0), eqb-true _ _ (v .0), leb-true _ _ (v .1), job-within _ _ _ _ _ _ (x .1))
 
 module _ (s : Sheet) (plan : List ℕ) (section place : ℕ) (p : Progress) (a : AfterMemberPre s plan section place p) where
-  pub after-batch-asked : (b : Batch) → section ≡ 1 → BatchRead plan place b → AfterBatchPre p b
+  pub after-batch-asked : (b : Batch) → section ≡ 1 → BatchRead plan place b → AfterBatchPre s p b
   unfolding memberFollows
   after-batch-asked b e t =
       let f = batch-facts s p b (rw (t .is) (rw e at (a .follows))) in
-      record { kept = a .asked .kept; rises = omega (arith, f .0); most-last = omega (arith, f .1, a .asked .sound .mosaic .most-strips); within = f .2 }
+      record { sound = a .asked .sound .mosaic; kept = a .asked .kept; rises = omega (arith, f .0); most-last = omega (arith, f .1, a .asked .sound .mosaic .most-strips); within = f .2 }
 
   pub after-strip-asked : (j : Job) → section ≡ 2 → JobRead plan place j → AfterStripPre s p j
   unfolding memberFollows stripsOf
@@ -227,7 +233,7 @@ module _ (s : Sheet) (plan : List ℕ) (section place : ℕ) (p : Progress) (a :
         within = f .4;
       }
 
-  pub after-mosaic : (b : Batch) (r : Progress) → section ≡ 1 → BatchRead plan place b → r ≡ afterBatch p b → r ≡ afterMember s plan section place p
+  pub after-mosaic : (b : Batch) (r : Progress) → section ≡ 1 → BatchRead plan place b → r ≡ afterBatch s p b → r ≡ afterMember s plan section place p
   unfolding afterMember
   after-mosaic b r e t h = h ∙ rw (e, t .is)
 
@@ -239,45 +245,50 @@ module _ (s : Sheet) (plan : List ℕ) (section place : ℕ) (p : Progress) (a :
   unfolding afterMember
   after-flight h₁ h₂ = rw (ne-eqb _ _ h₁, ne-eqb _ _ h₂)
 
-product-most : (x y : ℕ) → y ≤ ceiling → x * y ≤ x * ceiling
-product-most x y h = mul-le-mul-left x h
-
 sums-few : (d : Desks) → DesksFit d → getD (d .done) 0 0 + getD (d .done) 1 0 + getD (d .done) 2 0 ≤ mostDesks * mostStripsOfDesk
 sums-few d f = omega (arith, f .most-done 0, f .most-done 1, f .most-done 2)
 
-module _ (p : Progress) (b : Batch) (a : AfterBatchPre p b) where
-  most : (b .last - p .before .last) * b .finish ≤ (b .last - p .before .last) * ceiling
-  most = product-most (b .last - p .before .last) (b .finish) (a .within)
+module _ (s : Sheet) (p : Progress) (b : Batch) (a : AfterBatchPre s p b) where
+  module _ (weight : ℕ) (t : WeightTold (s .mosaic) (p .before .last) (b .last) weight) where
+    most : weight * b .finish ≤ (b .last - p .before .last) * mostOfStrip
+    most = omega (arith, mul-le-mul (t .fits) (a .within))
 
-  pub completions-fit : (b .last - p .before .last) * b .finish < 2 ^ 64
-  completions-fit = let l = a .most-last in omega (arith, most)
+    pub completions-fit : weight * b .finish < 2 ^ 64
+    completions-fit = let l = a .most-last in omega (arith, most)
 
-  pub figure-fits : p .figure + (b .last - p .before .last) * b .finish < 2 ^ 64
-  figure-fits = let l = a .most-last in let m = a .kept .most-last in omega (arith, most, a .kept .most-figure, sums-few (p .desks) (a .kept .desks))
+    pub figure-fits : p .figure + weight * b .finish < 2 ^ 64
+    figure-fits = let l = a .most-last in let m = a .kept .most-last in omega (arith, most, a .kept .most-figure, sums-few (p .desks) (a .kept .desks))
 
-  pub after-batch-is : _≡_ {A = Progress} (record { before = b; desks = p .desks; figure = p .figure + (b .last - p .before .last) * b .finish })
-      (afterBatch p b)
-  unfolding afterBatch
-  after-batch-is = refl
+    pub after-batch-is : _≡_ {A = Progress} (record { before = b; desks = p .desks; figure = p .figure + weight * b .finish }) (afterBatch s p b)
+    unfolding afterBatch
+    after-batch-is = rw (t .is)
 
-  pub batch-kept : Kept (afterBatch p b)
-  unfolding afterBatch
+  pub batch-kept : Kept (afterBatch s p b)
+  unfolding afterBatch batchWeight
   batch-kept =
       let k = a .kept .most-figure in
       let l = a .most-last in
       let r = a .rises in
-      record { desks = a .kept .desks; most-last = a .most-last; most-figure = omega (arith, most) }
+      let w = after-most (s .mosaic .weight) mostWeight (a .sound .most-weight) (p .before .last) (b .last - p .before .last) in
+      let added = most (batchWeight (s .mosaic) (p .before .last) (b .last)) (record { is = refl; fits = w }) in
+      record { desks = a .kept .desks; most-last = a .most-last; most-figure = omega (arith, added) }
 
 module _ (s : Sheet) (p : Progress) (j : Job) (a : AfterStripPre s p j) where
-  pub strip-figure-fits : (time : ℕ) → TimeTold (deskTime (s .sorting) j) time → p .figure + (j .start + time) < 2 ^ 64
-  strip-figure-fits time t =
-      let l = a .kept .most-last in
-      omega (arith, a .taken .asked .fits .start, t .fits, a .kept .most-figure, sums-few (p .desks) (a .kept .desks))
+  module _ (time weight : ℕ) (t : TimeTold (deskTime (s .sorting) j) time) (w : JobWeightTold (s .sorting) j weight) where
+    added : weight * (j .start + time) ≤ mostOfStrip
+    unfolding deskFinish
+    added = let h : j .start + time ≤ ceiling = omega (arith, t .is, a .within) in mul-le-mul (w .fits) h
 
-  pub after-strip-is : (time : ℕ) (d : Desks) → TimeTold (deskTime (s .sorting) j) time → d ≡ afterJob (s .sorting) (p .desks) j
-      → _≡_ {A = Progress} (record { before = p .before; desks = d; figure = p .figure + (j .start + time) }) (afterStrip s p j)
-  unfolding afterStrip deskFinish
-  after-strip-is time d t e = rw (e, t .is)
+    pub strip-completion-fits : weight * (j .start + time) < 2 ^ 64
+    strip-completion-fits = omega (arith, added)
+
+    pub strip-figure-fits : p .figure + weight * (j .start + time) < 2 ^ 64
+    strip-figure-fits = let l = a .kept .most-last in omega (arith, added, a .kept .most-figure, sums-few (p .desks) (a .kept .desks))
+
+    pub after-strip-is : (d : Desks) → d ≡ afterJob (s .sorting) (p .desks) j
+        → _≡_ {A = Progress} (record { before = p .before; desks = d; figure = p .figure + weight * (j .start + time) }) (afterStrip s p j)
+    unfolding afterStrip deskFinish
+    after-strip-is d e = rw (e, t .is, w .is)
 
 -- one strip more is done
 one-more : (l : List ℕ) (d n : ℕ) → length l ≡ 3 → d < 3 → n ≡ getD l d 0 + 1
@@ -290,12 +301,13 @@ one-more l (suc (suc zero)) n long h e =
     omega (arith, set-there l 2 0 n (λ q. omega arith), set-there l 2 1 n (λ q. omega arith), set-here l 2 2 n (omega arith) refl)
 one-more l (suc (suc (suc d))) n long h e = absurd (omega arith)
 
-strip-kept : (s : Sheet) (p : Progress) (j : Job) → Kept p → 1 ≤ j .desk → j .desk ≤ mostDesks → j .number ≡ getD (p .desks .done) (j .desk - 1) 0 + 1
+strip-kept : (s : Sheet) (p : Progress) (j : Job) → SortingSound (s .sorting) → Kept p → 1 ≤ j .desk → j .desk ≤ mostDesks → j .number ≡ getD (p .desks .done) (j .desk - 1) 0 + 1
     → j .number ≤ mostStripsOfDesk → deskFinish (s .sorting) j ≤ ceiling → Kept (afterStrip s p j)
-unfolding afterStrip afterJob
-strip-kept s p j k least most turn few within =
+unfolding afterStrip afterJob jobWeight
+strip-kept s p j sound k least most turn few within =
     let f = k .most-figure in
     let D = k .desks in
+    let added = mul-le-mul (sound .most-weight (slot (j .desk) (j .number))) within in
     record {
       desks =
           record {
@@ -304,7 +316,7 @@ strip-kept s p j k least most turn few within =
             most-done = set-most (p .desks .done) mostStripsOfDesk (j .desk - 1) (j .number) (D .most-done) few;
           };
       most-last = k .most-last;
-      most-figure = omega (arith, one-more (p .desks .done) (j .desk - 1) (j .number) (D .done-length) (omega arith) turn);
+      most-figure = omega (arith, one-more (p .desks .done) (j .desk - 1) (j .number) (D .done-length) (omega arith) turn, added);
     }
 
 strips-within : (s : Sheet) (desk : ℕ) → SheetSound s → stripsOf (s .sorting) desk ≤ mostStripsOfDesk
@@ -321,14 +333,20 @@ member-kept s plan section k place p sound kept e = by-section (eqb section 1) (
         → cond x (batchFollows (s .mosaic) (p .before) (batchFrom plan place))
         (cond y (jobFollows (s .sorting) (p .desks) (jobFrom plan place)) (blockFollows (s .flight) k (passesFrom plan place)))
         ≡ true
-        → Kept (cond x (afterBatch p (batchFrom plan place)) (cond y (afterStrip s p (jobFrom plan place)) p))
+        → Kept (cond x (afterBatch s p (batchFrom plan place)) (cond y (afterStrip s p (jobFrom plan place)) p))
     by-section true y h =
         let f = batch-facts s p (batchFrom plan place) h in
-        batch-kept p (batchFrom plan place)
-        (record { kept = kept; rises = omega (arith, f .0); most-last = omega (arith, f .1, sound .mosaic .most-strips); within = f .2 })
+        batch-kept s p (batchFrom plan place)
+        (record {
+          sound = sound .mosaic;
+          kept = kept;
+          rises = omega (arith, f .0);
+          most-last = omega (arith, f .1, sound .mosaic .most-strips);
+          within = f .2;
+        })
     by-section false true h =
         let f = job-facts s p (jobFrom plan place) h in
-        strip-kept s p (jobFrom plan place) kept (f .0) (omega (arith, f .1, sound .sorting .most-desks)) (f .2)
+        strip-kept s p (jobFrom plan place) (sound .sorting) kept (f .0) (omega (arith, f .1, sound .sorting .most-desks)) (f .2)
         (omega (arith, f .3, strips-within s (jobFrom plan place .desk) sound)) (f .4)
     by-section false false h = kept
 

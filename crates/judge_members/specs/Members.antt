@@ -1,5 +1,5 @@
 -- The members of a plan's section, one after another, and what is checked at its head (01, the end of "Turned back").
-use Prim.Native.Nat.{ℕ, _+_, _-_, _*_}
+use Prim.Native.Nat.{ℕ, _+_, _*_}
 use mathlib.Core.Bool.{Bool, cond}
 use mathlib.Core.List.{List}
 use lib.Dec.{ltb, eqb}
@@ -9,10 +9,10 @@ use Rattle.sheet.specs.Sound.{stripsInAll}
 use Rattle.sheet.specs.declared.Sheet.{Sheet}
 use Rattle.plan_format.specs.Format.{Form, sizeOf, mosaicHeadForm, batchForm, sortingHeadForm, jobForm, flightHeadForm, passesForm}
 use Rattle.rules.specs.Mosaic.{noBatch}
-use Rattle.rules.specs.Sorting.{deskFinish}
+use Rattle.rules.specs.Sorting.{jobWeight, deskFinish}
 use Rattle.rules.specs.Flight.{flightFigure}
 use Rattle.plan_read.specs.PlanRead.{figureFrom, orderFrom, batchFrom, jobFrom, passesFrom, blocksFrom}
-use Rattle.running.specs.Running.{freeDesks, afterJob}
+use Rattle.running.specs.Running.{batchWeight, freeDesks, afterJob}
 use Rattle.rules.specs.declared.Batch.{Batch}
 use Rattle.rules.specs.declared.Job.{Job}
 use Rattle.judge_rules.specs.Follows.{batchFollows, jobFollows, blockFollows, allDone, flightHead}
@@ -47,16 +47,22 @@ memberFollows s plan section k place st =
     (cond (eqb section 2) (jobFollows (s .sorting) (st .desks) (jobFrom plan place))
     (blockFollows (s .flight) k (passesFrom plan place)))
 
--- a strip is complete when its batch finishes; the figure of a sorting adds up its desks' finishing times
-unfoldable pub afterBatch : Progress → Batch → Progress
-afterBatch st b = record { before = b; desks = st .desks; figure = st .figure + (b .last - st .before .last) * b .finish }
+-- a strip is complete when its batch finishes, and in a sorting when its desk does; the figure adds up "weight × completion" (02, Req 09)
+unfoldable pub afterBatch : Sheet → Progress → Batch → Progress
+afterBatch s st b =
+    record { before = b; desks = st .desks; figure = st .figure + batchWeight (s .mosaic) (st .before .last) (b .last) * b .finish }
 
 unfoldable pub afterStrip : Sheet → Progress → Job → Progress
-afterStrip s st j = record { before = st .before; desks = afterJob (s .sorting) (st .desks) j; figure = st .figure + deskFinish (s .sorting) j }
+afterStrip s st j =
+    record {
+      before = st .before;
+      desks = afterJob (s .sorting) (st .desks) j;
+      figure = st .figure + jobWeight (s .sorting) j * deskFinish (s .sorting) j;
+    }
 
 unfoldable pub afterMember : Sheet → List ℕ → ℕ → ℕ → Progress → Progress
 afterMember s plan section place st =
-    cond (eqb section 1) (afterBatch st (batchFrom plan place))
+    cond (eqb section 1) (afterBatch s st (batchFrom plan place))
     (cond (eqb section 2) (afterStrip s st (jobFrom plan place))
     st)
 

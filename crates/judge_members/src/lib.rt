@@ -23,7 +23,9 @@ use plan_read::sorting_figure_from;
 use rules::Batch;
 use rules::Job;
 use running::Desks;
+use running::mosaic::batch_weight;
 use running::sorting::desk_time;
+use running::sorting::job_weight;
 use sheet::Sheet;
 use sheet::desks::strips_in_all;
 use sheet::numbers::FIGURE_UNTRUE;
@@ -138,16 +140,18 @@ pub fn member_follows(
     block_follows(f, k, passes_from(plan, place))
 }
 
-fn after_batch(progress: Progress, b: Batch) -> Progress
-    requires { ⌜ AfterBatchPre progress b ⌝ }
-    ensures { λ r. ⌜ r ≡ afterBatch progress b ⌝ }
+fn after_batch(s: Sheet, progress: Progress, b: Batch) -> Progress
+    requires { ⌜ AfterBatchPre s progress b ⌝ }
+    ensures { λ r. ⌜ r ≡ afterBatch s progress b ⌝ }
 {
+    let m = s.mosaic;
+    let before = progress.before;
     let desks = progress.desks;
-    let strips = b.last - progress.before.last;
+    let weight = batch_weight(m, before, b);
     Progress {
         before: b,
         desks,
-        figure: progress.figure + strips * b.finish,
+        figure: progress.figure + weight * b.finish,
     }
 }
 
@@ -159,10 +163,11 @@ fn after_strip(s: Sheet, progress: Progress, j: Job) -> Progress
     let before = progress.before;
     let desks = progress.desks;
     let finish = j.start + desk_time(t, j);
+    let weight = job_weight(t, j);
     Progress {
         before,
         desks: after_job(t, desks, j),
-        figure: progress.figure + finish,
+        figure: progress.figure + weight * finish,
     }
 }
 
@@ -178,7 +183,7 @@ pub fn after_member(
     ensures { λ r. ⌜ r ≡ afterMember s (now (plan .entry)) section place progress ⌝ }
 {
     if section == 1 {
-        return after_batch(progress, batch_from(plan, place));
+        return after_batch(s, progress, batch_from(plan, place));
     }
     if section == 2 {
         return after_strip(s, progress, job_from(plan, place));

@@ -20,27 +20,27 @@ pub record Sized (plan : MosaicPlan) : Type 0 where
   pub finish : length (plan .finish) ≡ mostStrips
 
 -- what `add_batch` asks, and does
-pub record AddBatchPre (plan : MosaicPlan) (count finish : ℕ) : Type 0 where
+pub record AddBatchPre (plan : MosaicPlan) (weight finish : ℕ) : Type 0 where
   pub sized : Sized plan
   pub few : plan .batches < mostStrips
-  pub fits : plan .figure + count * finish < 2 ^ 64
+  pub fits : plan .figure + weight * finish < 2 ^ 64
 
-pub record Added (plan : MosaicPlan) (count last start finish : ℕ) (more : MosaicPlan) : Type 0 where
+pub record Added (plan : MosaicPlan) (weight last start finish : ℕ) (more : MosaicPlan) : Type 0 where
   pub sized : Sized more
-  pub figure : more .figure ≡ plan .figure + count * finish
+  pub figure : more .figure ≡ plan .figure + weight * finish
   pub one-more : more .batches ≡ plan .batches + 1
   pub batches : batchesOf more ≡ batchesOf plan ++ (record { last = last; start = start; finish = finish } ∷ [])
   pub no-more : NoMore plan → NoMore more
 
 -- what `choose_batches` asks, and does
-pub record ChooseBatchesPre (rs sums late : List ℕ) (s n : ℕ) : Type 0 where
-  pub input : Input rs sums s n
-  pub all : LateFrom rs sums late s n 0
+pub record ChooseBatchesPre (rs sums weights late : List ℕ) (s n : ℕ) : Type 0 where
+  pub input : Input rs sums weights s n
+  pub all : LateFrom rs sums weights late s n 0
   pub late-long : lateLength ≤ length late
 
-pub record BatchesTaken (rs sums : List ℕ) (s n : ℕ) (plan : MosaicPlan) : Type 0 where
-  pub figure : plan .figure ≡ leastAt (instanceIn rs sums s n) 0 0
-  pub batches : batchesOf plan ≡ chosenAt (instanceIn rs sums s n) 0 0
+pub record BatchesTaken (rs sums weights : List ℕ) (s n : ℕ) (plan : MosaicPlan) : Type 0 where
+  pub figure : plan .figure ≡ leastAt (instanceIn rs sums weights s n) 0 0
+  pub batches : batchesOf plan ≡ chosenAt (instanceIn rs sums weights s n) 0 0
   pub no-more : NoMore plan
 
 -- what `ready_times` gives: every entry

@@ -6,7 +6,7 @@ use Prim.Native.Nat.{ℕ, _*_, _-_, _≤_, _<_}
 use native.Mathlib.Omega.{arith}
 use Rattle.base.specs.LeastFigure.{NoLarger}
 use lib.ListN.{length, getD}
-use Rattle.sheet.specs.Limits.{mostStrips}
+use Rattle.sheet.specs.Limits.{mostStrips, mostWeight}
 use Rattle.sheet.specs.Sound.{MosaicSound}
 use Rattle.sheet.specs.declared.MosaicSection.{MosaicSection}
 use Rattle.rules.specs.declared.Batch.{Batch}
@@ -71,8 +71,8 @@ module _ (m : MosaicSection) (S : MosaicSound m) where
   unfolding batchAt
   mosaic-finishes i h = omega (arith, finish-at (latest (m .strips)) (chosenBatches m) (attained m S .finishes) i h, S .most-strips)
 
-  -- it has room in four bytes
-  pub mosaic-figure-most : leastFigure m ≤ mostStrips * latest mostStrips
+  -- it has room in eight bytes
+  pub mosaic-figure-most : leastFigure m ≤ mostStrips * mostWeight * latest mostStrips
   mosaic-figure-most = rw (least-is m) (figure-most S)
 
   pub mosaic-count : length (chosenBatches m) ≤ m .strips

@@ -1,4 +1,4 @@
-// The planner of the mosaic: the least sum of completions over all batchings, and a batching that has it. In the literature: batching on one machine with
+// The planner of the mosaic: the least sum of weighted completions over all batchings, and a batching that has it. In the literature: batching on one machine with
 // an anticipatory setup for each batch, where a strip's ready time is its release date.
 ghost use Rattle.sheet.specs.Sound.{MosaicSound};
 ghost use Rattle.mosaic.specs.Plan.{Planned};
@@ -28,7 +28,9 @@ pub fn plan_mosaic(m: MosaicSection) -> MosaicPlan
     let rs = ready::ready_times(m);
     let bench = m.bench;
     let sums = ready::prefix_sums(&bench);
+    let weight = m.weight;
+    let weights = ready::prefix_sums(&weight);
     let mut late = [0u64; batching::LATE_LENGTH];
-    batching::fill_late(&rs, &sums, &mut late, s, n);
-    batches::choose_batches(&rs, &sums, &late, s, n)
+    batching::fill_late(&rs, &sums, &weights, &mut late, s, n);
+    batches::choose_batches(&rs, &sums, &weights, &late, s, n)
 }

@@ -11,17 +11,17 @@ pub record Form : Type 0 where
   pub tag : ℕ
   pub widths : List ℕ
 
--- "90: mosaic figure (4 bytes)"
+-- "90: mosaic figure (4 bytes)"; 02, Req 09: "Mosaic and sorting figures take eight bytes in the plan"
 abbrev pub mosaicHeadForm : Form
-mosaicHeadForm = record { tag = planMosaicTag; widths = 4 ∷ [] }
+mosaicHeadForm = record { tag = planMosaicTag; widths = 8 ∷ [] }
 
 -- "91 per batch: number of its last strip (1 byte), mount start, finish (4 bytes each)"
 abbrev pub batchForm : Form
 batchForm = record { tag = planBatchTag; widths = 1 ∷ 4 ∷ 4 ∷ [] }
 
--- "A0: sorting figure (4)"
+-- "A0: sorting figure (4)", since Req 09 in eight bytes too
 abbrev pub sortingHeadForm : Form
-sortingHeadForm = record { tag = planSortingTag; widths = 4 ∷ [] }
+sortingHeadForm = record { tag = planSortingTag; widths = 8 ∷ [] }
 
 -- "A1 per strip in scanner order: desk, number within the desk (1 byte each), scan start, desk start (4 each)"
 abbrev pub jobForm : Form

@@ -10,8 +10,8 @@ pub const NUMBER_WIDTH: usize = 1;
 // A start or a finish.
 pub const TIME_WIDTH: usize = 4;
 
-// The figure of a mosaic or of a sorting.
-pub const FIGURE_WIDTH: usize = 4;
+// The figure of a mosaic or of a sorting (02, Req 09).
+pub const FIGURE_WIDTH: usize = 8;
 
 pub const FLIGHT_FIGURE_WIDTH: usize = 4;
 

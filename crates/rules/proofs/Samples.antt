@@ -99,27 +99,37 @@ tested t (passes c) e =
     let w = both (not (obeys ceiling t)) (obeys c t) e in
     (obeys-decided ceiling t .fails (none (obeys ceiling t) (w .0)), obeys-decided c t .holds (w .1))
 
--- two stations, mount time 1, strips (2,1;1) (1,3;3) (4,2;2) (1,3;1), ready at 2, 4, 7, 9
-abbrev fourStrips : MosaicSection
-fourStrips = record {
+-- two stations, mount time 1, strips (2,1;1) (1,3;3) (4,2;2) (1,3;1), ready at 2, 4, 7, 9, with their weights
+abbrev weightedStrips : List ℕ → MosaicSection
+weightedStrips weight = record {
   stations = 2;
   mount = 1;
   strips = 4;
   station = 2 ∷ 1 ∷ 0 ∷ 0 ∷ 1 ∷ 3 ∷ 0 ∷ 0 ∷ 4 ∷ 2 ∷ 0 ∷ 0 ∷ 1 ∷ 3 ∷ 0 ∷ 0 ∷ [] ++ replicate 144 0;
   bench = 1 ∷ 3 ∷ 2 ∷ 1 ∷ [] ++ replicate 36 0;
+  weight = weight ++ replicate 36 0;
 }
+
+-- the same without weights
+abbrev fourStrips : MosaicSection
+fourStrips = weightedStrips (1 ∷ 1 ∷ 1 ∷ 1 ∷ [])
 
 abbrev batch : ℕ → ℕ → ℕ → Batch
 batch last start finish = record { last = last; start = start; finish = finish }
 
--- two desks with one strip each: its scan time and its desk time
-abbrev twoDesks : ℕ → ℕ → ℕ → ℕ → SortingSection
-twoDesks scan desk scan₂ desk₂ = record {
+-- two desks with one strip each: its weight, its scan time and its desk time
+abbrev weightedDesks : ℕ → ℕ → ℕ → ℕ → ℕ → ℕ → SortingSection
+weightedDesks weight scan desk weight₂ scan₂ desk₂ = record {
   desks = 2;
   counts = 1 ∷ 1 ∷ 0 ∷ [];
   scan = scan ∷ 0 ∷ 0 ∷ 0 ∷ 0 ∷ 0 ∷ scan₂ ∷ [] ++ replicate 11 0;
   desk = desk ∷ 0 ∷ 0 ∷ 0 ∷ 0 ∷ 0 ∷ desk₂ ∷ [] ++ replicate 11 0;
+  weight = weight ∷ 0 ∷ 0 ∷ 0 ∷ 0 ∷ 0 ∷ weight₂ ∷ [] ++ replicate 11 0;
 }
+
+-- the same without weights
+abbrev twoDesks : ℕ → ℕ → ℕ → ℕ → SortingSection
+twoDesks scan desk scan₂ desk₂ = weightedDesks 1 scan desk 1 scan₂ desk₂
 
 -- the only strip of a desk, with its scan start and its desk start
 abbrev strip : ℕ → ℕ → ℕ → Job
@@ -175,6 +185,9 @@ samples =
     -- a finish at the ceiling, and one past it
     ∷ row (ofMosaic fourStrips (batch 4 9_999_992 10_000_000 ∷ [])) (lawful 40_000_000)
     ∷ row (ofMosaic fourStrips (batch 4 9_999_993 10_000_001 ∷ [])) (passes 10_000_001)
+    -- weights: each strip's own, times the finish of its batch
+    ∷ row (ofMosaic (weightedStrips (5 ∷ 1 ∷ 2 ∷ 20 ∷ [])) (batch 1 0 3 ∷ batch 3 3 12 ∷ batch 4 12 14 ∷ [])) (lawful 331)
+    ∷ row (ofMosaic (weightedStrips (100 ∷ 100 ∷ 100 ∷ 100 ∷ [])) (batch 4 9_999_992 10_000_000 ∷ [])) (lawful 4_000_000_000)
     -- a scanner that begins late, and a desk that waits
     ∷ row (ofSorting (twoDesks 2 5 1 1) (strip 1 1 4 ∷ strip 2 3 9 ∷ [])) (lawful 19)
     -- a desk job before its scan has ended, two scans at once, and a strip without its job
@@ -184,6 +197,9 @@ samples =
     -- a desk's finish at the ceiling, and one past it
     ∷ row (ofSorting (twoDesks 2 5 1 1) (strip 1 0 2 ∷ strip 2 2 9_999_999 ∷ [])) (lawful 10_000_007)
     ∷ row (ofSorting (twoDesks 2 5 1 1) (strip 1 0 2 ∷ strip 2 2 10_000_000 ∷ [])) (passes 10_000_001)
+    -- weights: each strip's own, times its desk's finish
+    ∷ row (ofSorting (weightedDesks 3 2 5 7 1 1) (strip 1 1 4 ∷ strip 2 3 9 ∷ [])) (lawful 97)
+    ∷ row (ofSorting (weightedDesks 3 2 5 7 1 1) (strip 2 0 1 ∷ strip 1 1 3 ∷ [])) (lawful 38)
     -- a second block that is flown later than it could be
     ∷ row (ofFlight (blocksOf 0 false 0 (1 ∷ 1 ∷ []) (2 ∷ 2 ∷ []) (1 ∷ 1 ∷ [])) 0xA (starts 0 3 ∷ starts 6 9 ∷ [])) (lawful 10)
     -- a last pass that ends at the ceiling, and one past it

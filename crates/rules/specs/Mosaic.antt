@@ -1,4 +1,4 @@
--- The rules of the mosaic (01, "The three sets of rules"; 02, Req 08, for when a mount and the bench work start). Strips are numbered from 1. In the
+-- The rules of the mosaic (01, "The three sets of rules"; 02, Req 08, for when a mount and the bench work start, and Req 09, for weights). Strips are numbered from 1. In the
 -- literature: batching on one machine with release dates, and a setup time for each batch that needs none of its strips (an anticipatory setup).
 use Prim.Native.Nat.{ℕ, zero, suc, _+_, _-_, _*_, _≤_, _<_, max}
 use mathlib.Core.Path.{_≡_}
@@ -75,6 +75,11 @@ unfoldable pub completion : List Batch → ℕ → ℕ
 completion [] j = 0
 completion (b ∷ bs) j = cond (leb j (b .last)) (b .finish) (completion bs j)
 
--- "Figure: the sum of completions over strips." (in the literature: the sum of completion times)
+-- the weight of strip j
+unfoldable pub stripWeight : MosaicSection → ℕ → ℕ
+stripWeight m j = getD (m .weight) (j - 1) 0
+
+-- "Figure: the sum of completions over strips." 02, Req 09: "The figure becomes the sum of weight × completion." (in the literature: the sum of weighted
+-- completion times)
 unfoldable pub mosaicFigure : MosaicSection → List Batch → ℕ
-mosaicFigure m bs = sumOver (m .strips) (λ j. completion bs (j + 1))
+mosaicFigure m bs = sumOver (m .strips) (λ j. stripWeight m (j + 1) * completion bs (j + 1))

@@ -15,7 +15,7 @@ use Rattle.rules.specs.declared.Job.{Job}
 unfoldable pub stripsOf : SortingSection → ℕ → ℕ
 stripsOf s desk = getD (s .counts) (desk - 1) 0
 
--- where the times of a desk's strip stand
+-- where the times and the weight of a desk's strip stand
 unfoldable pub slot : ℕ → ℕ → ℕ
 slot desk number = 6 * (desk - 1) + (number - 1)
 
@@ -24,6 +24,10 @@ scanTime s j = getD (s .scan) (slot (j .desk) (j .number)) 0
 
 unfoldable pub deskTime : SortingSection → Job → ℕ
 deskTime s j = getD (s .desk) (slot (j .desk) (j .number)) 0
+
+-- the weight of a strip (02, Req 09)
+unfoldable pub jobWeight : SortingSection → Job → ℕ
+jobWeight s j = getD (s .weight) (slot (j .desk) (j .number)) 0
 
 unfoldable pub scanEnd : SortingSection → Job → ℕ
 scanEnd s j = j .scan + scanTime s j
@@ -68,6 +72,7 @@ JobLawful s j = JobUnder ceiling s j
 abbrev pub SortingLawful : SortingSection → List Job → Type 0
 SortingLawful s js = SortingUnder ceiling s js
 
--- "Figure: the sum of desk finishing times over strips." (in the literature: the sum of completion times)
+-- "Figure: the sum of desk finishing times over strips." 02, Req 09: "The figure becomes the sum of weight × completion." (in the literature: the sum of weighted
+-- completion times)
 unfoldable pub sortingFigure : SortingSection → List Job → ℕ
-sortingFigure s js = sumOver (length js) (λ i. deskFinish s (jobAt js i))
+sortingFigure s js = sumOver (length js) (λ i. jobWeight s (jobAt js i) * deskFinish s (jobAt js i))

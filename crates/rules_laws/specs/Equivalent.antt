@@ -24,8 +24,8 @@ module _ {c : ℕ} (m : MosaicSection) (bs : List Batch) where
   pub runs-mosaic : MosaicRunsUnder c m noBatch bs → MosaicUnder c m bs
   runs-mosaic R = mosaic.runs-lawful m bs R
 
-  -- the sum of completions is the sum, over the batches, of the count of a batch's strips times its finish
-  pub mosaic-figure : MosaicRunsUnder c m noBatch bs → mosaicFigure m bs ≡ mosaic.runningFigure noBatch bs
+  -- the sum of the strips' weights times their completions is the sum, over the batches, of a batch's weight times its finish
+  pub mosaic-figure : MosaicRunsUnder c m noBatch bs → mosaicFigure m bs ≡ mosaic.runningFigure m noBatch bs
   mosaic-figure R = mosaic.figure-running m bs R
 
 module _ (s : SortingSection) (js : List Job) where
@@ -35,8 +35,8 @@ module _ (s : SortingSection) (js : List Job) where
   pub runs-sorting : SortingSound s → SortingRuns s freeDesks js → SortingLawful s js
   runs-sorting sound R = sorting.runs-lawful s js sound R
 
-  pub sorting-figure : sortingFigure s js ≡ sorting.runningFinishes s js
-  sorting-figure = sorting.finishes-running s js
+  pub sorting-figure : sortingFigure s js ≡ sorting.weightedFinishes s js
+  sorting-figure = sorting.weighted-finishes s js
 
 module _ (f : FlightSection) (order : ℕ) (ps : List Passes) where
   pub flight-runs : FlightLawful f ps → Keeps f order ps → OrderAllowed f order → FlightRuns f order ps

@@ -5,19 +5,19 @@ use mathlib.Core.Bool.{Bool, true, false, cond}
 use mathlib.Core.List.{List, [], _∷_}
 use Prim.Native.Nat.{ℕ, zero, suc, _+_, _-_, _*_, _^_, _≤_, _<_}
 use native.Mathlib.Decide.{decLt, ℕ-discrete}
-use native.Mathlib.Nat.{mul-le-mul-left}
+use native.Mathlib.Nat.{mul-le-mul, mul-le-mul-left}
 use native.Mathlib.Omega.{arith}
 use lib.ListN.{length, getD}
 use lib.Dec.{leb}
 use Rattle.order.specs.Word.{proper-fits}
-use Rattle.sheet.specs.Limits.{ceiling, mostStrips, mostDesks, mostStripsOfDesk}
+use Rattle.sheet.specs.Limits.{ceiling, mostWeight, mostStrips, mostDesks, mostStripsOfDesk}
 use Rattle.sheet.specs.Sound.{MosaicSound, SortingSound, FlightSound, stripsInAll}
 use Rattle.sheet.specs.declared.MosaicSection.{MosaicSection}
 use Rattle.sheet.specs.declared.SortingSection.{SortingSection}
 use Rattle.sheet.specs.declared.FlightSection.{FlightSection}
 use Rattle.base.specs.Sums.{sumOver}
-use Rattle.rules.specs.Mosaic.{benchSum, noBatch, batchAt, batchBefore, MosaicLawful, completion, mosaicFigure}
-use Rattle.rules.specs.Sorting.{stripsOf, slot, deskTime, scanEnd, deskFinish, jobAt, jobsOf, SortingLawful, sortingFigure}
+use Rattle.rules.specs.Mosaic.{benchSum, noBatch, batchAt, batchBefore, MosaicLawful, completion, stripWeight, mosaicFigure}
+use Rattle.rules.specs.Sorting.{stripsOf, slot, deskTime, jobWeight, scanEnd, deskFinish, jobAt, jobsOf, SortingLawful, sortingFigure}
 use Rattle.rules.specs.Flight.{passesAt, passEnd, FlightLawful, OrderAllowed, flightFigure}
 use Rattle.running.specs.Running.{BatchFollows, MosaicRuns, none, more}
 use Rattle.plan_format.specs.Format.{widthOf, EachFits, mosaicHeadForm, sortingHeadForm, flightHeadForm}
@@ -26,11 +26,16 @@ use Rattle.rules.specs.declared.Batch.{Batch}
 use Rattle.rules.specs.declared.Job.{Job}
 use Rattle.rules.specs.declared.Passes.{Passes}
 use Rattle.base.specs.SumLaws.{sum-most, sum-least, after-least, greatest-most, greatest-part}
+use Rattle.running.specs.Running.{batchWeight}
 use Rattle.rules_laws.specs.Finish.{finish-worked}
 use Rattle.rules_laws.specs.MosaicRunning.{count-within, follows-at, runningFigure}
 use Rattle.rules_laws.specs.Equivalent.{mosaic-runs, mosaic-figure}
 use Rattle.rules_laws.specs.SortingRunning.{jobs-same, jobs-other, number-known}
 use Rattle.rules_laws.specs.FlightRunning.{first-ended, second-start, end-is, time-some}
+
+-- a product of numbers that are not 0
+product-some : (x y : ℕ) → 1 ≤ x → 1 ≤ y → 1 ≤ x * y
+product-some (suc x) (suc y) p q = omega (arith, mul-le-mul-left (suc x) q)
 
 -- The mosaic.
 completion-most : (bs : List Batch) (j : ℕ) → ((i : ℕ) → i < length bs → getD bs i noBatch .finish ≤ ceiling) → completion bs j ≤ ceiling
@@ -43,10 +48,10 @@ completion-most (b ∷ bs) j h = go (leb j (b .last)) (h 0 (omega arith)) (compl
     go false p q = q
 
 module _ (m : MosaicSection) (bs : List Batch) (sound : MosaicSound m) (L : MosaicLawful m bs) where
-  pub mosaic-figure-most : mosaicFigure m bs ≤ mostStrips * ceiling
-  unfolding mosaicFigure batchAt
+  pub mosaic-figure-most : mosaicFigure m bs ≤ mostStrips * (mostWeight * ceiling)
+  unfolding mosaicFigure stripWeight batchAt
   mosaic-figure-most =
-      omega (arith, sum-most (m .strips) ceiling (λ j. completion bs (j + 1)) (λ j l. completion-most bs (j + 1) (λ i k. L .each i k .within)), sound .most-strips)
+      omega (arith, sum-most (m .strips) (mostWeight * ceiling) (λ j. getD (m .weight) (j + 1 - 1) 0 * completion bs (j + 1)) (λ j l. mul-le-mul (sound .most-weight (j + 1 - 1)) (completion-most bs (j + 1) (λ i k. L .each i k .within))), sound .most-strips)
 
   bench-some : (i count : ℕ) → i + count ≤ m .strips → count ≤ benchSum m i count
   unfolding benchSum
@@ -59,14 +64,16 @@ module _ (m : MosaicSection) (bs : List Batch) (sound : MosaicSound m) (L : Mosa
   finish-some before b f =
       omega (arith, f .lawful .rises, f .known, f .lawful .finishes, finish-worked m before b, bench-some (before .last) (b .last - before .last) (omega (arith, f .lawful .rises, f .known)))
 
-  product-some : (x y : ℕ) → 1 ≤ x → 1 ≤ y → 1 ≤ x * y
-  product-some (suc x) (suc y) p q = omega (arith, mul-le-mul-left (suc x) q)
+  weight-some : (before b : Batch) → BatchFollows m before b → 1 ≤ batchWeight m (before .last) (b .last)
+  unfolding batchWeight
+  weight-some before b f =
+      omega (arith, after-least (m .weight) (m .strips) (sound .least-weight) (before .last) (b .last - before .last) (omega (arith, f .lawful .rises, f .known)), f .lawful .rises)
 
-  running-some : (before : Batch) (cs : List Batch) → MosaicRuns m before cs → before .last < m .strips → 1 ≤ runningFigure before cs
+  running-some : (before : Batch) (cs : List Batch) → MosaicRuns m before cs → before .last < m .strips → 1 ≤ runningFigure m before cs
   unfolding runningFigure
   running-some before [] (none e) h = absurd (omega arith)
   running-some before (b ∷ cs) (more f r) h =
-      omega (arith, product-some (b .last - before .last) (b .finish) (omega (arith, f .lawful .rises)) (finish-some before b f))
+      omega (arith, product-some (batchWeight m (before .last) (b .last)) (b .finish) (weight-some before b f) (finish-some before b f))
 
   pub mosaic-figure-least : 0 < m .strips → 1 ≤ mosaicFigure m bs
   unfolding noBatch
@@ -133,9 +140,10 @@ module _ (s : SortingSection) (js : List Job) (sound : SortingSound s) (L : Sort
   unfolding stripsInAll
   jobs-most = omega (arith, jobs-all, sound .most-strips 0, sound .most-strips 1, sound .most-strips 2)
 
-  pub sorting-figure-most : sortingFigure s js ≤ mostDesks * mostStripsOfDesk * ceiling
-  unfolding sortingFigure
-  sorting-figure-most = omega (arith, sum-most (length js) ceiling (λ i. deskFinish s (jobAt js i)) (λ i l. L .each i l .within), jobs-most)
+  pub sorting-figure-most : sortingFigure s js ≤ mostDesks * mostStripsOfDesk * (mostWeight * ceiling)
+  unfolding sortingFigure jobWeight
+  sorting-figure-most =
+      omega (arith, sum-most (length js) (mostWeight * ceiling) (λ i. jobWeight s (jobAt js i) * deskFinish s (jobAt js i)) (λ i l. mul-le-mul (sound .most-weight _) (L .each i l .within)), jobs-most)
 
   least-number : (i : ℕ) → i < length js → 1 ≤ jobAt js i .number
   least-number i l = omega (arith, L .in-turn i l)
@@ -145,9 +153,14 @@ module _ (s : SortingSection) (js : List Job) (sound : SortingSound s) (L : Sort
   job-some i l =
       omega (arith, sound .least-desk (jobAt js i .desk - 1) (jobAt js i .number - 1) (omega (arith, number-known s js L i l, least-number i l)))
 
+  job-weight-some : (i : ℕ) → i < length js → 1 ≤ jobWeight s (jobAt js i)
+  unfolding jobWeight slot stripsOf
+  job-weight-some i l = sound .least-weight (jobAt js i .desk - 1) (jobAt js i .number - 1) (omega (arith, number-known s js L i l, least-number i l))
+
   pub sorting-figure-least : 0 < stripsInAll s → 1 ≤ sortingFigure s js
   unfolding sortingFigure
-  sorting-figure-least h = omega (arith, sum-least (length js) (λ i. deskFinish s (jobAt js i)) job-some, jobs-all)
+  sorting-figure-least h =
+      omega (arith, sum-least (length js) (λ i. jobWeight s (jobAt js i) * deskFinish s (jobAt js i)) (λ i l. product-some _ _ (job-weight-some i l) (job-some i l)), jobs-all)
 
   pub job-desk : (i : ℕ) → i < length js → jobAt js i .desk ≤ mostDesks
   job-desk i l = desk-known i l

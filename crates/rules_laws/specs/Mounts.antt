@@ -1,12 +1,12 @@
 -- What 02, Req 08, leaves of the timetables of 01: one whose mounts wait for the strips is a timetable still. And what it adds: mounts may be moved where the
 -- bench work starts when it did.
-use Prim.Native.Nat.{ℕ, zero, suc, _+_, _-_, _≤_, _<_}
+use Prim.Native.Nat.{ℕ, zero, suc, _+_, _-_, _*_, _≤_, _<_}
 use mathlib.Core.Path.{_≡_, refl, ap, _∙_}
 use mathlib.Core.List.{List, [], _∷_}
 use native.Mathlib.Omega.{arith}
 use lib.ListN.{length}
 use Rattle.sheet.specs.declared.MosaicSection.{MosaicSection}
-use Rattle.rules.specs.Mosaic.{ready, benchSum, batchAt, batchBefore, setupTime, benchWorkStart, finishDue, BatchUnder, MosaicUnder, completion, mosaicFigure}
+use Rattle.rules.specs.Mosaic.{ready, benchSum, batchAt, batchBefore, setupTime, benchWorkStart, finishDue, BatchUnder, MosaicUnder, completion, stripWeight, mosaicFigure}
 use Rattle.rules.specs.declared.Batch.{Batch}
 use Rattle.base.specs.SumLaws.{sum-same}
 
@@ -77,4 +77,5 @@ same-completion (b ∷ bs) (c ∷ cs) n l f j =
 
 pub moved-figure : (m : MosaicSection) {bs cs : List Batch} → MountsMoved m bs cs → mosaicFigure m cs ≡ mosaicFigure m bs
 unfolding mosaicFigure
-moved-figure m {bs} {cs} M = sum-same (m .strips) _ _ (λ j l. same-completion bs cs (M .count) (M .last) (M .finish) (j + 1))
+moved-figure m {bs} {cs} M =
+    sum-same (m .strips) _ _ (λ j l. ap (λ (n : ℕ). stripWeight m (j + 1) * n) (same-completion bs cs (M .count) (M .last) (M .finish) (j + 1)))

@@ -4,7 +4,7 @@
 use mathlib.Core.Path.{_≡_, refl, sym, ap, subst, _∙_}
 use mathlib.Core.Bool.{Bool, cond}
 use mathlib.Core.List.{List, [], _∷_}
-use Prim.Native.Nat.{ℕ, zero, suc, _+_, _-_, _≤_, _<_}
+use Prim.Native.Nat.{ℕ, zero, suc, _+_, _-_, _*_, _≤_, _<_}
 use native.Mathlib.Nat.{le-refl, le-trans}
 use native.Mathlib.Decide.{ℕ-discrete}
 use native.Mathlib.Omega.{arith}
@@ -15,7 +15,7 @@ use borrow.Author.Tests.{eq-eqb, ne-eqb}
 use Rattle.sheet.specs.declared.SortingSection.{SortingSection}
 use Rattle.sheet.specs.Sound.{SortingSound}
 use Rattle.base.specs.Sums.{sumOver}
-use Rattle.rules.specs.Sorting.{stripsOf, scanEnd, deskFinish, noJob, jobAt, jobsOf, SortingLawful, sortingFigure}
+use Rattle.rules.specs.Sorting.{stripsOf, jobWeight, scanEnd, deskFinish, noJob, jobAt, jobsOf, SortingLawful, sortingFigure}
 use Rattle.running.specs.Running.{JobFollows, freeDesks, afterJob, AllDone, SortingRuns, none, more}
 use Rattle.rules.specs.declared.Job.{Job}
 use Rattle.running.specs.declared.Desks.{Desks}
@@ -313,11 +313,13 @@ module _ (s : SortingSection) (js : List Job) where
             ∙ told .end .done .all desk p q
 
 -- the figure, job by job
-unfoldable pub runningFinishes : SortingSection → List Job → ℕ
-runningFinishes s [] = 0
-runningFinishes s (j ∷ js) = deskFinish s j + runningFinishes s js
+unfoldable pub weightedFinishes : SortingSection → List Job → ℕ
+weightedFinishes s [] = 0
+weightedFinishes s (j ∷ js) = jobWeight s j * deskFinish s j + weightedFinishes s js
 
-pub finishes-running : (s : SortingSection) (js : List Job) → sortingFigure s js ≡ runningFinishes s js
-unfolding sortingFigure runningFinishes sumOver jobAt
-finishes-running s [] = refl
-finishes-running s (j ∷ js) = sum-first (length js) (λ i. deskFinish s (jobAt (j ∷ js) i)) ∙ ap (λ (n : ℕ). deskFinish s j + n) (finishes-running s js)
+pub weighted-finishes : (s : SortingSection) (js : List Job) → sortingFigure s js ≡ weightedFinishes s js
+unfolding sortingFigure weightedFinishes sumOver jobAt
+weighted-finishes s [] = refl
+weighted-finishes s (j ∷ js) =
+    sum-first (length js) (λ i. jobWeight s (jobAt (j ∷ js) i) * deskFinish s (jobAt (j ∷ js) i))
+    ∙ ap (λ (n : ℕ). jobWeight s j * deskFinish s j + n) (weighted-finishes s js)

@@ -8,16 +8,18 @@ use native.Mathlib.Omega.{arith}
 use lib.ListN.{length, getD}
 use Rattle.order.specs.Passes.{timeOf}
 use Rattle.order.specs.PassLaws.{first-time, second-time}
-use Rattle.sheet.specs.Limits.{mostTime, mostStrips, mostDesks, mostStripsOfDesk}
+use Rattle.sheet.specs.Limits.{mostTime, mostWeight, mostStrips, mostDesks, mostStripsOfDesk}
 use Rattle.sheet.specs.Sound.{MosaicSound, SortingSound, FlightSound}
 use Rattle.sheet.specs.declared.MosaicSection.{MosaicSection}
 use Rattle.sheet.specs.declared.SortingSection.{SortingSection}
 use Rattle.sheet.specs.declared.FlightSection.{FlightSection}
 use Rattle.base.specs.Sums.{sumOver, sumAfter, greatestOver}
+use Rattle.base.specs.SumLaws.{after-most}
 use Rattle.rules.specs.Mosaic.{stationSum, ready, benchSum, setupTime, benchWorkStart, finishDue}
-use Rattle.rules.specs.Sorting.{slot, scanTime, deskTime}
+use Rattle.rules.specs.Sorting.{slot, scanTime, deskTime, jobWeight}
 use Rattle.rules.specs.Flight.{passTime}
 use Rattle.rules.specs.declared.Batch.{Batch}
+use Rattle.running.specs.Running.{batchWeight}
 use Rattle.rules.specs.declared.Job.{Job}
 
 pub record StationSumPre (m : MosaicSection) (k j : ℕ) : Type 0 where
@@ -84,6 +86,10 @@ pub record SlotTold (j : Job) (r : ℕ) : Type 0 where
   pub is : r ≡ slot (j .desk) (j .number)
   pub few : r < mostDesks * mostStripsOfDesk
 
+pub record JobWeightTold (s : SortingSection) (j : Job) (r : ℕ) : Type 0 where
+  pub is : r ≡ jobWeight s j
+  pub fits : r ≤ mostWeight
+
 pub record SlotPre (s : SortingSection) (j : Job) : Type 0 where
   pub sound : SortingSound s
   pub in-slots : InSlots j
@@ -149,6 +155,31 @@ module _ (values : List ℕ) (i count : ℕ) (a : SumAfterPre values i count) wh
       let l = a .few in
       record { is = sum-all (λ k. getD values (i + k) 0) count k sum s h; fits = omega arith }
 
+-- the weight of a batch of known strips
+pub record BatchWeightPre (m : MosaicSection) (before b : Batch) : Type 0 where
+  pub sound : MosaicSound m
+  pub strips : b .last ≤ mostStrips
+  pub rises : before .last ≤ b .last
+
+pub record WeightTold (m : MosaicSection) (i q r : ℕ) : Type 0 where
+  pub is : r ≡ batchWeight m i q
+  pub fits : r ≤ (q - i) * mostWeight
+
+pub weight-pre : (m : MosaicSection) (before b : Batch) → BatchWeightPre m before b → SumAfterPre (m .weight) (before .last) (b .last - before .last)
+weight-pre m before b a = record {
+  long = omega (arith, a .rises, a .strips, a .sound .weight-length);
+  few = omega (arith, a .strips);
+  most = λ k. omega (arith, a .sound .most-weight k);
+}
+
+pub weight-told : (m : MosaicSection) (before b : Batch) (sum : ℕ) → BatchWeightPre m before b
+    → SumTold (sumAfter (m .weight) (before .last) (b .last - before .last)) sum → WeightTold m (before .last) (b .last) sum
+unfolding batchWeight
+weight-told m before b sum a t = record {
+  is = t .is;
+  fits = omega (arith, t .is, after-most (m .weight) mostWeight (a .sound .most-weight) (before .last) (b .last - before .last));
+}
+
 -- the bench times of a batch of known strips
 pub bench-pre : (m : MosaicSection) (before b : Batch) → FinishDuePre m before b → SumAfterPre (m .bench) (before .last) (b .last - before .last)
 bench-pre m before b a = record {
@@ -196,7 +227,7 @@ module _ (m : MosaicSection) (j : ℕ) where
       all : k ≡ m .stations
       all = let w = g .within in omega arith
 
--- single times
+-- single times and weights
 pub slot-told : (j : Job) → InSlots j → SlotTold j (6 * (j .desk - 1) + (j .number - 1))
 unfolding slot
 slot-told j a = record { is = refl; few = omega (arith, a .least-desk, a .most-desk, a .least-number, a .most-number) }
@@ -209,6 +240,10 @@ module _ (s : SortingSection) (j : Job) (a : SlotPre s j) (r : ℕ) (t : SlotTol
   pub desk-told : TimeTold (deskTime s j) (getD (s .desk) r 0)
   unfolding deskTime
   desk-told = record { is = ap (λ i. getD (s .desk) i 0) (t .is); fits = a .sound .most-desk r }
+
+  pub job-weight-told : JobWeightTold s j (getD (s .weight) r 0)
+  unfolding jobWeight
+  job-weight-told = record { is = ap (λ i. getD (s .weight) i 0) (t .is); fits = a .sound .most-weight r }
 
 -- the time of a pass
 pub time-told : (f : FlightSection) (p r : ℕ) → PassTimePre f p → r ≡ timeOf (f .blocks) (f .first) (f .second) p → TimeTold (passTime f p) r

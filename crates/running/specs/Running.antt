@@ -5,6 +5,7 @@ use mathlib.Core.Path.{_≡_}
 use mathlib.Core.List.{List, [], _∷_}
 use lib.ListN.{length, getD, set}
 use Rattle.order.specs.Passes.{passAt}
+use Rattle.base.specs.Sums.{sumAfter}
 use Rattle.sheet.specs.Limits.{ceiling}
 use Rattle.sheet.specs.declared.MosaicSection.{MosaicSection}
 use Rattle.sheet.specs.declared.SortingSection.{SortingSection}
@@ -32,6 +33,10 @@ BatchFollows m before b = BatchFollowsUnder ceiling m before b
 
 abbrev pub MosaicRuns : MosaicSection → Batch → List Batch → Type 0
 MosaicRuns m before bs = MosaicRunsUnder ceiling m before bs
+
+-- the weight of the batch of the strips after i up to q: the sum of their weights
+unfoldable pub batchWeight : MosaicSection → ℕ → ℕ → ℕ
+batchWeight m i q = sumAfter (m .weight) i (q - i)
 
 -- A job may follow. `d` says how many strips each desk has had, and from when on each desk and the scanner are free.
 pub record JobFollows (s : SortingSection) (d : Desks) (j : Job) : Type 0 where

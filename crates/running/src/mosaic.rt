@@ -1,4 +1,4 @@
-// Ready times and bench times of a mosaic.
+// Ready times, bench times and weights of a mosaic.
 use base::greater;
 use rules::Batch;
 use sheet::MosaicSection;
@@ -6,7 +6,7 @@ ghost use mathlib.Core.Path.{_≡_};
 ghost use Prim.Native.Nat.{_<_, _+_};
 ghost use Rattle.base.specs.Sums.{sumAfter};
 ghost use Rattle.rules.specs.Mosaic.{stationSum, ready, finishDue};
-ghost use Rattle.running.specs.FunctionLaws.{StationSumPre, ReadyTimePre, SumAfterPre, BenchWorkStartPre, BenchWorkStartTold, FinishDuePre, SetupTold, SumTold};
+ghost use Rattle.running.specs.FunctionLaws.{StationSumPre, ReadyTimePre, SumAfterPre, BatchWeightPre, WeightTold, BenchWorkStartPre, BenchWorkStartTold, FinishDuePre, SetupTold, SumTold};
 ghost use Rattle.sheet.specs.Sound.{MosaicSound};
 
 // When station k, from 0, is done with the first j strips.
@@ -51,6 +51,17 @@ fn sum_after(values: &[u64], i: usize, count: usize) -> u64
         k += 1;
     }
     sum
+}
+
+// The weight of a batch, by the batch before it.
+pub fn batch_weight(m: MosaicSection, before: Batch, b: Batch) -> u64
+    requires { ⌜ BatchWeightPre m before b ⌝ }
+    ensures { λ r. ⌜ WeightTold m (before .last) (b .last) r ⌝ }
+{
+    let weight = m.weight;
+    let from = before.last;
+    let count = b.last - from;
+    sum_after(&weight, from as usize, count as usize)
 }
 
 // How long a mount takes.

@@ -1,8 +1,8 @@
-// The times of a sorting's jobs.
+// The times and weights of a sorting's jobs.
 use rules::Job;
 use sheet::SortingSection;
 ghost use Rattle.rules.specs.Sorting.{scanTime, deskTime};
-ghost use Rattle.running.specs.FunctionLaws.{InSlots, SlotTold, SlotPre, TimeTold};
+ghost use Rattle.running.specs.FunctionLaws.{InSlots, SlotTold, SlotPre, TimeTold, JobWeightTold};
 
 // Where the values of a strip stand.
 fn slot_of(j: Job) -> usize
@@ -29,4 +29,13 @@ pub fn desk_time(s: SortingSection, j: Job) -> u64
 {
     let times = s.desk;
     times[slot_of(j)]
+}
+
+// The weight of a strip.
+pub fn job_weight(s: SortingSection, j: Job) -> u64
+    requires { ⌜ SlotPre s j ⌝ }
+    ensures { λ r. ⌜ JobWeightTold s j r ⌝ }
+{
+    let weights = s.weight;
+    weights[slot_of(j)]
 }

@@ -1,24 +1,25 @@
--- The field table by tag: the content that it has for each, for a flight head two, and that a field of a length that is due has the values of its content.
--- The idea: for a tag that is known the table computes. Only the row of a mosaic strip does not: it is there or not by the number of stations.
+-- The field table by tag: the contents that it has for each, two for a flight head and for a strip, and that a field of a length that is due has the values of
+-- its content.
+-- The idea: for a tag that is known the table computes. Only the rows of a mosaic strip do not: they are there or not by the number of stations.
 use Prim.Native.Nat.{ℕ, zero, suc, _+_, _*_, _≤_}
 use mathlib.Core.Path.{_≡_, refl, sym, ap, ap₂, subst, _∙_}
 use mathlib.Core.Bool.{Bool, true, false, cond, _&&_, true≢false}
-use mathlib.Core.List.{List, [], _∷_, _++_}
+use mathlib.Core.List.{List, [], _∷_, _++_, append-nil}
 use mathlib.Core.Logic.{_⊎_, inl, inr}
 use native.Mathlib.Omega.{arith}
 use lib.Dec.{eqb}
 use borrow.Author.Tests.{eq-eqb, ne-eqb, eqb-true, le-leb, leb-true}
 use Rattle.base.specs.Branch.{both}
 use Rattle.field.specs.Bytes.{numberAt}
-use Rattle.sheet.specs.Limits.{mostStations, mostTime}
+use Rattle.sheet.specs.Limits.{mostStations, mostTime, mostWeight}
 use Rattle.sheet.specs.Tags.{mosaicHeadTag, mosaicStripTag, sortingHeadTag, sortingStripTag, flightHeadTag, flightBlockTag, flightOrderTag}
 use Rattle.sheet.specs.Tags.{flightWindowBlockTag}
 use Rattle.sheet.specs.Among.{Among}
 use Rattle.sheet.specs.FieldTable.{Item, TableRow, tableRow, mosaicHead, mosaicStrip, sortingHead, sortingStrip, flightBlock, flightWindowBlock, flightOrder}
-use Rattle.sheet.specs.FieldTable.{emptyFlightHead, turnFlightHead}
+use Rattle.sheet.specs.FieldTable.{withWeight, emptyFlightHead, turnFlightHead}
 use Rattle.sheet.specs.FieldTable.{isStationCount, stripRows, fieldTable, lengthOf, contentsOf, lengthsOf, lengthsDue, ofLength, Value, numbersAt, valuesOf}
 use Rattle.sheet.specs.FieldTable.{contentValues, fieldValues}
-use Rattle.sheet.specs.FieldTable.Range.{time, positiveTime}
+use Rattle.sheet.specs.FieldTable.Range.{count, time, positiveTime}
 use Rattle.sheet.specs.FieldTable.Value.{value}
 
 -- a station count is 1 to 4
@@ -30,18 +31,20 @@ count-bounds : (stations : ℕ) → isStationCount stations ≡ true → (1 ≤ 
 unfolding isStationCount
 count-bounds stations e = let p = both _ _ e in (leb-true 1 stations (p .0), leb-true stations mostStations (p .1))
 
--- the row of a strip changes nothing for another tag ..
+-- the rows of a strip change nothing for another tag ..
 past-strip : (tag stations : ℕ) (rows : List TableRow) → (tag ≡ mosaicStripTag → ⊥) → contentsOf tag (stripRows stations ++ rows) ≡ contentsOf tag rows
 unfolding stripRows contentsOf
 past-strip tag stations rows h = go (isStationCount stations)
   where
-    go : (b : Bool) → contentsOf tag (cond b (tableRow mosaicStripTag (mosaicStrip stations) ∷ []) [] ++ rows) ≡ contentsOf tag rows
+    go : (b : Bool)
+        → contentsOf tag (cond b (tableRow mosaicStripTag (mosaicStrip stations) ∷ tableRow mosaicStripTag (withWeight (mosaicStrip stations)) ∷ []) [] ++ rows)
+        ≡ contentsOf tag rows
     go true = rw (ne-eqb tag mosaicStripTag h) refl
     go false = refl
 
--- .. and is there for 1 to 4 stations
+-- .. and are there for 1 to 4 stations
 at-strip : (stations : ℕ) (rows : List TableRow) → 1 ≤ stations → stations ≤ mostStations
-    → contentsOf mosaicStripTag (stripRows stations ++ rows) ≡ mosaicStrip stations ∷ contentsOf mosaicStripTag rows
+    → contentsOf mosaicStripTag (stripRows stations ++ rows) ≡ mosaicStrip stations ∷ withWeight (mosaicStrip stations) ∷ contentsOf mosaicStripTag rows
 unfolding stripRows contentsOf
 at-strip stations rows lo hi = rw (is-count stations lo hi)
 
@@ -51,7 +54,9 @@ unfolding stripRows
 no-strip stations rows h = go (isStationCount stations) refl
   where
     go : (b : Bool) → isStationCount stations ≡ b
-        → contentsOf mosaicStripTag (cond b (tableRow mosaicStripTag (mosaicStrip stations) ∷ []) [] ++ rows) ≡ contentsOf mosaicStripTag rows
+        → contentsOf mosaicStripTag
+        (cond b (tableRow mosaicStripTag (mosaicStrip stations) ∷ tableRow mosaicStripTag (withWeight (mosaicStrip stations)) ∷ []) [] ++ rows)
+        ≡ contentsOf mosaicStripTag rows
     go true e = let p = count-bounds stations e in absurd (h (p .0) (p .1))
     go false e = refl
 
@@ -61,15 +66,43 @@ unfolding mosaicStrip lengthOf
 strip-length zero = refl
 strip-length (suc m) = let h = strip-length m in omega arith
 
+-- a content with more behind it: its length, and its values
+length-behind : (content more : List Item) → lengthOf (content ++ more) ≡ lengthOf content + lengthOf more
+unfolding lengthOf
+length-behind [] more = omega arith
+length-behind (i ∷ content) more = omega (arith, length-behind content more)
+
+values-behind : (s : List ℕ) (c : ℕ) (content more : List Item)
+    → contentValues s c (content ++ more) ≡ contentValues s c content ++ contentValues s (c + lengthOf content) more
+unfolding contentValues numbersAt valuesOf lengthOf
+values-behind s c [] more = ap (λ at. contentValues s at more) (omega arith)
+values-behind s c (i ∷ content) more =
+    ap (λ (values : List Value). value (i .range) (numberAt s c (i .width)) ∷ values)
+    (values-behind s (c + i .width) content more ∙ ap (λ at. contentValues s (c + i .width) content ++ contentValues s at more) there)
+  where
+    there : c + i .width + lengthOf content ≡ c + (i .width + lengthOf content)
+    there = omega arith
+
+-- one byte for a weight
+pub weighted-length : (content : List Item) → lengthOf (withWeight content) ≡ lengthOf content + 1
+unfolding withWeight lengthOf
+weighted-length content = length-behind content _
+
+weighted-values : (s : List ℕ) (c : ℕ) (content : List Item)
+    → contentValues s c (withWeight content) ≡ contentValues s c content ++ (value (count 1 mostWeight) (numberAt s (c + lengthOf content) 1) ∷ [])
+unfolding withWeight contentValues numbersAt valuesOf
+weighted-values s c content = values-behind s c content _
+
 -- the contents of each tag of the table
 module _ (stations desks : ℕ) where
   pub mosaic-head-content : contentsOf mosaicHeadTag (fieldTable stations desks) ≡ mosaicHead ∷ []
   unfolding fieldTable contentsOf
   mosaic-head-content = ap (λ l. mosaicHead ∷ l) (past-strip mosaicHeadTag stations _ (λ e. omega arith))
 
-  pub mosaic-strip-content : 1 ≤ stations → stations ≤ mostStations → contentsOf mosaicStripTag (fieldTable stations desks) ≡ mosaicStrip stations ∷ []
+  pub mosaic-strip-contents : 1 ≤ stations → stations ≤ mostStations
+      → contentsOf mosaicStripTag (fieldTable stations desks) ≡ mosaicStrip stations ∷ withWeight (mosaicStrip stations) ∷ []
   unfolding fieldTable contentsOf
-  mosaic-strip-content lo hi = at-strip stations _ lo hi
+  mosaic-strip-contents lo hi = at-strip stations _ lo hi
 
   pub no-strip-content : (1 ≤ stations → stations ≤ mostStations → ⊥) → contentsOf mosaicStripTag (fieldTable stations desks) ≡ []
   unfolding fieldTable contentsOf
@@ -79,9 +112,9 @@ module _ (stations desks : ℕ) where
   unfolding fieldTable contentsOf
   sorting-head-content = past-strip sortingHeadTag stations _ (λ e. omega arith)
 
-  pub sorting-strip-content : contentsOf sortingStripTag (fieldTable stations desks) ≡ sortingStrip desks ∷ []
+  pub sorting-strip-contents : contentsOf sortingStripTag (fieldTable stations desks) ≡ sortingStrip desks ∷ withWeight (sortingStrip desks) ∷ []
   unfolding fieldTable contentsOf
-  sorting-strip-content = past-strip sortingStripTag stations _ (λ e. omega arith)
+  sorting-strip-contents = past-strip sortingStripTag stations _ (λ e. omega arith)
 
   pub flight-head-contents : contentsOf flightHeadTag (fieldTable stations desks) ≡ emptyFlightHead ∷ turnFlightHead ∷ []
   unfolding fieldTable contentsOf
@@ -178,6 +211,35 @@ module _ (tag len : ℕ) (table : List TableRow) (content : List Item) (one : co
       found : cond (eqb len (lengthOf content)) content [] ≡ content
       found = rw (eq-eqb len (lengthOf content) sole-length)
 
+-- the value of a weight, behind so many other bytes: none where the content has no other
+unfoldable pub weightValues : List ℕ → ℕ → ℕ → ℕ → List Value
+weightValues s c len others = cond (eqb len others) [] (value (count 1 mostWeight) (numberAt s (c + others) 1) ∷ [])
+
+-- where a tag has a content without and with a weight, a field of a length that is due has one of the two lengths, and the values of the content and of the
+-- weight
+module _ (tag len : ℕ) (table : List TableRow) (content : List Item) (two : contentsOf tag table ≡ content ∷ withWeight content ∷ [])
+    (due : Among len (lengthsDue tag table)) where
+  pub either-length : (len ≡ lengthOf content) ⊎ (len ≡ lengthOf content + 1)
+  unfolding lengthsDue lengthsOf Among
+  either-length = either (subst (λ contents. Among len (lengthsOf contents)) two due)
+    where
+      either : Among len (lengthOf content ∷ lengthOf (withWeight content) ∷ []) → (len ≡ lengthOf content) ⊎ (len ≡ lengthOf content + 1)
+      either (inl e) = inl e
+      either (inr (inl e)) = inr (e ∙ weighted-length content)
+      either (inr (inr a)) = absurd a
+
+  either-values : (s : List ℕ) (c : ℕ) → fieldValues s c tag len table ≡ contentValues s c content ++ weightValues s c len (lengthOf content)
+  unfolding fieldValues ofLength weightValues
+  either-values s c = ap (contentValues s c) (ap (ofLength len) two) ∙ go either-length
+    where
+      go : (len ≡ lengthOf content) ⊎ (len ≡ lengthOf content + 1)
+          → contentValues s c (cond (eqb len (lengthOf content)) content (cond (eqb len (lengthOf (withWeight content))) (withWeight content) []))
+          ≡ contentValues s c content ++ cond (eqb len (lengthOf content)) [] (value (count 1 mostWeight) (numberAt s (c + lengthOf content) 1) ∷ [])
+      go (inl e) = rw (eq-eqb len (lengthOf content) e) (sym (append-nil (contentValues s c content)))
+      go (inr e) =
+          rw (ne-eqb len (lengthOf content) (λ h. omega arith), eq-eqb len (lengthOf (withWeight content)) (e ∙ sym (weighted-length content)))
+          (weighted-values s c content)
+
 -- the values of a strip from station k on, of which n are left: the station times, and the bench time behind them
 unfoldable pub stripFrom : List ℕ → ℕ → ℕ → ℕ → List Value
 stripFrom s c k n = contentValues s (c + 2 * k) (mosaicStrip n)
@@ -231,10 +293,11 @@ module _ (s : List ℕ) (c len stations desks : ℕ) where
   mosaic-head-values due = sole-values mosaicHeadTag len _ mosaicHead (mosaic-head-content stations desks) due s c
 
   pub mosaic-strip-values : Among len (lengthsDue mosaicStripTag (fieldTable stations desks))
-      → fieldValues s c mosaicStripTag len (fieldTable stations desks) ≡ contentValues s c (mosaicStrip stations)
+      → fieldValues s c mosaicStripTag len (fieldTable stations desks) ≡ contentValues s c (mosaicStrip stations) ++ weightValues s c len (2 * stations + 2)
   mosaic-strip-values due =
       let h = strip-stations len stations desks due in
-      sole-values mosaicStripTag len _ (mosaicStrip stations) (mosaic-strip-content stations desks (h .0) (h .1)) due s c
+      either-values mosaicStripTag len _ (mosaicStrip stations) (mosaic-strip-contents stations desks (h .0) (h .1)) due s c
+      ∙ ap (λ others. contentValues s c (mosaicStrip stations) ++ weightValues s c len others) (strip-length stations)
 
   pub sorting-head-values : Among len (lengthsDue sortingHeadTag (fieldTable stations desks))
       → fieldValues s c sortingHeadTag len (fieldTable stations desks) ≡ valuesOf sortingHead (numberAt s c 1 ∷ [])
@@ -243,11 +306,11 @@ module _ (s : List ℕ) (c len stations desks : ℕ) where
 
   pub sorting-strip-values : Among len (lengthsDue sortingStripTag (fieldTable stations desks))
       → fieldValues s c sortingStripTag len (fieldTable stations desks)
-      ≡ valuesOf (sortingStrip desks) (numberAt s c 1 ∷ numberAt s (c + 1) 2 ∷ numberAt s (c + 3) 2 ∷ [])
-  unfolding contentValues sortingStrip numbersAt
+      ≡ valuesOf (sortingStrip desks) (numberAt s c 1 ∷ numberAt s (c + 1) 2 ∷ numberAt s (c + 3) 2 ∷ []) ++ weightValues s c len 5
+  unfolding contentValues sortingStrip numbersAt lengthOf
   sorting-strip-values due =
-      sole-values sortingStripTag len _ (sortingStrip desks) (sorting-strip-content stations desks) due s c
-      ∙ ap (λ at. valuesOf (sortingStrip desks) (numberAt s c 1 ∷ numberAt s (c + 1) 2 ∷ numberAt s at 2 ∷ [])) (omega arith)
+      either-values sortingStripTag len _ (sortingStrip desks) (sorting-strip-contents stations desks) due s c
+      ∙ ap (λ at. valuesOf (sortingStrip desks) (numberAt s c 1 ∷ numberAt s (c + 1) 2 ∷ numberAt s at 2 ∷ []) ++ weightValues s c len 5) (omega arith)
 
   -- an empty head has no value, one with a turn has that
   pub flight-head-values : Among len (lengthsDue flightHeadTag (fieldTable stations desks))

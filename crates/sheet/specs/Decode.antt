@@ -20,10 +20,10 @@ zeros n = replicate n 0
 
 -- a mosaic without a strip, a sorting without one, and a flight without a block
 abbrev pub begunMosaic : ℕ → ℕ → MosaicSection
-begunMosaic stations mount = record { stations = stations; mount = mount; strips = 0; station = zeros 160; bench = zeros 40 }
+begunMosaic stations mount = record { stations = stations; mount = mount; strips = 0; station = zeros 160; bench = zeros 40; weight = zeros 40 }
 
 abbrev pub begunSorting : ℕ → SortingSection
-begunSorting desks = record { desks = desks; counts = zeros 3; scan = zeros 18; desk = zeros 18 }
+begunSorting desks = record { desks = desks; counts = zeros 3; scan = zeros 18; desk = zeros 18; weight = zeros 18 }
 
 abbrev pub begunFlight : ℕ → ℕ → FlightSection
 begunFlight turn place =
@@ -53,18 +53,23 @@ noFlight = begunFlight 0 0
 unfoldable pub withMosaicHead : List ℕ → ℕ → MosaicSection
 withMosaicHead s c = begunMosaic (numberAt s c 1) (numberAt s (c + 1) 2)
 
+-- 02, Req 09: a strip's weight is its "one last byte", behind so many others; "absent means 1"
+unfoldable pub weightOf : List ℕ → ℕ → ℕ → ℕ → ℕ
+weightOf s c len others = cond (eqb len others) 1 (numberAt s (c + others) 1)
+
 unfoldable pub withStationTimes : List ℕ → ℕ → ℕ → ℕ → List ℕ → List ℕ
 withStationTimes s c base zero times = times
 withStationTimes s c base (suc k) times = set (withStationTimes s c base k times) (base + k) (numberAt s (c + 2 * k) 2)
 
-unfoldable pub withMosaicStrip : List ℕ → ℕ → MosaicSection → MosaicSection
-withMosaicStrip s c m =
+unfoldable pub withMosaicStrip : List ℕ → ℕ → ℕ → MosaicSection → MosaicSection
+withMosaicStrip s c len m =
     record {
       stations = m .stations;
       mount = m .mount;
       strips = m .strips + 1;
       station = withStationTimes s c (4 * m .strips) (m .stations) (m .station);
       bench = set (m .bench) (m .strips) (numberAt s (c + 2 * m .stations) 2);
+      weight = set (m .weight) (m .strips) (weightOf s c len (2 * m .stations + 2));
     }
 
 -- a sorting of a head alone, and with one strip more
@@ -72,17 +77,18 @@ unfoldable pub withSortingHead : List ℕ → ℕ → SortingSection
 withSortingHead s c = begunSorting (numberAt s c 1)
 
 -- strip k of desk d, both from 0
-unfoldable pub withStripAt : List ℕ → ℕ → SortingSection → ℕ → ℕ → SortingSection
-withStripAt s c t d k =
+unfoldable pub withStripAt : List ℕ → ℕ → ℕ → SortingSection → ℕ → ℕ → SortingSection
+withStripAt s c len t d k =
     record {
       desks = t .desks;
       counts = set (t .counts) d (k + 1);
       scan = set (t .scan) (6 * d + k) (numberAt s (c + 1) 2);
       desk = set (t .desk) (6 * d + k) (numberAt s (c + 3) 2);
+      weight = set (t .weight) (6 * d + k) (weightOf s c len 5);
     }
 
-unfoldable pub withSortingStrip : List ℕ → ℕ → SortingSection → SortingSection
-withSortingStrip s c t = withStripAt s c t (numberAt s c 1 - 1) (stripsOfDesk (t .counts) (numberAt s c 1))
+unfoldable pub withSortingStrip : List ℕ → ℕ → ℕ → SortingSection → SortingSection
+withSortingStrip s c len t = withStripAt s c len t (numberAt s c 1 - 1) (stripsOfDesk (t .counts) (numberAt s c 1))
 
 -- 02, Req 06: "The flight head may carry two bytes, the turn g ..; an empty head means 0."
 unfoldable pub turnOf : List ℕ → ℕ → ℕ → ℕ
@@ -130,11 +136,11 @@ withOrder s c at f =
     }
 
 -- each section after a field; it begins anew with its head
-unfoldable pub nextMosaic : List ℕ → ℕ → ℕ → MosaicSection → MosaicSection
-nextMosaic s c tag m = cond (eqb tag mosaicHeadTag) (withMosaicHead s c) (cond (eqb tag mosaicStripTag) (withMosaicStrip s c m) m)
+unfoldable pub nextMosaic : List ℕ → ℕ → ℕ → ℕ → MosaicSection → MosaicSection
+nextMosaic s c tag len m = cond (eqb tag mosaicHeadTag) (withMosaicHead s c) (cond (eqb tag mosaicStripTag) (withMosaicStrip s c len m) m)
 
-unfoldable pub nextSorting : List ℕ → ℕ → ℕ → SortingSection → SortingSection
-nextSorting s c tag t = cond (eqb tag sortingHeadTag) (withSortingHead s c) (cond (eqb tag sortingStripTag) (withSortingStrip s c t) t)
+unfoldable pub nextSorting : List ℕ → ℕ → ℕ → ℕ → SortingSection → SortingSection
+nextSorting s c tag len t = cond (eqb tag sortingHeadTag) (withSortingHead s c) (cond (eqb tag sortingStripTag) (withSortingStrip s c len t) t)
 
 unfoldable pub nextFlight : List ℕ → ℕ → ℕ → ℕ → ℕ → FlightSection → FlightSection
 nextFlight s c tag len at f =
@@ -169,8 +175,8 @@ nextReading s st tag len =
       section = nextSection tag (st .section);
       head = nextHead tag (st .head) (st .at);
       members = nextMembers tag (st .members);
-      mosaic = nextMosaic s (st .at + 3) tag (st .mosaic);
-      sorting = nextSorting s (st .at + 3) tag (st .sorting);
+      mosaic = nextMosaic s (st .at + 3) tag len (st .mosaic);
+      sorting = nextSorting s (st .at + 3) tag len (st .sorting);
       flight = nextFlight s (st .at + 3) tag len (st .at) (st .flight);
     }
 

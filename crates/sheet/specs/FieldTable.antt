@@ -1,5 +1,5 @@
--- The field table of 01 ("The sheet"), with the second flight head of 02, Req 06, and the second block of Req 07: for each tag the numbers of its content from
--- left to right, each with its width in bytes and its range. The length of a content is the sum of its widths. Where the quoted table has 10,000 the upper end
+-- The field table of 01 ("The sheet"), with the second flight head of 02, Req 06, the second block of Req 07 and the weights of Req 09: for each tag the numbers
+-- of its content from left to right, each with its width in bytes and its range. The length of a content is the sum of its widths. Where the quoted table has 10,000 the upper end
 -- of a time is now `mostTime`, 60,000 (02, Req 01); the lower ends are the table's.
 use Prim.{Unit}
 use Prim.Native.Nat.{ℕ, zero, suc, _+_, _≤_}
@@ -7,7 +7,7 @@ use mathlib.Core.Bool.{Bool, cond, _&&_}
 use mathlib.Core.List.{List, [], _∷_, _++_}
 use lib.Dec.{eqb, leb}
 use Rattle.field.specs.Bytes.{numberAt}
-use Rattle.sheet.specs.Limits.{mostStations, mostDesks, mostTime, mostTurn}
+use Rattle.sheet.specs.Limits.{mostStations, mostDesks, mostTime, mostTurn, mostWeight}
 use Rattle.sheet.specs.Tags.{mosaicHeadTag, mosaicStripTag, sortingHeadTag, sortingStripTag, flightHeadTag, flightBlockTag, flightOrderTag}
 use Rattle.sheet.specs.Tags.{flightWindowBlockTag}
 use Rattle.sheet.specs.declared.Reading.{Reading}
@@ -44,6 +44,10 @@ sortingHead = item 1 (count 1 mostDesks) ∷ []
 unfoldable pub sortingStrip : ℕ → List Item
 sortingStrip m = item 1 (count 1 m) ∷ item 2 (positiveTime mostTime) ∷ item 2 (positiveTime mostTime) ∷ []
 
+-- 02, Req 09: "A mosaic or sorting strip may carry one last byte, its weight, 1 to 100"; "any other value is 6", as of a count
+unfoldable pub withWeight : List Item → List Item
+withWeight content = content ++ (item 1 (count 1 mostWeight) ∷ [])
+
 -- "empty"; 02, Req 06: "The flight head may carry two bytes, the turn g, 0 to 600 seconds"
 unfoldable pub emptyFlightHead : List Item
 emptyFlightHead = []
@@ -71,12 +75,13 @@ pub record TableRow : Type 0 where
 abbrev pub tableRow : ℕ → List Item → TableRow
 tableRow tag content = record { tag = tag; content = content }
 
--- The row of a mosaic strip, which is there for the station counts that a mosaic head may have, 1 to 4.
+-- The rows of a mosaic strip, which are there for the station counts that a mosaic head may have, 1 to 4.
 unfoldable pub isStationCount : ℕ → Bool
 isStationCount stations = leb 1 stations && leb stations mostStations
 
 unfoldable pub stripRows : ℕ → List TableRow
-stripRows stations = cond (isStationCount stations) (tableRow mosaicStripTag (mosaicStrip stations) ∷ []) []
+stripRows stations =
+    cond (isStationCount stations) (tableRow mosaicStripTag (mosaicStrip stations) ∷ tableRow mosaicStripTag (withWeight (mosaicStrip stations)) ∷ []) []
 
 -- The table, with so many stations in the head of the mosaic and so many desks in that of the sorting.
 unfoldable pub fieldTable : ℕ → ℕ → List TableRow
@@ -85,6 +90,7 @@ fieldTable stations desks =
     ∷ (stripRows stations
     ++ (tableRow sortingHeadTag sortingHead
     ∷ tableRow sortingStripTag (sortingStrip desks)
+    ∷ tableRow sortingStripTag (withWeight (sortingStrip desks))
     ∷ tableRow flightHeadTag emptyFlightHead
     ∷ tableRow flightHeadTag turnFlightHead
     ∷ tableRow flightBlockTag flightBlock

@@ -94,7 +94,7 @@ module _ (s : List ℕ) (st : Reading) (len : ℕ) (k : Kept s st) (w : st .at +
         within = w;
         few-members = omega arith;
         known = omega arith;
-        mosaic = mosaic-strip-sound s (st .at + 3) (st .mosaic) (k .mosaic) (omega arith) (within-by p (mosaic-strip-values s (st .at + 3) len _ _));
+        mosaic = mosaic-strip-sound s (st .at + 3) len (st .mosaic) (k .mosaic) (omega arith) (within-by p (mosaic-strip-values s (st .at + 3) len _ _));
         sorting = k .sorting;
         flight = k .flight;
         in-none = λ q. absurd (omega arith);
@@ -137,11 +137,11 @@ module _ (s : List ℕ) (st : Reading) (len : ℕ) (k : Kept s st) (w : st .at +
         few-members = omega arith;
         known = omega arith;
         mosaic = k .mosaic;
-        sorting = sorting-strip-sound s (st .at + 3) (st .sorting) (k .sorting) r (below _ _ (λ h. p .room-ok (TooMany.strip-of-desk refl h)));
+        sorting = sorting-strip-sound s (st .at + 3) len (st .sorting) (k .sorting) r (below _ _ (λ h. p .room-ok (TooMany.strip-of-desk refl h)));
         flight = k .flight;
         in-none = λ q. absurd (omega arith);
         in-mosaic = λ q. absurd (omega arith);
-        in-sorting = λ _. ap (λ n. n + 1) (k .in-sorting e) ∙ sym (sorting-strip-more s (st .at + 3) (st .sorting) (k .sorting) r);
+        in-sorting = λ _. ap (λ n. n + 1) (k .in-sorting e) ∙ sym (sorting-strip-more s (st .at + 3) len (st .sorting) (k .sorting) r);
         before-flight = λ h. k .before-flight h;
         in-flight = λ q. absurd (omega arith);
         after-order = λ q. absurd (omega arith);

@@ -15,6 +15,10 @@ mostTime = 60_000
 abbrev pub mostTurn : ℕ
 mostTurn = 600
 
+-- 02, Req 09: a strip's "weight, 1 to 100"
+abbrev pub mostWeight : ℕ
+mostWeight = 100
+
 abbrev pub mostStrips : ℕ
 mostStrips = 40
 
@@ -31,12 +35,12 @@ mostBlocksWithoutOrder = 8
 abbrev pub ceiling : ℕ
 ceiling = 10_000_000
 
--- the numbers of 64 bits that the working table must have, and the bytes that the plan buffer must have
+-- the numbers of 64 bits that the working table must have, and the bytes that the plan buffer must have (02, Req 09: "the plan buffer must have 1,103")
 abbrev pub tableLength : ℕ
 tableLength = 6_400
 
 abbrev pub planLength : ℕ
-planLength = 1_095
+planLength = 1_103
 
 -- 02, Req 02: "a page buffer below 3,069 bytes" is too small
 abbrev pub pageLength : ℕ

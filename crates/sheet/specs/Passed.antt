@@ -1,8 +1,9 @@
 -- A field that passes every row: what the rows' causes shut out, stated of the field.
+use Prim.{tt}
 use Prim.Native.Nat.{ℕ, _+_, _≤_, _<_}
 use mathlib.Core.Path.{_≡_, refl, subst}
 use mathlib.Core.Bool.{Bool, true, false}
-use mathlib.Core.List.{List, _∷_}
+use mathlib.Core.List.{List, [], _∷_, _++_}
 use native.Mathlib.Decide.{decLt}
 use native.Mathlib.Omega.{arith}
 use Rattle.field.specs.Bytes.{numberAt}
@@ -91,3 +92,14 @@ first-within v values p = p .0
 pub others-within : (v : Value) (values : List Value) → InRange (v ∷ values) → InRange values
 unfolding InRange
 others-within v values p = p .1
+
+-- the values before others, and those behind them
+pub before-within : (values more : List Value) → InRange (values ++ more) → InRange values
+unfolding InRange
+before-within [] more p = tt
+before-within (v ∷ values) more p = (p .0, before-within values more (p .1))
+
+pub behind-within : (values more : List Value) → InRange (values ++ more) → InRange more
+unfolding InRange
+behind-within [] more p = p
+behind-within (v ∷ values) more p = behind-within values more (p .1)

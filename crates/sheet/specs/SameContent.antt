@@ -10,7 +10,7 @@ use native.Mathlib.Decide.{ℕ-discrete}
 use native.Mathlib.Omega.{arith}
 use lib.Dec.{eqb}
 use lib.ListN.{getD, set}
-use borrow.Author.Tests.{ne-eqb, eqb-true}
+use borrow.Author.Tests.{eq-eqb, ne-eqb, eqb-true}
 use Rattle.base.specs.Branch.{check}
 use Rattle.field.specs.Bytes.{numberAt}
 use Rattle.sheet.specs.Tags.{mosaicHeadTag, mosaicStripTag, sortingHeadTag, sortingStripTag, flightHeadTag, flightBlockTag, flightOrderTag}
@@ -21,11 +21,11 @@ use Rattle.sheet.specs.Among.{Among, isAmong, true-among}
 use Rattle.sheet.specs.FieldTable.{Item, TableRow, mosaicHead, mosaicStrip, sortingHead, sortingStrip}
 use Rattle.sheet.specs.FieldTable.{flightBlock, flightWindowBlock, flightOrder, fieldTable, tableOf}
 use Rattle.sheet.specs.FieldTable.{lengthOf, contentsOf, lengthsDue, ofLength, numbersAt, valuesOf, contentValues, fieldValues}
-use Rattle.sheet.specs.Contents.{mosaic-head-content, mosaic-strip-content, sorting-head-content, sorting-strip-content, flight-block-content}
-use Rattle.sheet.specs.Contents.{flight-window-block-content, flight-order-content, head-length, sole-length, strip-length, strip-stations}
+use Rattle.sheet.specs.Contents.{mosaic-head-content, mosaic-strip-contents, sorting-head-content, sorting-strip-contents, flight-block-content}
+use Rattle.sheet.specs.Contents.{flight-window-block-content, flight-order-content, head-length, sole-length, either-length, strip-length, strip-stations}
 use Rattle.sheet.specs.Rows.{firstFailure}
 use Rattle.sheet.specs.Checks.{sectionFilled, orderGiven, permitted, rangeNumber, windowOrdered, hasRoom, orderProper}
-use Rattle.sheet.specs.Decode.{withMosaicHead, withStationTimes, withMosaicStrip, withSortingHead, withStripAt, withSortingStrip, turnOf, withFlightHead}
+use Rattle.sheet.specs.Decode.{withMosaicHead, weightOf, withStationTimes, withMosaicStrip, withSortingHead, withStripAt, withSortingStrip, turnOf, withFlightHead}
 use Rattle.sheet.specs.Decode.{exactBlock, windowBlock, withBlock, withOrder, nextMosaic, nextSorting, nextFlight, nextSection, nextMembers, nextReading}
 use Rattle.sheet.specs.Read.{contentChecks, fieldChecks, fieldNumber}
 use Rattle.sheet.specs.declared.MosaicSection.{MosaicSection}
@@ -126,9 +126,19 @@ module _ {s : List ℕ} {c : ℕ} {t : List ℕ} {d len : ℕ} (b : SameBytes s 
     due-at : (x : ℕ) → tag ≡ x → Among len (lengthsDue x (fieldTable stations desks))
     due-at x e = subst (λ y. Among len (lengthsDue y (fieldTable stations desks))) e due
 
-    strip-of-desk : tag ≡ sortingStripTag → len ≡ 5
+    strip-of-desk : tag ≡ sortingStripTag → (len ≡ 5) ⊎ (len ≡ 5 + 1)
     unfolding sortingStrip lengthOf
-    strip-of-desk e = sole-length sortingStripTag len _ (sortingStrip desks) (sorting-strip-content stations desks) (due-at sortingStripTag e)
+    strip-of-desk e = either-length sortingStripTag len _ (sortingStrip desks) (sorting-strip-contents stations desks) (due-at sortingStripTag e)
+
+    mosaic-strip : tag ≡ mosaicStripTag → (len ≡ 2 * stations + 2) ⊎ (len ≡ 2 * stations + 2 + 1)
+    mosaic-strip e =
+        let h = strip-stations len stations desks (due-at mosaicStripTag e) in
+        subst (λ others. (len ≡ others) ⊎ (len ≡ others + 1)) (strip-length stations)
+        (either-length mosaicStripTag len _ (mosaicStrip stations) (mosaic-strip-contents stations desks (h .0) (h .1)) (due-at mosaicStripTag e))
+
+    at-least : (others : ℕ) → (len ≡ others) ⊎ (len ≡ others + 1) → others ≤ len
+    at-least others (inl e) = omega arith
+    at-least others (inr e) = omega arith
 
     order-field : tag ≡ flightOrderTag → len ≡ 8
     unfolding flightOrder lengthOf
@@ -154,7 +164,7 @@ module _ {s : List ℕ} {c : ℕ} {t : List ℕ} {d len : ℕ} (b : SameBytes s 
       where
         go : Dec (tag ≡ sortingStripTag)
             → hasRoom tag members (stripsOfDesk counts (numberAt s c 1)) ≡ hasRoom tag members (stripsOfDesk counts (numberAt t d 1))
-        go (yes e) = ap (λ n. hasRoom tag members (stripsOfDesk counts n)) (first-number 1 (omega (arith, strip-of-desk e)))
+        go (yes e) = ap (λ n. hasRoom tag members (stripsOfDesk counts n)) (first-number 1 (omega (arith, at-least 5 (strip-of-desk e))))
         go (no e) = rw (ne-eqb tag sortingStripTag e)
 
     same-proper : (members : ℕ) → orderProper tag members (numberAt s c 8) ≡ orderProper tag members (numberAt t d 8)
@@ -178,20 +188,25 @@ module _ {s : List ℕ} {c : ℕ} {t : List ℕ} {d len : ℕ} (b : SameBytes s 
         let l : len ≡ 3 = sole-length mosaicHeadTag len _ mosaicHead (mosaic-head-content stations desks) (due-at mosaicHeadTag e) in
         rw (first-number 1 (omega arith), same-number 2 1 (omega arith))
 
-    same-mosaic-strip : (m : MosaicSection) → m .stations ≡ stations → tag ≡ mosaicStripTag → withMosaicStrip s c m ≡ withMosaicStrip t d m
+    -- a weight is the last byte, or absent in both
+    same-weight : (others : ℕ) → (len ≡ others) ⊎ (len ≡ others + 1) → weightOf s c len others ≡ weightOf t d len others
+    unfolding weightOf
+    same-weight others (inl e) = rw (eq-eqb len others e)
+    same-weight others (inr e) = ap (cond (eqb len others) 1) (same-number 1 others (omega arith))
+
+    same-mosaic-strip : (m : MosaicSection) → m .stations ≡ stations → tag ≡ mosaicStripTag → withMosaicStrip s c len m ≡ withMosaicStrip t d len m
     unfolding withMosaicStrip
     same-mosaic-strip m st e =
-        let h = strip-stations len stations desks (due-at mosaicStripTag e) in
-        let l : len ≡ lengthOf (mosaicStrip stations) =
-        sole-length mosaicStripTag len _ (mosaicStrip stations) (mosaic-strip-content stations desks (h .0) (h .1)) (due-at mosaicStripTag e) in
-        let k : len ≡ 2 * stations + 2 = l ∙ strip-length stations in
-        rw (same-times (4 * m .strips) (m .stations) (m .station) (omega arith), same-number 2 (2 * m .stations) (omega arith))
+        let w : weightOf s c len (2 * m .stations + 2) ≡ weightOf t d len (2 * m .stations + 2) =
+        same-weight (2 * m .stations + 2) (subst (λ x. (len ≡ 2 * x + 2) ⊎ (len ≡ 2 * x + 2 + 1)) (sym st) (mosaic-strip e)) in
+        let k : 2 * stations + 2 ≤ len = at-least (2 * stations + 2) (mosaic-strip e) in
+        rw (same-times (4 * m .strips) (m .stations) (m .station) (omega arith), same-number 2 (2 * m .stations) (omega arith), w)
 
-    pub same-mosaic : (m : MosaicSection) → m .stations ≡ stations → nextMosaic s c tag m ≡ nextMosaic t d tag m
+    pub same-mosaic : (m : MosaicSection) → m .stations ≡ stations → nextMosaic s c tag len m ≡ nextMosaic t d tag len m
     unfolding nextMosaic
     same-mosaic m st = go (ℕ-discrete tag mosaicHeadTag) (ℕ-discrete tag mosaicStripTag)
       where
-        go : Dec (tag ≡ mosaicHeadTag) → Dec (tag ≡ mosaicStripTag) → nextMosaic s c tag m ≡ nextMosaic t d tag m
+        go : Dec (tag ≡ mosaicHeadTag) → Dec (tag ≡ mosaicStripTag) → nextMosaic s c tag len m ≡ nextMosaic t d tag len m
         go (yes e) q = rw e (same-mosaic-head e)
         go (no e) (yes q) = rw q (same-mosaic-strip m st q)
         go (no e) (no q) = rw (ne-eqb tag mosaicHeadTag e, ne-eqb tag mosaicStripTag q)
@@ -202,17 +217,17 @@ module _ {s : List ℕ} {c : ℕ} {t : List ℕ} {d len : ℕ} (b : SameBytes s 
         let l : len ≡ 1 = sole-length sortingHeadTag len _ sortingHead (sorting-head-content stations desks) (due-at sortingHeadTag e) in
         rw (first-number 1 (omega arith))
 
-    same-sorting-strip : (u : SortingSection) → tag ≡ sortingStripTag → withSortingStrip s c u ≡ withSortingStrip t d u
+    same-sorting-strip : (u : SortingSection) → tag ≡ sortingStripTag → withSortingStrip s c len u ≡ withSortingStrip t d len u
     unfolding withSortingStrip withStripAt
     same-sorting-strip u e =
-        let l : len ≡ 5 = strip-of-desk e in
-        rw (first-number 1 (omega arith), same-number 2 1 (omega arith), same-number 2 3 (omega arith))
+        let l : 5 ≤ len = at-least 5 (strip-of-desk e) in
+        rw (first-number 1 (omega arith), same-number 2 1 (omega arith), same-number 2 3 (omega arith), same-weight 5 (strip-of-desk e))
 
-    pub same-sorting : (u : SortingSection) → nextSorting s c tag u ≡ nextSorting t d tag u
+    pub same-sorting : (u : SortingSection) → nextSorting s c tag len u ≡ nextSorting t d tag len u
     unfolding nextSorting
     same-sorting u = go (ℕ-discrete tag sortingHeadTag) (ℕ-discrete tag sortingStripTag)
       where
-        go : Dec (tag ≡ sortingHeadTag) → Dec (tag ≡ sortingStripTag) → nextSorting s c tag u ≡ nextSorting t d tag u
+        go : Dec (tag ≡ sortingHeadTag) → Dec (tag ≡ sortingStripTag) → nextSorting s c tag len u ≡ nextSorting t d tag len u
         go (yes e) q = rw e (same-sorting-head e)
         go (no e) (yes q) = rw q (same-sorting-strip u q)
         go (no e) (no q) = rw (ne-eqb tag sortingHeadTag e, ne-eqb tag sortingStripTag q)
@@ -345,8 +360,8 @@ module _ {s : List ℕ} {st : Reading} {t : List ℕ} {other : Reading} {len : �
   alike-behind due = record {
     section = ap (nextSection tag) (alike .section);
     members = ap (nextMembers tag) (alike .members);
-    mosaic = ap (nextMosaic t (other .at + 3) tag) (alike .mosaic) ∙ sym (same-mosaic b tag _ _ due (st .mosaic) refl);
-    sorting = ap (nextSorting t (other .at + 3) tag) (alike .sorting) ∙ sym (same-sorting b tag _ _ due (st .sorting));
+    mosaic = ap (nextMosaic t (other .at + 3) tag len) (alike .mosaic) ∙ sym (same-mosaic b tag _ _ due (st .mosaic) refl);
+    sorting = ap (nextSorting t (other .at + 3) tag len) (alike .sorting) ∙ sym (same-sorting b tag _ _ due (st .sorting));
     flight = flight ∙ ap (λ x. withPlace x (nextFlight s (st .at + 3) tag len (st .at) (st .flight))) (sym (place-after t _ tag len _ (other .flight)));
   }
     where

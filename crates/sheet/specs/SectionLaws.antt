@@ -2,25 +2,25 @@
 use Prim.Native.Nat.{ℕ, zero, suc, _+_, _-_, _*_, _≤_, _<_}
 use mathlib.Core.Path.{_≡_, refl, sym, subst, _∙_}
 use mathlib.Core.Bool.{Bool, true, false, cond, true≢false}
-use mathlib.Core.List.{List, [], _∷_}
+use mathlib.Core.List.{List, [], _∷_, _++_}
 use native.Mathlib.Decide.{ℕ-discrete}
 use native.Mathlib.Omega.{arith}
 use lib.Dec.{eqb}
 use lib.ListN.{length, getD, set, length-set}
 use Rattle.field.specs.Bytes.{numberAt}
 use Rattle.order.specs.Order.{Proper}
-use Rattle.sheet.specs.Limits.{mostStations, mostDesks, mostTime, mostTurn, mostStrips, mostStripsOfDesk, mostBlocks}
+use Rattle.sheet.specs.Limits.{mostStations, mostDesks, mostTime, mostTurn, mostWeight, mostStrips, mostStripsOfDesk, mostBlocks}
 use Rattle.sheet.specs.Sections.{stripsOfDesk}
 use Rattle.sheet.specs.FieldTable.{mosaicHead, mosaicStrip, sortingHead, sortingStrip, turnFlightHead, flightBlock, flightWindowBlock, valuesOf, contentValues}
 use Rattle.sheet.specs.FieldTable.{Between, Within, InRange}
-use Rattle.sheet.specs.FieldTable.Range.{time}
+use Rattle.sheet.specs.FieldTable.Range.{count, time}
 use Rattle.sheet.specs.FieldTable.Value.{value}
-use Rattle.sheet.specs.Contents.{stripFrom, strip-from-start, strip-bench-left, strip-time-left}
-use Rattle.sheet.specs.Decode.{zeros, begunMosaic, begunSorting, noMosaic, noSorting, noFlight, withMosaicHead, withStationTimes, withMosaicStrip, withSortingHead, withStripAt}
+use Rattle.sheet.specs.Contents.{weightValues, stripFrom, strip-from-start, strip-bench-left, strip-time-left}
+use Rattle.sheet.specs.Decode.{zeros, begunMosaic, begunSorting, noMosaic, noSorting, noFlight, withMosaicHead, weightOf, withStationTimes, withMosaicStrip, withSortingHead, withStripAt}
 use Rattle.sheet.specs.Decode.{withSortingStrip, begunFlight, turnOf, withFlightHead, exactBlock, windowBlock, withBlock, withOrder}
 use Rattle.sheet.specs.Sound.{MosaicSound, SortingSound, FlightWithin, stripsInAll}
 use Rattle.sheet.specs.Stores.{length-zeros, zeros-at, set-here, set-there, set-most, set-least, set-ordered}
-use Rattle.sheet.specs.Passed.{first-within, others-within}
+use Rattle.sheet.specs.Passed.{first-within, others-within, before-within, behind-within}
 use Rattle.sheet.specs.declared.MosaicSection.{MosaicSection}
 use Rattle.sheet.specs.declared.SortingSection.{SortingSection}
 use Rattle.sheet.specs.declared.Block.{Block}
@@ -40,9 +40,12 @@ mosaic-begun stations mount h₁ h₂ =
       most-strips = omega arith;
       station-length = length-zeros 160;
       bench-length = length-zeros 40;
+      weight-length = length-zeros 40;
       most-station = λ i. zero-most 160 i mostTime;
       most-bench = λ i. zero-most 40 i mostTime;
       least-bench = λ j h. absurd (omega arith);
+      most-weight = λ i. zero-most 40 i mostWeight;
+      least-weight = λ j h. absurd (omega arith);
     }
 
 pub no-mosaic-sound : MosaicSound noMosaic
@@ -89,23 +92,38 @@ module _ (s : List ℕ) (c : ℕ) where
       bench-at e = omega arith
   strip-bench (suc n) k b e r = strip-bench n (k + 1) b (omega arith) (others-within _ _ (subst InRange (strip-time-left s c k n) r))
 
-pub mosaic-strip-sound : (s : List ℕ) (c : ℕ) (m : MosaicSection) → MosaicSound m → m .strips < mostStrips → InRange (contentValues s c (mosaicStrip (m .stations)))
-    → MosaicSound (withMosaicStrip s c m)
+-- a weight that is written is within its range, and an absent one is 1
+weight-within : (s : List ℕ) (c len others : ℕ) → InRange (weightValues s c len others) → Between 1 (weightOf s c len others) mostWeight
+unfolding weightValues weightOf Within
+weight-within s c len others r = go (eqb len others) r
+  where
+    go : (b : Bool) → InRange (cond b [] (value (count 1 mostWeight) (numberAt s (c + others) 1) ∷ []))
+        → Between 1 (cond b 1 (numberAt s (c + others) 1)) mostWeight
+    go true r = record { at-least = omega arith; at-most = omega arith }
+    go false r = first-within _ _ r
+
+pub mosaic-strip-sound : (s : List ℕ) (c len : ℕ) (m : MosaicSection) → MosaicSound m → m .strips < mostStrips
+    → InRange (contentValues s c (mosaicStrip (m .stations)) ++ weightValues s c len (2 * m .stations + 2)) → MosaicSound (withMosaicStrip s c len m)
 unfolding withMosaicStrip
-mosaic-strip-sound s c m h room q =
-    let r = subst InRange (strip-from-start s c (m .stations)) q in
+mosaic-strip-sound s c len m h room q =
+    let r = subst InRange (strip-from-start s c (m .stations)) (before-within (contentValues s c (mosaicStrip (m .stations))) _ q) in
     let b = strip-bench s c (m .stations) 0 (m .stations) (omega arith) r in
+    let w = weight-within s c len (2 * m .stations + 2) (behind-within (contentValues s c (mosaicStrip (m .stations))) _ q) in
     let long = h .bench-length in
+    let wide = h .weight-length in
     record {
       most-stations = h .most-stations;
       most-mount = h .most-mount;
       most-strips = omega arith;
       station-length = length-times s c (4 * m .strips) (m .station) (m .stations) ∙ h .station-length;
       bench-length = simp length-set (h .bench-length);
+      weight-length = simp length-set (h .weight-length);
       most-station =
           times-most s c (4 * m .strips) (m .station) (h .most-station) (m .stations) (λ j l. strip-time s c (m .stations) 0 r j (omega arith) (omega arith));
       most-bench = set-most (m .bench) mostTime (m .strips) _ (h .most-bench) (b .at-most);
       least-bench = set-least (m .bench) (m .strips) _ (h .least-bench) (b .at-least) (omega arith);
+      most-weight = set-most (m .weight) mostWeight (m .strips) _ (h .most-weight) (w .at-most);
+      least-weight = set-least (m .weight) (m .strips) _ (h .least-weight) (w .at-least) (omega arith);
     }
 
 -- the sorting
@@ -117,12 +135,15 @@ sorting-begun desks h =
       counts-length = length-zeros 3;
       scan-length = length-zeros 18;
       desk-length = length-zeros 18;
+      weight-length = length-zeros 18;
       most-strips = λ d. zero-most 3 d mostStripsOfDesk;
       no-desk = λ d l. zeros-at 3 d;
       most-scan = λ i. zero-most 18 i mostTime;
       most-desk = λ i. zero-most 18 i mostTime;
       least-scan = λ d k l. absurd (omega (arith, zeros-at 3 d));
       least-desk = λ d k l. absurd (omega (arith, zeros-at 3 d));
+      most-weight = λ i. zero-most 18 i mostWeight;
+      least-weight = λ d k l. absurd (omega (arith, zeros-at 3 d));
     }
 
 pub no-sorting-sound : SortingSound noSorting
@@ -133,7 +154,7 @@ pub sorting-head-sound : (s : List ℕ) (c : ℕ) → InRange (valuesOf sortingH
 unfolding sortingHead valuesOf withSortingHead Within
 sorting-head-sound s c r = sorting-begun _ (first-within _ _ r .at-most)
 
--- strip k of desk d is stored with a time at 6 d + k: every strip of every desk has a time of 1 or more
+-- strip k of desk d is stored with a value at 6 d + k: every strip of every desk has a value of 1 or more
 module _ (counts times : List ℕ) (d k v : ℕ) (here : getD counts d 0 ≡ k) (within : d < length counts)
     (few : (d′ : ℕ) → getD counts d′ 0 ≤ mostStripsOfDesk) (room : k < mostStripsOfDesk) (slot : 6 * d + k < length times)
     (least : (d′ k′ : ℕ) → k′ < getD counts d′ 0 → 1 ≤ getD times (6 * d′ + k′) 0) (fits : 1 ≤ v) where
@@ -153,19 +174,22 @@ module _ (counts times : List ℕ) (d k v : ℕ) (here : getD counts d 0 ≡ k) 
       let f = few d′ in
       rw (set-there times (6 * d + k) (6 * d′ + k′) v (λ q. e (omega arith))) (least d′ k′ l)
 
-pub strip-at-sound : (s : List ℕ) (c : ℕ) (t : SortingSection) (d k : ℕ) → SortingSound t → d < t .desks → getD (t .counts) d 0 ≡ k → k < mostStripsOfDesk
-    → Between 1 (numberAt s (c + 1) 2) mostTime → Between 1 (numberAt s (c + 3) 2) mostTime → SortingSound (withStripAt s c t d k)
+pub strip-at-sound : (s : List ℕ) (c len : ℕ) (t : SortingSection) (d k : ℕ) → SortingSound t → d < t .desks → getD (t .counts) d 0 ≡ k
+    → k < mostStripsOfDesk → Between 1 (numberAt s (c + 1) 2) mostTime → Between 1 (numberAt s (c + 3) 2) mostTime → Between 1 (weightOf s c len 5) mostWeight
+    → SortingSound (withStripAt s c len t d k)
 unfolding withStripAt
-strip-at-sound s c t d k h hd here room b₁ b₂ =
+strip-at-sound s c len t d k h hd here room b₁ b₂ b₃ =
     let md = h .most-desks in
     let lc = h .counts-length in
     let ls = h .scan-length in
     let ld = h .desk-length in
+    let lw = h .weight-length in
     record {
       most-desks = h .most-desks;
       counts-length = simp length-set (h .counts-length);
       scan-length = simp length-set (h .scan-length);
       desk-length = simp length-set (h .desk-length);
+      weight-length = simp length-set (h .weight-length);
       most-strips = set-most (t .counts) mostStripsOfDesk d (k + 1) (h .most-strips) (omega arith);
       no-desk = λ d′ l. set-there (t .counts) d d′ (k + 1) (λ q. absurd (omega arith)) ∙ h .no-desk d′ l;
       most-scan = set-most (t .scan) mostTime (6 * d + k) _ (h .most-scan) (b₁ .at-most);
@@ -174,18 +198,24 @@ strip-at-sound s c t d k h hd here room b₁ b₂ =
           λ d′ k′ l. least-strip (t .counts) (t .scan) d k _ here (omega arith) (h .most-strips) room (omega arith) (h .least-scan) (b₁ .at-least) d′ k′ l (ℕ-discrete d′ d);
       least-desk =
           λ d′ k′ l. least-strip (t .counts) (t .desk) d k _ here (omega arith) (h .most-strips) room (omega arith) (h .least-desk) (b₂ .at-least) d′ k′ l (ℕ-discrete d′ d);
+      most-weight = set-most (t .weight) mostWeight (6 * d + k) _ (h .most-weight) (b₃ .at-most);
+      least-weight =
+          λ d′ k′ l. least-strip (t .counts) (t .weight) d k _ here (omega arith) (h .most-strips) room (omega arith) (h .least-weight) (b₃ .at-least) d′ k′ l
+          (ℕ-discrete d′ d);
     }
 
-pub sorting-strip-sound : (s : List ℕ) (c : ℕ) (t : SortingSection) → SortingSound t
-    → InRange (valuesOf (sortingStrip (t .desks)) (numberAt s c 1 ∷ numberAt s (c + 1) 2 ∷ numberAt s (c + 3) 2 ∷ []))
-    → stripsOfDesk (t .counts) (numberAt s c 1) < mostStripsOfDesk → SortingSound (withSortingStrip s c t)
+pub sorting-strip-sound : (s : List ℕ) (c len : ℕ) (t : SortingSection) → SortingSound t
+    → InRange (valuesOf (sortingStrip (t .desks)) (numberAt s c 1 ∷ numberAt s (c + 1) 2 ∷ numberAt s (c + 3) 2 ∷ []) ++ weightValues s c len 5)
+    → stripsOfDesk (t .counts) (numberAt s c 1) < mostStripsOfDesk → SortingSound (withSortingStrip s c len t)
 unfolding sortingStrip valuesOf withSortingStrip stripsOfDesk Within
-sorting-strip-sound s c t h r room =
+sorting-strip-sound s c len t h r room =
     let b = first-within _ _ r in
     let times = others-within _ _ r in
     let lo : 1 ≤ numberAt s c 1 = b .at-least in
     let hi : numberAt s c 1 ≤ t .desks = b .at-most in
-    strip-at-sound s c t (numberAt s c 1 - 1) _ h (omega arith) refl room (first-within _ _ times) (first-within _ _ (others-within _ _ times))
+    let desk-on = others-within _ _ times in
+    strip-at-sound s c len t (numberAt s c 1 - 1) _ h (omega arith) refl room (first-within _ _ times) (first-within _ _ desk-on)
+    (weight-within s c len 5 (others-within _ _ desk-on))
 
 -- and there is one strip more in all
 desk-cases : (l : List ℕ) (d k : ℕ) → length l ≡ 3 → d < 3 → getD l d 0 ≡ k
@@ -198,11 +228,11 @@ desk-cases l (suc (suc zero)) k long h e =
     omega (arith, set-there l 2 0 (k + 1) (λ q. omega arith), set-there l 2 1 (k + 1) (λ q. omega arith), set-here l 2 2 (k + 1) (omega arith) refl)
 desk-cases l (suc (suc (suc d))) k long h e = absurd (omega arith)
 
-pub sorting-strip-more : (s : List ℕ) (c : ℕ) (t : SortingSection) → SortingSound t
-    → InRange (valuesOf (sortingStrip (t .desks)) (numberAt s c 1 ∷ numberAt s (c + 1) 2 ∷ numberAt s (c + 3) 2 ∷ []))
-    → stripsInAll (withSortingStrip s c t) ≡ stripsInAll t + 1
+pub sorting-strip-more : (s : List ℕ) (c len : ℕ) (t : SortingSection) → SortingSound t
+    → InRange (valuesOf (sortingStrip (t .desks)) (numberAt s c 1 ∷ numberAt s (c + 1) 2 ∷ numberAt s (c + 3) 2 ∷ []) ++ weightValues s c len 5)
+    → stripsInAll (withSortingStrip s c len t) ≡ stripsInAll t + 1
 unfolding sortingStrip valuesOf withSortingStrip withStripAt stripsOfDesk stripsInAll Within
-sorting-strip-more s c t h r =
+sorting-strip-more s c len t h r =
     let b = first-within _ _ r in
     let lo : 1 ≤ numberAt s c 1 = b .at-least in
     let hi : numberAt s c 1 ≤ t .desks = b .at-most in

@@ -3,7 +3,7 @@ use Prim.Native.Nat.{ℕ, _+_, _*_, _≤_, _<_}
 use mathlib.Core.Path.{_≡_}
 use mathlib.Core.Bool.{true, false}
 use lib.ListN.{length, getD}
-use Rattle.sheet.specs.Limits.{mostStations, mostDesks, mostTime, mostTurn, mostStrips, mostStripsOfDesk, mostBlocks, mostBlocksWithoutOrder}
+use Rattle.sheet.specs.Limits.{mostStations, mostDesks, mostTime, mostTurn, mostWeight, mostStrips, mostStripsOfDesk, mostBlocks, mostBlocksWithoutOrder}
 use Rattle.order.specs.Order.{Proper}
 use Rattle.sheet.specs.declared.MosaicSection.{MosaicSection}
 use Rattle.sheet.specs.declared.SortingSection.{SortingSection}
@@ -16,16 +16,20 @@ pub record MosaicSound (m : MosaicSection) : Type 0 where
   pub most-strips : m .strips ≤ mostStrips
   pub station-length : length (m .station) ≡ 160
   pub bench-length : length (m .bench) ≡ 40
+  pub weight-length : length (m .weight) ≡ 40
   -- "0 means camera off"
   pub most-station : (i : ℕ) → getD (m .station) i 0 ≤ mostTime
   pub most-bench : (j : ℕ) → getD (m .bench) j 0 ≤ mostTime
   pub least-bench : (j : ℕ) → j < m .strips → 1 ≤ getD (m .bench) j 0
+  pub most-weight : (j : ℕ) → getD (m .weight) j 0 ≤ mostWeight
+  pub least-weight : (j : ℕ) → j < m .strips → 1 ≤ getD (m .weight) j 0
 
 pub record SortingSound (s : SortingSection) : Type 0 where
   pub most-desks : s .desks ≤ mostDesks
   pub counts-length : length (s .counts) ≡ 3
   pub scan-length : length (s .scan) ≡ 18
   pub desk-length : length (s .desk) ≡ 18
+  pub weight-length : length (s .weight) ≡ 18
   -- "up to 6 per desk; a desk may have none"
   pub most-strips : (d : ℕ) → getD (s .counts) d 0 ≤ mostStripsOfDesk
   pub no-desk : (d : ℕ) → s .desks ≤ d → getD (s .counts) d 0 ≡ 0
@@ -33,6 +37,8 @@ pub record SortingSound (s : SortingSection) : Type 0 where
   pub most-desk : (i : ℕ) → getD (s .desk) i 0 ≤ mostTime
   pub least-scan : (d k : ℕ) → k < getD (s .counts) d 0 → 1 ≤ getD (s .scan) (6 * d + k) 0
   pub least-desk : (d k : ℕ) → k < getD (s .counts) d 0 → 1 ≤ getD (s .desk) (6 * d + k) 0
+  pub most-weight : (i : ℕ) → getD (s .weight) i 0 ≤ mostWeight
+  pub least-weight : (d k : ℕ) → k < getD (s .counts) d 0 → 1 ≤ getD (s .weight) (6 * d + k) 0
 
 -- a flight section that has at most so many blocks where no order is given
 pub record FlightWithin (mostFree : ℕ) (f : FlightSection) : Type 0 where

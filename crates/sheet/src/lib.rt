@@ -6,13 +6,14 @@ pub mod numbers;
 pub mod sections;
 pub mod tags;
 
-// The mosaic section. Station k of strip j, both from 0, stands at 4 j + k.
+// The mosaic section. Station k of strip j, both from 0, stands at 4 j + k. The weight of a strip that carries none is 1 (02, Req 09), here and in a sorting.
 pub struct MosaicSection {
     pub stations: usize,
     pub mount: u64,
     pub strips: usize,
     pub station: [u64; 160],
     pub bench: [u64; 40],
+    pub weight: [u64; 40],
 }
 
 // The sorting section. Strip k of desk d, both from 0, stands at 6 d + k.
@@ -21,6 +22,7 @@ pub struct SortingSection {
     pub counts: [usize; 3],
     pub scan: [u64; 18],
     pub desk: [u64; 18],
+    pub weight: [u64; 18],
 }
 
 // A block of the flight: its two passes, and the window in which the delay between them lies.

@@ -9,6 +9,9 @@ pub const MOST_TIME: u64 = 60_000;
 // The turn between passes, in seconds (02, Req 06); the least is 0.
 pub const MOST_TURN: u64 = 600;
 
+// The weight of a strip (02, Req 09); the least is 1.
+pub const MOST_WEIGHT: u64 = 100;
+
 pub const MOST_STRIPS: usize = 40;
 
 pub const MOST_STRIPS_OF_DESK: usize = 6;
@@ -21,6 +24,6 @@ pub const CEILING: u64 = 10_000_000;
 
 pub const TABLE_LENGTH: usize = 6_400;
 
-pub const PLAN_LENGTH: usize = 1_095;
+pub const PLAN_LENGTH: usize = 1_103;
 // A page buffer (02, Req 02): a line of 33 bytes for each head and each member that a plan may have.
 pub const PAGE_LENGTH: usize = 3_069;

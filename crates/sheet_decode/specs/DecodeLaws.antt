@@ -5,8 +5,9 @@ use mathlib.Core.List.{List}
 use native.Mathlib.Numerals.{add-one}
 use native.Mathlib.Omega.{arith}
 use lib.ListN.{length, set, length-set}
+use borrow.Author.Tests.{eq-eqb, ne-eqb}
 use Rattle.field.specs.Bytes.{numberAt, NumberRead}
-use Rattle.sheet.specs.Decode.{begunMosaic, begunSorting, noMosaic, noSorting, noFlight, startReading, withMosaicHead, withStationTimes, withMosaicStrip, withSortingHead}
+use Rattle.sheet.specs.Decode.{begunMosaic, begunSorting, noMosaic, noSorting, noFlight, startReading, withMosaicHead, weightOf, withStationTimes, withMosaicStrip, withSortingHead}
 use Rattle.sheet.specs.Decode.{withStripAt, withSortingStrip, nextMosaic, nextSorting, nextFlight, nextSection, nextHead, nextMembers, nextReading}
 use Rattle.sheet.specs.Sections.{stripsOfDesk}
 use Rattle.sheet.specs.Tags.{sortingStripTag}
@@ -66,29 +67,54 @@ module _ (s : List ℕ) (c base count : ℕ) (times : List ℕ) where
       all : k ≡ count
       all = let w = t .within in omega arith
 
-pub mosaic-strip-is : (s : List ℕ) (c : ℕ) (m : MosaicSection) (station : List ℕ) (value : ℕ)
+-- a weight: absent, or the last byte
+module _ (s : List ℕ) (c len others : ℕ) where
+  pub weight-absent : len ≡ others → 1 ≡ weightOf s c len others
+  unfolding weightOf
+  weight-absent e = rw (eq-eqb len others e)
+
+  pub weight-there : (w : ℕ) → (len ≡ others → ⊥) → NumberRead s (c + others) 1 w → w ≡ weightOf s c len others
+  unfolding weightOf
+  weight-there w n read = rw (ne-eqb len others n) (read .is)
+
+pub mosaic-strip-is : (s : List ℕ) (c len : ℕ) (m : MosaicSection) (station : List ℕ) (value weight : ℕ)
     → station ≡ withStationTimes s c (4 * m .strips) (m .stations) (m .station) → NumberRead s (c + 2 * m .stations) 2 value
+    → weight ≡ weightOf s c len (2 * m .stations + 2)
     → _≡_ {A = MosaicSection}
-    (record { stations = m .stations; mount = m .mount; strips = m .strips + 1; station = station; bench = set (m .bench) (m .strips) value })
-    (withMosaicStrip s c m)
+    (record {
+      stations = m .stations;
+      mount = m .mount;
+      strips = m .strips + 1;
+      station = station;
+      bench = set (m .bench) (m .strips) value;
+      weight = set (m .weight) (m .strips) weight;
+    })
+    (withMosaicStrip s c len m)
 unfolding withMosaicStrip
-mosaic-strip-is s c m station value e n = rw (e, n .is)
+mosaic-strip-is s c len m station value weight e n w = rw (e, n .is, w)
 
-pub strip-at-is : (s : List ℕ) (c : ℕ) (t : SortingSection) (d k scan desk : ℕ) → NumberRead s (c + 1) 2 scan → NumberRead s (c + 3) 2 desk
+pub strip-at-is : (s : List ℕ) (c len : ℕ) (t : SortingSection) (d k scan desk weight : ℕ) → NumberRead s (c + 1) 2 scan → NumberRead s (c + 3) 2 desk
+    → weight ≡ weightOf s c len 5
     → _≡_ {A = SortingSection}
-    (record { desks = t .desks; counts = set (t .counts) d (k + 1); scan = set (t .scan) (6 * d + k) scan; desk = set (t .desk) (6 * d + k) desk })
-    (withStripAt s c t d k)
+    (record {
+      desks = t .desks;
+      counts = set (t .counts) d (k + 1);
+      scan = set (t .scan) (6 * d + k) scan;
+      desk = set (t .desk) (6 * d + k) desk;
+      weight = set (t .weight) (6 * d + k) weight;
+    })
+    (withStripAt s c len t d k)
 unfolding withStripAt
-strip-at-is s c t d k scan desk n₁ n₂ = rw (n₁ .is, n₂ .is)
+strip-at-is s c len t d k scan desk weight n₁ n₂ w = rw (n₁ .is, n₂ .is, w)
 
-pub sorting-strip-is : (s : List ℕ) (c tag : ℕ) (t r : SortingSection) (desk d k : ℕ) → tag ≡ sortingStripTag → NumberRead s c 1 desk → d ≡ desk - 1
-    → k ≡ stripsOfDesk (t .counts) desk → r ≡ withStripAt s c t d k → r ≡ nextSorting s c tag t
+pub sorting-strip-is : (s : List ℕ) (c tag len : ℕ) (t r : SortingSection) (desk d k : ℕ) → tag ≡ sortingStripTag → NumberRead s c 1 desk → d ≡ desk - 1
+    → k ≡ stripsOfDesk (t .counts) desk → r ≡ withStripAt s c len t d k → r ≡ nextSorting s c tag len t
 unfolding nextSorting withSortingStrip
-sorting-strip-is s c tag t r desk d k e n ed ek h = rw (e, ← n .is, ← ed, ← ek) h
+sorting-strip-is s c tag len t r desk d k e n ed ek h = rw (e, ← n .is, ← ed, ← ek) h
 
 pub reading-is : (s : List ℕ) (st : Reading) (tag len section head members : ℕ) (m : MosaicSection) (t : SortingSection) (f : FlightSection)
     → section ≡ nextSection tag (st .section) → head ≡ nextHead tag (st .head) (st .at) → members ≡ nextMembers tag (st .members)
-    → m ≡ nextMosaic s (st .at + 3) tag (st .mosaic) → t ≡ nextSorting s (st .at + 3) tag (st .sorting)
+    → m ≡ nextMosaic s (st .at + 3) tag len (st .mosaic) → t ≡ nextSorting s (st .at + 3) tag len (st .sorting)
     → f ≡ nextFlight s (st .at + 3) tag len (st .at) (st .flight)
     → _≡_ {A = Reading} (record { at = st .at + 3 + len; section = section; head = head; members = members; mosaic = m; sorting = t; flight = f })
     (nextReading s st tag len)

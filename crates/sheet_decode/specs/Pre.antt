@@ -18,7 +18,7 @@ pub record StationTimesPre (c base count : ℕ) : Type 0 where
   pub times-fit : base + mostStations ≤ 160
 
 pub record MosaicStripPre (c strips stations : ℕ) : Type 0 where
-  pub content : c + 8 < 2 ^ 64
+  pub content : c + 10 < 2 ^ 64
   pub strip-fits : strips < mostStrips
   pub stations-fit : stations ≤ mostStations
 
@@ -29,7 +29,7 @@ pub record StripAtPre (c d k : ℕ) : Type 0 where
 
 -- room for what a field of a tag adds
 pub record NextMosaicPre (c tag strips stations : ℕ) : Type 0 where
-  pub content : c + 8 < 2 ^ 64
+  pub content : c + 10 < 2 ^ 64
   pub stations-fit : stations ≤ mostStations
   pub strip-fits : tag ≡ mosaicStripTag → strips < mostStrips
 

@@ -25,7 +25,7 @@ use sheet_checks::ends_section;
 ghost use mathlib.Core.Path.{_≡_};
 ghost use Prim.Native.Nat.{_+_, _*_, _<_, _^_};
 ghost use lib.ListN.{length};
-ghost use Rattle.sheet.specs.Decode.{noMosaic, noSorting, withMosaicHead, withStationTimes, withMosaicStrip, withSortingHead, withStripAt, nextMosaic, nextSorting};
+ghost use Rattle.sheet.specs.Decode.{noMosaic, noSorting, withMosaicHead, weightOf, withStationTimes, withMosaicStrip, withSortingHead, withStripAt, nextMosaic, nextSorting};
 ghost use Rattle.sheet.specs.Decode.{nextSection, nextMembers, nextHead, nextReading, startReading};
 ghost use Rattle.field.specs.Bytes.{numberAt};
 ghost use Rattle.sheet.specs.Sections.{stripsOfDesk};
@@ -41,6 +41,7 @@ pub fn no_mosaic() -> MosaicSection
         strips: 0,
         station: [0; 160],
         bench: [0; 40],
+        weight: [0; 40],
     }
 }
 
@@ -52,6 +53,7 @@ pub fn no_sorting() -> SortingSection
         counts: [0; 3],
         scan: [0; 18],
         desk: [0; 18],
+        weight: [0; 18],
     }
 }
 
@@ -109,6 +111,7 @@ fn with_mosaic_head(s: &[u8], c: usize) -> MosaicSection
         strips: 0,
         station: [0; 160],
         bench: [0; 40],
+        weight: [0; 40],
     }
 }
 
@@ -132,22 +135,36 @@ fn with_station_times(
     out
 }
 
-fn with_mosaic_strip(s: &[u8], c: usize, m: MosaicSection) -> MosaicSection
+// The weight of a strip, behind so many other bytes: absent, it is 1.
+fn weight_of(s: &[u8], c: usize, length: usize, others: usize) -> u64
+    requires { ⌜ c + others < 2 ^ 64 ⌝ }
+    ensures { λ r. ⌜ r ≡ weightOf (now (s .entry)) c length others ⌝ }
+{
+    if length == others {
+        return 1;
+    }
+    byte(s, c + others)
+}
+
+fn with_mosaic_strip(s: &[u8], c: usize, length: usize, m: MosaicSection) -> MosaicSection
     requires { ⌜ MosaicStripPre c (m .strips) (m .stations) ⌝ }
-    ensures { λ r. ⌜ r ≡ withMosaicStrip (now (s .entry)) c m ⌝ }
+    ensures { λ r. ⌜ r ≡ withMosaicStrip (now (s .entry)) c length m ⌝ }
 {
     let stations = m.stations;
     let strips = m.strips;
     let times = m.station;
     let station = with_station_times(s, c, 4 * strips, stations, times);
     let mut bench = m.bench;
+    let mut weight = m.weight;
     bench[strips] = number(s, c + 2 * stations, 2);
+    weight[strips] = weight_of(s, c, length, 2 * stations + 2);
     MosaicSection {
         stations,
         mount: m.mount,
         strips: strips + 1,
         station,
         bench,
+        weight,
     }
 }
 
@@ -159,44 +176,61 @@ fn with_sorting_head(s: &[u8], c: usize) -> SortingSection
         counts: [0; 3],
         scan: [0; 18],
         desk: [0; 18],
+        weight: [0; 18],
     }
 }
 
 // The sorting with strip k of desk d, both from 0.
-fn with_strip_at(s: &[u8], c: usize, t: SortingSection, d: usize, k: usize) -> SortingSection
+fn with_strip_at(
+    s: &[u8],
+    c: usize,
+    length: usize,
+    t: SortingSection,
+    d: usize,
+    k: usize,
+) -> SortingSection
     requires { ⌜ StripAtPre c d k ⌝ }
-    ensures { λ r. ⌜ r ≡ withStripAt (now (s .entry)) c t d k ⌝ }
+    ensures { λ r. ⌜ r ≡ withStripAt (now (s .entry)) c length t d k ⌝ }
 {
     let mut counts = t.counts;
     let mut scan = t.scan;
     let mut desk = t.desk;
+    let mut weight = t.weight;
     counts[d] = k + 1;
     scan[6 * d + k] = number(s, c + 1, 2);
     desk[6 * d + k] = number(s, c + 3, 2);
+    weight[6 * d + k] = weight_of(s, c, length, 5);
     SortingSection {
         desks: t.desks,
         counts,
         scan,
         desk,
+        weight,
     }
 }
 
-fn next_mosaic(s: &[u8], c: usize, tag: u8, m: MosaicSection) -> MosaicSection
+fn next_mosaic(s: &[u8], c: usize, tag: u8, length: usize, m: MosaicSection) -> MosaicSection
     requires { ⌜ NextMosaicPre c tag (m .strips) (m .stations) ⌝ }
-    ensures { λ r. ⌜ r ≡ nextMosaic (now (s .entry)) c tag m ⌝ }
+    ensures { λ r. ⌜ r ≡ nextMosaic (now (s .entry)) c tag length m ⌝ }
 {
     if tag == MOSAIC_HEAD {
         return with_mosaic_head(s, c);
     }
     if tag == MOSAIC_STRIP {
-        return with_mosaic_strip(s, c, m);
+        return with_mosaic_strip(s, c, length, m);
     }
     m
 }
 
-fn next_sorting(s: &[u8], c: usize, tag: u8, t: SortingSection) -> SortingSection
+fn next_sorting(
+    s: &[u8],
+    c: usize,
+    tag: u8,
+    length: usize,
+    t: SortingSection,
+) -> SortingSection
     requires { ⌜ NextSortingPre c tag (numberAt (now s) c 1) (stripsOfDesk (t .counts) (numberAt (now s) c 1)) ⌝ }
-    ensures { λ r. ⌜ r ≡ nextSorting (now (s .entry)) c tag t ⌝ }
+    ensures { λ r. ⌜ r ≡ nextSorting (now (s .entry)) c tag length t ⌝ }
 {
     if tag == SORTING_HEAD {
         return with_sorting_head(s, c);
@@ -204,7 +238,14 @@ fn next_sorting(s: &[u8], c: usize, tag: u8, t: SortingSection) -> SortingSectio
     if tag == SORTING_STRIP {
         let desk = byte(s, c);
         let counts = t.counts;
-        return with_strip_at(s, c, t, desk_index(desk), strips_of_desk(counts, desk));
+        return with_strip_at(
+            s,
+            c,
+            length,
+            t,
+            desk_index(desk),
+            strips_of_desk(counts, desk),
+        );
     }
     t
 }
@@ -257,8 +298,8 @@ pub fn next_reading(s: &[u8], st: Reading, tag: u8, length: usize) -> Reading
         section: next_section(tag, st.section),
         head: next_head(tag, st.head, at),
         members: next_members(tag, st.members),
-        mosaic: next_mosaic(s, at + 3, tag, mosaic),
-        sorting: next_sorting(s, at + 3, tag, sorting),
+        mosaic: next_mosaic(s, at + 3, tag, length, mosaic),
+        sorting: next_sorting(s, at + 3, tag, length, sorting),
         flight: next_flight(s, at + 3, tag, length, at, flight),
     }
 }

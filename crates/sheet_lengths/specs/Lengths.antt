@@ -11,9 +11,9 @@ use Rattle.sheet.specs.Limits.{mostStations}
 use Rattle.sheet.specs.Tags.{mosaicHeadTag, mosaicStripTag, sortingHeadTag, sortingStripTag, flightHeadTag, flightBlockTag, flightOrderTag}
 use Rattle.sheet.specs.Tags.{flightWindowBlockTag}
 use Rattle.sheet.specs.Among.{isAmong}
-use Rattle.sheet.specs.FieldTable.{mosaicHead, sortingHead, sortingStrip, emptyFlightHead, turnFlightHead, flightBlock, flightWindowBlock, flightOrder}
+use Rattle.sheet.specs.FieldTable.{mosaicHead, mosaicStrip, sortingHead, sortingStrip, emptyFlightHead, turnFlightHead, flightBlock, flightWindowBlock, flightOrder}
 use Rattle.sheet.specs.FieldTable.{fieldTable, lengthOf, contentsOf, lengthsOf, lengthsDue}
-use Rattle.sheet.specs.Contents.{mosaic-head-content, mosaic-strip-content, no-strip-content, sorting-head-content, sorting-strip-content}
+use Rattle.sheet.specs.Contents.{mosaic-head-content, mosaic-strip-contents, no-strip-content, sorting-head-content, sorting-strip-contents, weighted-length}
 use Rattle.sheet.specs.Contents.{flight-head-contents, flight-block-content, flight-window-block-content, flight-order-content, no-content, no-lengths, strip-length}
 use Rattle.sheet_lengths.specs.declared.LengthDue.{LengthDue}
 use Rattle.sheet_lengths.specs.declared.LengthDue.the-variants.{Bytes, Either, None}
@@ -28,24 +28,25 @@ lengthsGiven None = []
 abbrev pub GivesLength : ℕ → ℕ → LengthDue → Type 0
 GivesLength tag stations due = (desks : ℕ) → lengthsGiven due ≡ lengthsDue tag (fieldTable stations desks)
 
--- the cases of the eight tags: each is the length of the content that the table has for the tag, that of the flight head the lengths of its two
+-- the cases of the eight tags: each is the length of the content that the table has for the tag, those of the strips and of the flight head the lengths of two
 module _ (tag stations n : ℕ) where
   pub mosaic-head-case : tag ≡ mosaicHeadTag → n ≡ 3 → GivesLength tag stations (Bytes n)
   unfolding lengthsGiven lengthsDue lengthsOf lengthOf mosaicHead
   mosaic-head-case e h desks = rw (e, h, mosaic-head-content stations desks)
 
-  pub mosaic-strip-case : tag ≡ mosaicStripTag → 1 ≤ stations → stations ≤ mostStations → n ≡ 2 * stations + 2
-      → GivesLength tag stations (Bytes n)
+  pub mosaic-strip-case : (m : ℕ) → tag ≡ mosaicStripTag → 1 ≤ stations → stations ≤ mostStations → n ≡ 2 * stations + 2 → m ≡ 2 * stations + 2 + 1
+      → GivesLength tag stations (Either n m)
   unfolding lengthsGiven lengthsDue lengthsOf
-  mosaic-strip-case e lo hi h desks = rw (e, h, mosaic-strip-content stations desks lo hi, strip-length stations)
+  mosaic-strip-case m e lo hi h k desks =
+      rw (e, h, k, mosaic-strip-contents stations desks lo hi, weighted-length (mosaicStrip stations), strip-length stations)
 
   pub sorting-head-case : tag ≡ sortingHeadTag → n ≡ 1 → GivesLength tag stations (Bytes n)
   unfolding lengthsGiven lengthsDue lengthsOf lengthOf sortingHead
   sorting-head-case e h desks = rw (e, h, sorting-head-content stations desks)
 
-  pub sorting-strip-case : tag ≡ sortingStripTag → n ≡ 5 → GivesLength tag stations (Bytes n)
+  pub sorting-strip-case : (m : ℕ) → tag ≡ sortingStripTag → n ≡ 5 → m ≡ 6 → GivesLength tag stations (Either n m)
   unfolding lengthsGiven lengthsDue lengthsOf lengthOf sortingStrip
-  sorting-strip-case e h desks = rw (e, h, sorting-strip-content stations desks)
+  sorting-strip-case m e h k desks = rw (e, h, k, sorting-strip-contents stations desks, weighted-length (sortingStrip desks))
 
   pub flight-head-case : (m : ℕ) → tag ≡ flightHeadTag → n ≡ 0 → m ≡ 2 → GivesLength tag stations (Either n m)
   unfolding lengthsGiven lengthsDue lengthsOf lengthOf emptyFlightHead turnFlightHead

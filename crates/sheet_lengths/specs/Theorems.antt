@@ -12,9 +12,9 @@ use Rattle.sheet.specs.Tags.{mosaicHeadTag, mosaicStripTag, sortingHeadTag, sor
 use Rattle.sheet.specs.Tags.{flightWindowBlockTag}
 use Rattle.sheet.specs.Among.{Among}
 use Rattle.sheet.specs.FieldTable.{Item, TableRow, fieldTable, lengthOf, contentsOf, lengthsOf, lengthsDue}
-use Rattle.sheet.specs.Contents.{RowOfLength, row-due, due-row, no-row-due, none-due, strip-stations, no-content, mosaic-head-content, mosaic-strip-content}
-use Rattle.sheet.specs.Contents.{sorting-head-content, sorting-strip-content, flight-block-content, flight-window-block-content, flight-order-content}
-use Rattle.sheet_lengths.specs.Lengths.{lengthsGiven, GivesLength, mosaic-strip-case, flight-head-case, other-count-case, other-tag-case}
+use Rattle.sheet.specs.Contents.{RowOfLength, row-due, due-row, no-row-due, none-due, no-content, mosaic-head-content}
+use Rattle.sheet.specs.Contents.{sorting-head-content, flight-block-content, flight-window-block-content, flight-order-content}
+use Rattle.sheet_lengths.specs.Lengths.{lengthsGiven, GivesLength, mosaic-strip-case, sorting-strip-case, flight-head-case, other-count-case, other-tag-case}
 use Rattle.sheet_lengths.specs.declared.LengthDue.{LengthDue}
 use Rattle.sheet_lengths.specs.declared.LengthDue.the-variants.{Bytes, Either, None}
 
@@ -70,36 +70,32 @@ module _ (tag stations : ℕ) (due : LengthDue) (call : GivesLength tag stations
     no-row : contentsOf tag (fieldTable stations desks) ≡ [] → due ≡ Bytes (lengthOf (r .content))
     no-row none = absurd (none-due tag _ none _ (row-due tag _ r a e))
 
-    strip-row : tag ≡ mosaicStripTag → due ≡ Bytes (lengthOf (r .content))
-    strip-row q =
-        let h = strip-stations _ stations desks (subst (λ x. Among (lengthOf (r .content)) (lengthsDue x (fieldTable stations desks))) q (row-due tag _ r a e)) in
-        at-tag mosaicStripTag _ q (mosaic-strip-content stations desks (h .0) (h .1))
-
-    pub sole-row-length : (tag ≡ flightHeadTag → ⊥) → due ≡ Bytes (lengthOf (r .content))
-    sole-row-length other =
-        go (ℕ-discrete tag mosaicHeadTag) (ℕ-discrete tag mosaicStripTag) (ℕ-discrete tag sortingHeadTag) (ℕ-discrete tag sortingStripTag)
-        (ℕ-discrete tag flightBlockTag) (ℕ-discrete tag flightWindowBlockTag) (ℕ-discrete tag flightOrderTag)
+    pub sole-row-length : (tag ≡ mosaicStripTag → ⊥) → (tag ≡ sortingStripTag → ⊥) → (tag ≡ flightHeadTag → ⊥) → due ≡ Bytes (lengthOf (r .content))
+    sole-row-length h₁ h₂ h₃ =
+        go (ℕ-discrete tag mosaicHeadTag) (ℕ-discrete tag sortingHeadTag) (ℕ-discrete tag flightBlockTag) (ℕ-discrete tag flightWindowBlockTag)
+        (ℕ-discrete tag flightOrderTag)
       where
-        go : Dec (tag ≡ mosaicHeadTag) → Dec (tag ≡ mosaicStripTag) → Dec (tag ≡ sortingHeadTag) → Dec (tag ≡ sortingStripTag) → Dec (tag ≡ flightBlockTag)
-            → Dec (tag ≡ flightWindowBlockTag) → Dec (tag ≡ flightOrderTag) → due ≡ Bytes (lengthOf (r .content))
-        go (yes q) d₂ d₃ d₄ d₅ d₆ d₇ = at-tag mosaicHeadTag _ q (mosaic-head-content stations desks)
-        go (no h₁) (yes q) d₃ d₄ d₅ d₆ d₇ = strip-row q
-        go (no h₁) (no h₂) (yes q) d₄ d₅ d₆ d₇ = at-tag sortingHeadTag _ q (sorting-head-content stations desks)
-        go (no h₁) (no h₂) (no h₃) (yes q) d₅ d₆ d₇ = at-tag sortingStripTag _ q (sorting-strip-content stations desks)
-        go (no h₁) (no h₂) (no h₃) (no h₄) (yes q) d₆ d₇ = at-tag flightBlockTag _ q (flight-block-content stations desks)
-        go (no h₁) (no h₂) (no h₃) (no h₄) (no h₅) (yes q) d₇ = at-tag flightWindowBlockTag _ q (flight-window-block-content stations desks)
-        go (no h₁) (no h₂) (no h₃) (no h₄) (no h₅) (no h₆) (yes q) = at-tag flightOrderTag _ q (flight-order-content stations desks)
-        go (no h₁) (no h₂) (no h₃) (no h₄) (no h₅) (no h₆) (no h₇) = no-row (no-content stations desks tag h₁ h₂ h₃ h₄ other h₅ h₆ h₇)
+        go : Dec (tag ≡ mosaicHeadTag) → Dec (tag ≡ sortingHeadTag) → Dec (tag ≡ flightBlockTag) → Dec (tag ≡ flightWindowBlockTag)
+            → Dec (tag ≡ flightOrderTag) → due ≡ Bytes (lengthOf (r .content))
+        go (yes q) d₂ d₃ d₄ d₅ = at-tag mosaicHeadTag _ q (mosaic-head-content stations desks)
+        go (no g₁) (yes q) d₃ d₄ d₅ = at-tag sortingHeadTag _ q (sorting-head-content stations desks)
+        go (no g₁) (no g₂) (yes q) d₄ d₅ = at-tag flightBlockTag _ q (flight-block-content stations desks)
+        go (no g₁) (no g₂) (no g₃) (yes q) d₅ = at-tag flightWindowBlockTag _ q (flight-window-block-content stations desks)
+        go (no g₁) (no g₂) (no g₃) (no g₄) (yes q) = at-tag flightOrderTag _ q (flight-order-content stations desks)
+        go (no g₁) (no g₂) (no g₃) (no g₄) (no g₅) = no-row (no-content stations desks tag g₁ h₁ g₂ h₂ h₃ g₃ g₄ g₅)
 
-  -- .. and the flight head the two of its rows
-
+  -- .. and the flight head and the strips the two of theirs
   pub head-lengths-due : tag ≡ flightHeadTag → due ≡ Either 0 2
   unfolding lengthsGiven
   head-lengths-due e = given-either due 0 2 (call 0 ∙ sym (flight-head-case tag stations 0 2 e refl refl 0))
 
-  pub strip-length-due : tag ≡ mosaicStripTag → 1 ≤ stations → stations ≤ mostStations → due ≡ Bytes (2 * stations + 2)
+  pub strip-lengths-due : tag ≡ mosaicStripTag → 1 ≤ stations → stations ≤ mostStations → due ≡ Either (2 * stations + 2) (2 * stations + 2 + 1)
   unfolding lengthsGiven
-  strip-length-due e lo hi = given-bytes due _ (call 0 ∙ sym (mosaic-strip-case tag stations _ e lo hi refl 0))
+  strip-lengths-due e lo hi = given-either due _ _ (call 0 ∙ sym (mosaic-strip-case tag stations _ _ e lo hi refl refl 0))
+
+  pub desk-strip-lengths-due : tag ≡ sortingStripTag → due ≡ Either 5 6
+  unfolding lengthsGiven
+  desk-strip-lengths-due e = given-either due 5 6 (call 0 ∙ sym (sorting-strip-case tag stations 5 6 e refl refl 0))
 
   pub no-length : (desks : ℕ) → ((r : TableRow) → Among r (fieldTable stations desks) → tag ≡ r .tag → ⊥) → due ≡ None
   no-length desks none = given-none due (call desks ∙ no-row-due tag (fieldTable stations desks) none)

@@ -1,16 +1,16 @@
 -- Laws of the ranges: how one value after another decides the number, in a loop over the station times too, and that values read from the sheet are the ones
 -- that the field table names.
-use Prim.Native.Nat.{ℕ, suc, _+_, _-_, _*_, _≤_, _<_}
+use Prim.Native.Nat.{ℕ, zero, suc, _+_, _-_, _*_, _≤_, _<_, _^_}
 use mathlib.Core.Path.{_≡_, refl, sym, ap, subst, _∙_}
 use mathlib.Core.Bool.{cond}
-use mathlib.Core.List.{List, [], _∷_}
+use mathlib.Core.List.{List, [], _∷_, _++_}
 use native.Mathlib.Omega.{arith}
 use native.Mathlib.Decide.{ℕ-discrete}
 use lib.Dec.{eqb}
 use borrow.Author.Tests.{le-leb, lt-leb, eq-eqb, ne-eqb}
 use Rattle.base.specs.Branch.{check}
 use Rattle.field.specs.Bytes.{numberAt, NumberRead}
-use Rattle.sheet.specs.Limits.{mostTime, mostTurn}
+use Rattle.sheet.specs.Limits.{mostTime, mostTurn, mostWeight}
 use Rattle.sheet.specs.Refusals.{outOfRange, timeTooLarge, timeOfZero}
 use Rattle.sheet.specs.Tags.{mosaicHeadTag, mosaicStripTag, sortingHeadTag, sortingStripTag, flightHeadTag, flightBlockTag, flightOrderTag}
 use Rattle.sheet.specs.Tags.{flightWindowBlockTag}
@@ -20,9 +20,9 @@ use Rattle.sheet.specs.FieldTable.{flightWindowBlock}
 use Rattle.sheet.specs.FieldTable.{Value, valuesOf, contentValues, fieldValues}
 use Rattle.sheet.specs.FieldTable.Range.{time}
 use Rattle.sheet.specs.FieldTable.Value.{value}
-use Rattle.sheet.specs.Contents.{stripFrom, strip-from-start, strip-time-left, strip-bench-left, strip-stations, mosaic-head-values, mosaic-strip-values, sorting-head-values}
+use Rattle.sheet.specs.Contents.{weightValues, stripFrom, strip-from-start, strip-time-left, strip-bench-left, strip-stations, mosaic-head-values, mosaic-strip-values, sorting-head-values}
 use Rattle.sheet.specs.Contents.{sorting-strip-values, flight-head-values, flight-block-values, flight-window-block-values, flight-order-values, no-content, none-due}
-use Rattle.sheet_ranges.specs.RangePre.{StripPre, RangePre}
+use Rattle.sheet_ranges.specs.RangePre.{StripPre, WeightPre, RangePre}
 use Rattle.sheet.specs.Rows.{firstFailure}
 use Rattle.sheet.specs.RowLaws.{given-fails, given-passes, given-last}
 use Rattle.sheet.specs.Checks.{countNumber, timeNumber, valueNumber, valueNumbers, rangeNumber}
@@ -112,11 +112,50 @@ module _ (s : List ℕ) (c stations k : ℕ) (t : TimesPassed s c stations k) wh
       none-left : stations - k ≡ 0
       none-left = omega arith
 
--- an empty flight head has no value, and the pass order no range
+-- where there is no value
 empty-passes : 0 ≡ rangeNumber []
 unfolding rangeNumber valueNumbers firstFailure
 empty-passes = refl
 
+-- values with others behind them: the first part that gives no 0 decides
+failure-behind : (numbers more : List ℕ) → firstFailure (numbers ++ more) ≡ firstFailure (firstFailure numbers ∷ firstFailure more ∷ [])
+unfolding firstFailure
+failure-behind [] more = alone (firstFailure more)
+  where
+    alone : (n : ℕ) → n ≡ firstFailure (n ∷ [])
+    alone zero = unfold firstFailure in refl
+    alone (suc n) = unfold firstFailure in refl
+failure-behind (zero ∷ numbers) more = failure-behind numbers more
+failure-behind (suc n ∷ numbers) more = refl
+
+numbers-behind : (values more : List Value) → valueNumbers (values ++ more) ≡ valueNumbers values ++ valueNumbers more
+unfolding valueNumbers
+numbers-behind [] more = refl
+numbers-behind (v ∷ values) more = ap (λ (numbers : List ℕ). valueNumber v ∷ numbers) (numbers-behind values more)
+
+range-behind : (values more : List Value) → rangeNumber (values ++ more) ≡ firstFailure (rangeNumber values ∷ rangeNumber more ∷ [])
+unfolding rangeNumber
+range-behind values more = ap firstFailure (numbers-behind values more) ∙ failure-behind (valueNumbers values) (valueNumbers more)
+
+-- the weight of a strip, and the strip by what stands before its weight
+module _ (s : List ℕ) (c len others : ℕ) where
+  pub weight-absent : len ≡ others → 0 ≡ rangeNumber (weightValues s c len others)
+  unfolding weightValues
+  weight-absent e = rw (eq-eqb len others e) empty-passes
+
+  pub weight-there : (len ≡ others → ⊥) → (w r : ℕ) → NumberRead s (c + others) 1 w → r ≡ countNumber 1 w mostWeight
+      → r ≡ rangeNumber (weightValues s c len others)
+  unfolding weightValues valueNumber
+  weight-there n w r read e = rw (ne-eqb len others n) (value-last _ r (e ∙ ap (λ x. countNumber 1 x mostWeight) (read .is)))
+
+module _ (before weight : ℕ) where
+  pub before-decides : (before ≡ 0 → ⊥) → before ≡ firstFailure (before ∷ weight ∷ [])
+  before-decides n = given-fails (weight ∷ []) before before refl n
+
+  pub weight-decides : (r : ℕ) → before ≡ 0 → r ≡ weight → r ≡ firstFailure (before ∷ weight ∷ [])
+  weight-decides r z e = given-passes (weight ∷ []) before before r refl z (given-last r weight e)
+
+-- an empty flight head has no value, and the pass order no range
 module _ (len turn : ℕ) where
   pub empty-head : len ≡ 0 → 0 ≡ rangeNumber (cond (eqb len 0) [] (valuesOf turnFlightHead (turn ∷ [])))
   empty-head e = rw (eq-eqb len 0 e) empty-passes
@@ -151,19 +190,39 @@ module _ (s : List ℕ) (c tag len stations desks r : ℕ) (pre : RangePre c tag
         few-stations = strip-stations len stations desks (subst (λ x. Among len (lengthsDue x (fieldTable stations desks))) e (pre .due)) .1;
       }
 
-  pub mosaic-strip-read : tag ≡ mosaicStripTag → r ≡ rangeNumber (contentValues s c (mosaicStrip stations))
+  pub strip-doubled : tag ≡ mosaicStripTag → 2 * stations < 2 ^ 64
+  strip-doubled e = let p = strip-pre e in omega (arith, p .few-stations)
+
+  pub strip-others : tag ≡ mosaicStripTag → 2 * stations + 2 < 2 ^ 64
+  strip-others e = let p = strip-pre e in omega (arith, p .few-stations)
+
+  pub mosaic-weight-pre : tag ≡ mosaicStripTag → WeightPre c (2 * stations + 2)
+  mosaic-weight-pre e = let p = strip-pre e in record { begins = pre .begins; soon = omega (arith, p .few-stations) }
+
+  pub mosaic-strip-read : tag ≡ mosaicStripTag → (before : ℕ) → before ≡ rangeNumber (contentValues s c (mosaicStrip stations))
+      → r ≡ firstFailure (before ∷ rangeNumber (weightValues s c len (2 * stations + 2)) ∷ [])
       → r ≡ rangeNumber (fieldValues s c tag len (fieldTable stations desks))
-  mosaic-strip-read e h = of-tag mosaicStripTag _ e (mosaic-strip-values s c len stations desks) h
+  mosaic-strip-read e before b h =
+      of-tag mosaicStripTag _ e (mosaic-strip-values s c len stations desks)
+      (h ∙ ap (λ n. firstFailure (n ∷ rangeNumber (weightValues s c len (2 * stations + 2)) ∷ [])) b
+      ∙ sym (range-behind (contentValues s c (mosaicStrip stations)) (weightValues s c len (2 * stations + 2))))
 
   pub sorting-head-read : tag ≡ sortingHeadTag → (m : ℕ) → NumberRead s c 1 m → r ≡ rangeNumber (valuesOf sortingHead (m ∷ []))
       → r ≡ rangeNumber (fieldValues s c tag len (fieldTable stations desks))
   sorting-head-read e m n h = of-tag sortingHeadTag _ e (sorting-head-values s c len stations desks) (rw (← n .is) h)
 
   pub sorting-strip-read : tag ≡ sortingStripTag → (desk scan deskTime : ℕ) → NumberRead s c 1 desk → NumberRead s (c + 1) 2 scan → NumberRead s (c + 3) 2 deskTime
-      → r ≡ rangeNumber (valuesOf (sortingStrip desks) (desk ∷ scan ∷ deskTime ∷ []))
+      → (before : ℕ) → before ≡ rangeNumber (valuesOf (sortingStrip desks) (desk ∷ scan ∷ deskTime ∷ []))
+      → r ≡ firstFailure (before ∷ rangeNumber (weightValues s c len 5) ∷ [])
       → r ≡ rangeNumber (fieldValues s c tag len (fieldTable stations desks))
-  sorting-strip-read e desk scan deskTime n₁ n₂ n₃ h =
-      of-tag sortingStripTag _ e (sorting-strip-values s c len stations desks) (rw (← n₁ .is, ← n₂ .is, ← n₃ .is) h)
+  sorting-strip-read e desk scan deskTime n₁ n₂ n₃ before b h =
+      of-tag sortingStripTag _ e (sorting-strip-values s c len stations desks)
+      (h ∙ ap (λ n. firstFailure (n ∷ rangeNumber (weightValues s c len 5) ∷ [])) (b ∙ read)
+      ∙ sym (range-behind (valuesOf (sortingStrip desks) (numberAt s c 1 ∷ numberAt s (c + 1) 2 ∷ numberAt s (c + 3) 2 ∷ [])) (weightValues s c len 5)))
+    where
+      read : rangeNumber (valuesOf (sortingStrip desks) (desk ∷ scan ∷ deskTime ∷ []))
+          ≡ rangeNumber (valuesOf (sortingStrip desks) (numberAt s c 1 ∷ numberAt s (c + 1) 2 ∷ numberAt s (c + 3) 2 ∷ []))
+      read = rw (n₁ .is, n₂ .is, n₃ .is)
 
   pub flight-head-read : tag ≡ flightHeadTag → (turn : ℕ) → NumberRead s c 2 turn
       → r ≡ rangeNumber (cond (eqb len 0) [] (valuesOf turnFlightHead (turn ∷ []))) → r ≡ rangeNumber (fieldValues s c tag len (fieldTable stations desks))

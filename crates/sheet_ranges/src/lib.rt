@@ -6,6 +6,7 @@ use sheet::limits::MOST_DESKS;
 use sheet::limits::MOST_STATIONS;
 use sheet::limits::MOST_TIME;
 use sheet::limits::MOST_TURN;
+use sheet::limits::MOST_WEIGHT;
 use sheet::numbers::OUT_OF_RANGE;
 use sheet::numbers::TIME_OF_ZERO;
 use sheet::numbers::TIME_TOO_LARGE;
@@ -23,7 +24,9 @@ ghost use lib.Dec.{eqb};
 ghost use Rattle.sheet.specs.FieldTable.{mosaicHead, mosaicStrip, sortingHead, sortingStrip, turnFlightHead, flightBlock, fieldTable, valuesOf};
 ghost use Rattle.sheet.specs.FieldTable.{flightWindowBlock, contentValues, fieldValues};
 ghost use Rattle.sheet.specs.Checks.{countNumber, timeNumber, rangeNumber};
-ghost use Rattle.sheet_ranges.specs.RangePre.{StripPre, RangePre};
+ghost use Rattle.sheet.specs.Contents.{weightValues};
+ghost use Rattle.sheet.specs.Rows.{firstFailure};
+ghost use Rattle.sheet_ranges.specs.RangePre.{StripPre, WeightPre, RangePre};
 
 // The refusal number that a count gives: 6 where it is not from `least` to `most`, else 0.
 fn count_number(least: u64, value: u64, most: u64) -> u64
@@ -61,7 +64,7 @@ fn mosaic_head_number(stations: u64, mount: u64) -> u64
     time_number(0, mount, MOST_TIME)
 }
 
-// A strip: a time for each station, and the bench time behind them.
+// The times of a mosaic strip: one for each station, and the bench time behind them.
 fn mosaic_strip_number(s: &[u8], c: usize, stations: usize) -> u64
     requires { ⌜ StripPre c stations ⌝ }
     ensures { λ r. ⌜ r ≡ rangeNumber (contentValues (now (s .entry)) c (mosaicStrip stations)) ⌝ }
@@ -83,6 +86,7 @@ fn sorting_head_number(desks: u64) -> u64
     count_number(1, desks, MOST_DESKS)
 }
 
+// The values of a desk's strip before its weight.
 fn sorting_strip_number(desks: u64, desk: u64, scan: u64, time: u64) -> u64
     ensures { λ r. ⌜ r ≡ rangeNumber (valuesOf (sortingStrip desks) (desk ∷ scan ∷ time ∷ [])) ⌝ }
 {
@@ -95,6 +99,28 @@ fn sorting_strip_number(desks: u64, desk: u64, scan: u64, time: u64) -> u64
         return of_scan;
     }
     time_number(1, time, MOST_TIME)
+}
+
+// The weight of a strip, behind so many other bytes: absent, it has no value.
+fn weight_number(s: &[u8], c: usize, length: usize, others: usize) -> u64
+    requires { ⌜ WeightPre c others ⌝ }
+    ensures { λ r. ⌜ r ≡ rangeNumber (weightValues (now (s .entry)) c length others) ⌝ }
+{
+    if length == others {
+        return 0;
+    }
+    count_number(1, byte(s, c + others), MOST_WEIGHT)
+}
+
+// A strip by the number that its values before the weight give: the weight is examined last.
+fn strip_number(before: u64, s: &[u8], c: usize, length: usize, others: usize) -> u64
+    requires { ⌜ WeightPre c others ⌝ }
+    ensures { λ r. ⌜ r ≡ firstFailure (before ∷ rangeNumber (weightValues (now (s .entry)) c length others) ∷ []) ⌝ }
+{
+    if before != 0 {
+        return before;
+    }
+    weight_number(s, c, length, others)
 }
 
 // A flight head: an empty one has no value, one with a turn has that.
@@ -140,7 +166,7 @@ fn flight_window_block_number(first: u64, shortest: u64, longest: u64, second: u
 }
 
 // The number that a field gives whose content begins at c and has a length that is due for its tag; 0 where every value is in its range. The length says what
-// content of the table the field has where its tag has two, as the flight head's has.
+// content of the table the field has where its tag has two, as those of a strip and of the flight head have.
 pub fn range_number(
     s: &[u8],
     c: usize,
@@ -154,13 +180,25 @@ pub fn range_number(
 {
     match tag {
         MOSAIC_HEAD => mosaic_head_number(byte(s, c), number(s, c + 1, 2)),
-        MOSAIC_STRIP => mosaic_strip_number(s, c, stations),
+        MOSAIC_STRIP => strip_number(
+            mosaic_strip_number(s, c, stations),
+            s,
+            c,
+            length,
+            2 * stations + 2,
+        ),
         SORTING_HEAD => sorting_head_number(byte(s, c)),
-        SORTING_STRIP => sorting_strip_number(
-            desks as u64,
-            byte(s, c),
-            number(s, c + 1, 2),
-            number(s, c + 3, 2),
+        SORTING_STRIP => strip_number(
+            sorting_strip_number(
+                desks as u64,
+                byte(s, c),
+                number(s, c + 1, 2),
+                number(s, c + 3, 2),
+            ),
+            s,
+            c,
+            length,
+            5,
         ),
         FLIGHT_HEAD => flight_head_number(length, number(s, c, 2)),
         FLIGHT_BLOCK => flight_block_number(

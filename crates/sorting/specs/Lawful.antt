@@ -1,5 +1,5 @@
 -- The chosen jobs are a lawful timetable, and their figure is the least figure. Each job is read off the state that the list has reached.
-use mathlib.Core.Path.{_≡_, refl, sym, ap, subst, _∙_}
+use mathlib.Core.Path.{_≡_, refl, sym, ap, ap₂, subst, _∙_}
 use mathlib.Core.List.{List}
 use Prim.Native.Nat.{ℕ, zero, suc, _+_, _-_, _*_, _≤_, _<_, max}
 use native.Mathlib.Nat.{le-refl}
@@ -12,17 +12,17 @@ use Rattle.sheet.specs.Sound.{SortingSound}
 use Rattle.rules.specs.declared.Job.{Job}
 use Rattle.base.specs.Listed.{listed-length, listed-at}
 use Rattle.base.specs.Sums.{sumOver}
-use Rattle.rules.specs.Sorting.{jobAt, jobsOf, noJob, stripsOf, scanEnd, deskFinish, SortingLawful, sortingFigure}
+use Rattle.rules.specs.Sorting.{jobAt, jobsOf, noJob, stripsOf, jobWeight, scanEnd, deskFinish, SortingLawful, sortingFigure}
 use Rattle.interleaving.specs.declared.State.{State}
 use Rattle.interleaving.specs.Instance.{Instance, weightOf}
 use Rattle.interleaving.specs.Search.{scanned, finish, stepOf, startState}
 use Rattle.interleaving.specs.SearchLaws.{max-left, max-right, max-least}
 use Rattle.interleaving.specs.Consistent.{Consistent, consistent-start}
 use Rattle.sorting.specs.Plan.{instanceOf, leastFigure, reached, jobOf, jobsOfList, chosenJobs}
-use Rattle.sorting.specs.Instance.{instance-sound, scan-of, desk-of, weight-of}
+use Rattle.sorting.specs.Instance.{instance-sound, scan-of, desk-of}
 use Rattle.sorting.specs.Route.{rises, reached-consistent, reached-left, reached-lengths, step-time, step-cost, free-same, free-other, taken-is}
 use Rattle.sorting.specs.Chosen.{chosenDesk, chosenState, Chosen, chosen}
-use Rattle.sorting.specs.Times.{scan-time, desk-time, strips-of, no-strips, start-taken, start-free, start-time, start-cost}
+use Rattle.sorting.specs.Times.{scan-time, desk-time, job-weight, strips-of, no-strips, start-taken, start-free, start-time, start-cost}
 
 -- no job of the chosen list finishes later: scan and desk time of every strip
 abbrev pub latestFinish : ℕ
@@ -231,16 +231,20 @@ module _ (s : SortingSection) (h : SortingSound s) where
       at i l = subst (λ (n : ℕ). i < n) chosen-length l
 
   -- the figure is the cost that the search has summed up
-  cost-is : (i : ℕ) → i ≤ N → S i .cost ≡ sumOver i (λ k. deskFinish s (jobAt (chosenJobs s) k))
+  weight-is : (i : ℕ) → i < N → jobWeight s (jobAt (chosenJobs s) i) ≡ weightOf J (F i) (getD (S i .taken) (F i) 0)
+  weight-is i l = job-weight s h (jobAt (chosenJobs s) i) (F i) (getD (S i .taken) (F i) 0) (desk-is i l) (number-is i l) (in-slot i l)
+
+  cost-is : (i : ℕ) → i ≤ N → S i .cost ≡ sumOver i (λ k. jobWeight s (jobAt (chosenJobs s) k) * deskFinish s (jobAt (chosenJobs s) k))
   unfolding reached sumOver
   cost-is zero l = start-cost J
   cost-is (suc i) l = step-cost J (S i) (F i) ∙ next (cost-is i (omega arith)) (omega arith)
     where
-      next : S i .cost ≡ sumOver i (λ k. deskFinish s (jobAt (chosenJobs s) k)) → i < N
+      next : S i .cost ≡ sumOver i (λ k. jobWeight s (jobAt (chosenJobs s) k) * deskFinish s (jobAt (chosenJobs s) k)) → i < N
           → S i .cost + weightOf J (F i) (getD (S i .taken) (F i) 0) * finish J (S i) (F i)
-          ≡ sumOver i (λ k. deskFinish s (jobAt (chosenJobs s) k)) + deskFinish s (jobAt (chosenJobs s) i)
-      next e m = rw (weight-of s h (F i) (getD (S i .taken) (F i) 0) (in-slot i m)) (omega (arith, e, finish-is i m))
+          ≡ sumOver i (λ k. jobWeight s (jobAt (chosenJobs s) k) * deskFinish s (jobAt (chosenJobs s) k))
+          + jobWeight s (jobAt (chosenJobs s) i) * deskFinish s (jobAt (chosenJobs s) i)
+      next e m = ap₂ (λ (x y : ℕ). x + y) e (sym (ap₂ (λ (x y : ℕ). x * y) (weight-is i m) (finish-is i m)))
 
   pub chosen-figure : sortingFigure s (chosenJobs s) ≡ leastFigure s
   unfolding sortingFigure leastFigure
-  chosen-figure = ap (λ (n : ℕ). sumOver n (λ k. deskFinish s (jobAt (chosenJobs s) k))) chosen-length ∙ sym (cost-is N (le-refl _)) ∙ way .cost
+  chosen-figure = ap (λ (n : ℕ). sumOver n (λ k. jobWeight s (jobAt (chosenJobs s) k) * deskFinish s (jobAt (chosenJobs s) k))) chosen-length ∙ sym (cost-is N (le-refl _)) ∙ way .cost

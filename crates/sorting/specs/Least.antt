@@ -4,7 +4,7 @@
 use mathlib.Core.Path.{_≡_, sym, ap, subst, _∙_}
 use mathlib.Core.List.{List}
 use Prim.Native.Nat.{ℕ, zero, suc, _+_, _-_, _*_, _^_, _/_, _≤_, _<_, max}
-use native.Mathlib.Nat.{le-refl, le-trans, div-mul-le-self, le-div-iff-mul-le, one-le-pow}
+use native.Mathlib.Nat.{le-refl, le-trans, mul-le-mul-left, div-mul-le-self, le-div-iff-mul-le, one-le-pow}
 use native.Mathlib.Decide.{decLt, ℕ-discrete}
 use native.Mathlib.Omega.{arith}
 use lib.ListN.{length, getD}
@@ -12,7 +12,7 @@ use Rattle.sheet.specs.declared.SortingSection.{SortingSection}
 use Rattle.sheet.specs.Sound.{SortingSound}
 use Rattle.rules.specs.declared.Job.{Job}
 use Rattle.base.specs.Sums.{sumOver}
-use Rattle.rules.specs.Sorting.{jobAt, jobsOf, scanEnd, deskFinish, SortingUnder, sortingFigure}
+use Rattle.rules.specs.Sorting.{jobAt, jobsOf, jobWeight, scanEnd, deskFinish, SortingUnder, sortingFigure}
 use Rattle.rules_laws.specs.SortingRunning.{jobs-same, jobs-mono}
 use Rattle.interleaving.specs.declared.State.{State}
 use Rattle.interleaving.specs.Instance.{Instance, scanOf, deskOf}
@@ -21,11 +21,11 @@ use Rattle.interleaving.specs.SearchLaws.{max-least, search-bound}
 use Rattle.interleaving.specs.Consistent.{Consistent, consistent-start}
 use Rattle.interleaving.specs.Completion.{bound-completes, search-first, step-path}
 use Rattle.sorting.specs.Plan.{instanceOf, leastFigure, reached, chosenJobs}
-use Rattle.sorting.specs.Instance.{instance-sound, weight-of}
+use Rattle.sorting.specs.Instance.{instance-sound}
 use Rattle.sorting.specs.Route.{Serves, reached-same, reached-next, reached-consistent, reached-left, reached-lengths, reached-rest, path-begins}
 use Rattle.sorting.specs.Route.{step-time, step-cost, free-same, free-other, taken-is}
 use Rattle.sorting.specs.Chosen.{chosenDesk, chosenState, chosen}
-use Rattle.sorting.specs.Times.{scan-time, desk-time, strips-of, no-strips, start-taken, start-free, start-time, start-cost}
+use Rattle.sorting.specs.Times.{scan-time, desk-time, job-weight, strips-of, no-strips, start-taken, start-free, start-time, start-cost}
 use Rattle.sorting.specs.Lawful.{job-start, desk-is, scan-is, start-is}
 
 none-over : (J : List ℕ) (s : State) → Consistent J s → ((d : ℕ) → d < 3 → getD J d 0 ≤ getD (s .taken) d 0) → s .left ≡ 0
@@ -110,7 +110,7 @@ module _ {c : ℕ} (s : SortingSection) (h : SortingSound s) (js : List Job) (la
   record Ahead (x : State) (i : ℕ) : Type 0 where
     pub time : (k : ℕ) → i ≤ k → k < length js → x .time ≤ jobAt js k .scan
     pub free : (k : ℕ) → i ≤ k → k < length js → getD (x .free) (G k) 0 ≤ jobAt js k .start
-    pub cost : x .cost ≤ sumOver i (λ k. deskFinish s (jobAt js k))
+    pub cost : x .cost ≤ sumOver i (λ k. jobWeight s (jobAt js k) * deskFinish s (jobAt js k))
 
   start-ahead : (i : ℕ) → i < length js → Ahead (T i) i → max (getD (T i .free) (G i) 0) (scanned J (T i) (G i)) ≤ jobAt js i .start
   start-ahead i l a =
@@ -133,7 +133,9 @@ module _ {c : ℕ} (s : SortingSection) (h : SortingSound s) (js : List Job) (la
       next a m = record {
         time = λ k p q. omega (arith, step-time J (T i) (G i), a .time i (le-refl _) m, scan-end i m, law .one-scan i k (omega arith) q);
         free = λ k p q. at k p q (ℕ-discrete (G k) (G i));
-        cost = rw (step-cost J (T i) (G i), weight-of s h (G i) (getD (T i .taken) (G i) 0) (in-slot i m)) (omega (arith, a .cost, finish-ahead i m a));
+        cost =
+            rw (step-cost J (T i) (G i), ← job-weight s h (jobAt js i) (G i) (getD (T i .taken) (G i) 0) (desk-of-job i m .0) (number-is i m) (in-slot i m))
+            (omega (arith, a .cost, mul-le-mul-left (jobWeight s (jobAt js i)) (finish-ahead i m a)));
       }
         where
           at : (k : ℕ) → suc i ≤ k → k < length js → Dec (G k ≡ G i) → getD (stepOf J (T i) (G i) .free) (G k) 0 ≤ jobAt js k .start

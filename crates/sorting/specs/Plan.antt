@@ -1,7 +1,7 @@
 -- The least figure and the chosen jobs of a sorting section, by the search over interleavings without any cut (crate interleaving).
 use mathlib.Core.List.{List, _++_}
 use Prim.Native.Nat.{ℕ, zero, suc, _+_, _-_, _/_, _%_, _^_, max}
-use lib.ListN.{getD, replicate}
+use lib.ListN.{getD}
 use Rattle.base.specs.Listed.{listed}
 use Rattle.sheet.specs.declared.SortingSection.{SortingSection}
 use Rattle.rules.specs.declared.Job.{Job}
@@ -9,11 +9,11 @@ use Rattle.interleaving.specs.declared.State.{State}
 use Rattle.interleaving.specs.Search.{scanned, stepOf, startState, firstBest}
 use Rattle.sorting.specs.declared.SortingPlan.{SortingPlan}
 
--- the section as the search reads it: strips of each desk, scan times, desk times, and weight 1 for each strip
+-- the section as the search reads it: strips of each desk, scan times, desk times and weights
 unfoldable pub instanceOf : SortingSection → List ℕ
-instanceOf s = s .counts ++ (s .scan ++ (s .desk ++ replicate 18 1))
+instanceOf s = s .counts ++ (s .scan ++ (s .desk ++ s .weight))
 
--- the figure of the first best interleaving (in the literature: the least sum of completion times)
+-- the figure of the first best interleaving (in the literature: the least sum of weighted completion times)
 unfoldable pub leastFigure : SortingSection → ℕ
 leastFigure s = firstBest (instanceOf s) .figure
 

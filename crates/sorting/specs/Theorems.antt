@@ -12,7 +12,7 @@ use Rattle.sheet.specs.Sound.{SortingSound}
 use Rattle.rules.specs.declared.Job.{Job}
 use Rattle.base.specs.Sums.{sumOver}
 use Rattle.base.specs.LeastFigure.{NoLarger}
-use Rattle.rules.specs.Sorting.{noJob, jobAt, deskFinish, SortingUnder, SortingLawful, sortingFigure}
+use Rattle.rules.specs.Sorting.{noJob, jobAt, jobWeight, deskFinish, SortingUnder, SortingLawful, sortingFigure}
 use Rattle.rules.specs.ScannerList.{scannerList, ComesBefore, SameOrAfter, SortingTaken}
 use Rattle.rules_laws.specs.ScannerList.{list-length, list-at, same-list, same-desks, FirstParting, first-parting, before-one-way, same-numbers}
 use Rattle.rules_laws.specs.ScannerList.{same-job}
@@ -129,7 +129,7 @@ sorting-early s sound i l = chosen-early s sound i (omega (arith, chosen-length 
 pub sorting-absent : (s : SortingSection) → SortingSound s → ((d : ℕ) → d < 3 → getD (s .counts) d 0 ≡ 0) → (leastFigure s ≡ 0) × (chosenJobs s ≡ [])
 unfolding sortingFigure sumOver startState
 sorting-absent s sound none =
-    (sym (sorting-figure s sound) ∙ ap (λ (n : ℕ). sumOver n (λ i. deskFinish s (jobAt (chosenJobs s) i))) no-job, empty (chosenJobs s) no-job)
+    (sym (sorting-figure s sound) ∙ ap (λ (n : ℕ). sumOver n (λ i. jobWeight s (jobAt (chosenJobs s) i) * deskFinish s (jobAt (chosenJobs s) i))) no-job, empty (chosenJobs s) no-job)
   where
     no-strip : (d : ℕ) → d < 3 → getD (instanceOf s) d 0 ≡ 0
     no-strip d l = count-at s sound d l ∙ none d l

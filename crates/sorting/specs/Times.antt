@@ -1,4 +1,4 @@
--- The times of a strip, as the rules and as the search read them.
+-- The times and the weight of a strip, as the rules and as the search read them.
 use mathlib.Core.Path.{_≡_, refl, sym, ap, _∙_}
 use mathlib.Core.List.{List}
 use Prim.Native.Nat.{ℕ, _+_, _-_, _*_, _≤_, _<_}
@@ -7,12 +7,12 @@ use lib.ListN.{getD}
 use Rattle.sheet.specs.declared.SortingSection.{SortingSection}
 use Rattle.sheet.specs.Sound.{SortingSound}
 use Rattle.rules.specs.declared.Job.{Job}
-use Rattle.rules.specs.Sorting.{slot, scanTime, deskTime, stripsOf}
-use Rattle.interleaving.specs.Instance.{scanOf, deskOf}
+use Rattle.rules.specs.Sorting.{slot, scanTime, deskTime, jobWeight, stripsOf}
+use Rattle.interleaving.specs.Instance.{scanOf, deskOf, weightOf}
 use Rattle.interleaving.specs.Search.{startState}
 use Rattle.interleaving.specs.Consistent.{zeros}
 use Rattle.sorting.specs.Plan.{instanceOf}
-use Rattle.sorting.specs.Instance.{scan-of, desk-of, count-at}
+use Rattle.sorting.specs.Instance.{scan-of, desk-of, weight-of, count-at}
 
 module _ (s : SortingSection) (h : SortingSound s) (q : Job) (d i : ℕ) (desk : q .desk ≡ d + 1) (number : q .number ≡ i + 1) (l : d * 6 + i < 18) where
   slot-is : slot (q .desk) (q .number) ≡ d * 6 + i
@@ -26,6 +26,10 @@ module _ (s : SortingSection) (h : SortingSound s) (q : Job) (d i : ℕ) (desk :
   pub desk-time : deskTime s q ≡ deskOf (instanceOf s) d i
   unfolding deskTime
   desk-time = ap (λ (x : ℕ). getD (s .desk) x 0) slot-is ∙ sym (desk-of s h d i l)
+
+  pub job-weight : jobWeight s q ≡ weightOf (instanceOf s) d i
+  unfolding jobWeight
+  job-weight = ap (λ (x : ℕ). getD (s .weight) x 0) slot-is ∙ sym (weight-of s h d i l)
 
 module _ (s : SortingSection) (h : SortingSound s) where
   -- a desk that has a strip is a desk of the section, and its strips are counted

@@ -11,7 +11,8 @@ pub fn instance_of(s: SortingSection) -> [u64; 57]
     let counts = s.counts;
     let scan = s.scan;
     let desk = s.desk;
-    let mut jobs = [1u64; 57];
+    let weight = s.weight;
+    let mut jobs = [0u64; 57];
     jobs[0] = counts[0] as u64;
     jobs[1] = counts[1] as u64;
     jobs[2] = counts[2] as u64;
@@ -19,6 +20,7 @@ pub fn instance_of(s: SortingSection) -> [u64; 57]
     while k < 18 {
         jobs[3 + k] = scan[k];
         jobs[21 + k] = desk[k];
+        jobs[39 + k] = weight[k];
         k += 1;
     }
     jobs

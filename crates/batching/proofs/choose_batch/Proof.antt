@@ -7,10 +7,10 @@ use Rattle.batching.proofs.choose_batch.Statement.{statement}
 use Rattle.batching.proofs.choose_batch.Tie as tie
 
 abbrev Inv-loop : tie.InvT-loop
-Inv-loop rs sums late row s n free i q₀ last₀ least₀ q last least = TakenSoFar rs sums s n free i q last least
+Inv-loop rs sums weights late row s n free i q₀ last₀ least₀ q last least = TakenSoFar rs sums weights s n free i q last least
 
 abbrev μ-loop : tie.MeasureT-loop
-μ-loop rs sums late row s n free i q₀ last₀ least₀ q last least = q
+μ-loop rs sums weights late row s n free i q₀ last₀ least₀ q last least = q
 
 candidate-requires : tie.Need-candidate-requires Inv-loop μ-loop
 candidate-requires c κs = search (from-candidate, arith)
@@ -32,7 +32,7 @@ loop-less c = search needs
 
 loop-again : tie.Need-loop-again Inv-loop μ-loop
 loop-again c =
-    taken-less (c .before .before .before .before .before .before .before .before .before .pre) (c .before .before .before .loop .inv) (omega arith)
+    taken-less (c .before .before .before .before .before .before .before .before .before .before .pre) (c .before .before .before .loop .inv) (omega arith)
     (c .before .candidate2 .ensures) (c .if1 .taken)
 
 loop-less-2 : tie.Need-loop-less-2 Inv-loop μ-loop
@@ -40,7 +40,7 @@ loop-less-2 c = search needs
 
 loop-again-2 : tie.Need-loop-again-2 Inv-loop μ-loop
 loop-again-2 c =
-    taken-more (c .before .before .before .before .before .before .before .before .before .pre) (c .before .before .before .loop .inv) (omega arith)
+    taken-more (c .before .before .before .before .before .before .before .before .before .before .pre) (c .before .before .before .loop .inv) (omega arith)
     (c .before .candidate2 .ensures) (c .if1 .left)
 
 returns : tie.Need-returns Inv-loop μ-loop

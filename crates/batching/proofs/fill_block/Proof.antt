@@ -7,10 +7,10 @@ use Rattle.batching.proofs.fill_block.Statement.{statement}
 use Rattle.batching.proofs.fill_block.Tie as tie
 
 abbrev Inv-loop : tie.InvT-loop
-Inv-loop rs sums late row₀ s n begin i lo p₀ at₀ row p at = BlockSoFar rs sums row₀ row s n begin i lo p at
+Inv-loop rs sums weights late row₀ s n begin i lo p₀ at₀ row p at = BlockSoFar rs sums weights row₀ row s n begin i lo p at
 
 abbrev μ-loop : tie.MeasureT-loop
-μ-loop rs sums late row₀ s n begin i lo p₀ at₀ row p at = p
+μ-loop rs sums weights late row₀ s n begin i lo p₀ at₀ row p at = p
 
 sub-at : tie.Need-sub-at Inv-loop μ-loop
 sub-at c = search needs
@@ -37,7 +37,8 @@ sub-at-2 : tie.Need-sub-at-2 Inv-loop μ-loop
 sub-at-2 c = search block-sub
 
 fill-row-requires : tie.Need-fill-row-requires Inv-loop μ-loop
-fill-row-requires c κs = search block-row
+fill-row-requires c κs =
+    block-row (c .before .before .before .before .before .before .before .before .pre) (c .before .before .loop .inv) (c .before .loop-test .taken)
 
 loop-less : tie.Need-loop-less Inv-loop μ-loop
 loop-less c = search needs

@@ -7,10 +7,10 @@ use Rattle.batching.proofs.fill_late.Statement.{statement}
 use Rattle.batching.proofs.fill_late.Tie as tie
 
 abbrev Inv-loop : tie.InvT-loop
-Inv-loop rs sums late₀ s n row₀ i₀ late row i = AllSoFar rs sums late₀ late row s n i
+Inv-loop rs sums weights late₀ s n row₀ i₀ late row i = AllSoFar rs sums weights late₀ late row s n i
 
 abbrev μ-loop : tie.MeasureT-loop
-μ-loop rs sums late₀ s n row₀ i₀ late row i = i
+μ-loop rs sums weights late₀ s n row₀ i₀ late row i = i
 
 loop-holds : tie.Need-loop-holds Inv-loop μ-loop
 loop-holds c = all-start (search needs) refl
@@ -22,14 +22,14 @@ slice-aggregate-fill-late-after : tie.Need-slice-aggregate-fill-late-after Inv-l
 slice-aggregate-fill-late-after c = search needs
 
 fill-late-after-requires : tie.Need-fill-late-after-requires Inv-loop μ-loop
-fill-late-after-requires c κs = all-after (c .before .before .before .before .before .before .before .pre) (c .before .before .before .loop .inv) (omega arith)
+fill-late-after-requires c κs = all-after (c .before .before .before .before .before .before .before .before .pre) (c .before .before .before .loop .inv) (omega arith)
 
 loop-less : tie.Need-loop-less Inv-loop μ-loop
 loop-less c = search needs
 
 loop-again : tie.Need-loop-again Inv-loop μ-loop
 loop-again c =
-    all-step (c .before .before .before .before .before .before .before .before .before .before .before .pre)
+    all-step (c .before .before .before .before .before .before .before .before .before .before .before .before .pre)
     (c .before .before .before .before .before .before .before .loop .inv) (omega arith) (c .before .before .before .fill-late-after .ensures) (search needs)
     (search needs)
 

@@ -6,10 +6,10 @@ use Rattle.batching.proofs.fill_row.Statement.{statement}
 use Rattle.batching.proofs.fill_row.Tie as tie
 
 abbrev Inv-loop : tie.InvT-loop
-Inv-loop rs sums late row₀ s n begin i lo p₀ row p = RowSoFar rs sums row₀ row s n begin i lo p
+Inv-loop rs sums weights late row₀ s n begin i lo p₀ row p = RowSoFar rs sums weights row₀ row s n begin i lo p
 
 abbrev μ-loop : tie.MeasureT-loop
-μ-loop rs sums late row₀ s n begin i lo p₀ row p = n - p
+μ-loop rs sums weights late row₀ s n begin i lo p₀ row p = n - p
 
 loop-holds : tie.Need-loop-holds Inv-loop μ-loop
 loop-holds c = search row-start

@@ -1,20 +1,20 @@
--- `after_batch` meets its contract: what the batch adds to the figure is small enough to be added.
+-- `after_batch` meets its contract: the batch adds its weight times its finish to the figure so far, and both fit.
 use Rattle.judge_members.specs.Laws.{completions-fit, figure-fits, after-batch-is}
 use borrow.Author.Needs.{needs}
 use Rattle.judge_members.proofs.after_batch.Statement.{statement}
 use Rattle.judge_members.proofs.after_batch.Tie as tie
 
-sub-strips : tie.Need-sub-strips
-sub-strips c = search needs
+batch-weight-requires : tie.Need-batch-weight-requires
+batch-weight-requires c κs = search needs
 
-mul-t5 : tie.Need-mul-t5
-mul-t5 c = search completions-fit
+mul-t8 : tie.Need-mul-t8
+mul-t8 c = search completions-fit
 
-add-t6 : tie.Need-add-t6
-add-t6 c = search figure-fits
+add-t9 : tie.Need-add-t9
+add-t9 c = search figure-fits
 
 returns : tie.Need-returns
 returns c = search after-batch-is
 
 pub after-batch-spec : {M : Type 1} → statement M
-after-batch-spec = tie.close (tie.spec sub-strips mul-t5 add-t6 returns)
+after-batch-spec = tie.close (tie.spec batch-weight-requires mul-t8 add-t9 returns)

@@ -1,5 +1,5 @@
--- `plan_mosaic` meets its contract: the tables are filled and read with the times of the section, and the instance that these give agrees with the section's.
-use Rattle.mosaic.proofs.PlanLaws.{bench-pre, late-pre, batches-pre, planned}
+-- `plan_mosaic` meets its contract: the tables are filled and read with the times and weights of the section, and the instance that these give agrees with it.
+use Rattle.mosaic.proofs.PlanLaws.{bench-pre, weight-pre, late-pre, batches-pre, planned}
 use borrow.Author.Needs.{needs}
 use Rattle.mosaic.proofs.plan_mosaic.Statement.{statement}
 use Rattle.mosaic.proofs.plan_mosaic.Tie as tie
@@ -16,6 +16,12 @@ slice-aggregate-prefix-sums c = search needs
 prefix-sums-requires : tie.Need-prefix-sums-requires
 prefix-sums-requires c κs = search bench-pre
 
+slice-aggregate-prefix-sums-2 : tie.Need-slice-aggregate-prefix-sums-2
+slice-aggregate-prefix-sums-2 c = search needs
+
+prefix-sums-requires-2 : tie.Need-prefix-sums-requires-2
+prefix-sums-requires-2 c κs = search weight-pre
+
 slice-aggregate-fill-late : tie.Need-slice-aggregate-fill-late
 slice-aggregate-fill-late c = search needs
 
@@ -24,6 +30,9 @@ slice-aggregate-fill-late-2 c = search needs
 
 slice-aggregate-fill-late-3 : tie.Need-slice-aggregate-fill-late-3
 slice-aggregate-fill-late-3 c = search needs
+
+slice-aggregate-fill-late-4 : tie.Need-slice-aggregate-fill-late-4
+slice-aggregate-fill-late-4 c = search needs
 
 fill-late-requires : tie.Need-fill-late-requires
 fill-late-requires c κs = search late-pre
@@ -36,6 +45,9 @@ slice-aggregate-choose-batches-2 c = search needs
 
 slice-aggregate-choose-batches-3 : tie.Need-slice-aggregate-choose-batches-3
 slice-aggregate-choose-batches-3 c = search needs
+
+slice-aggregate-choose-batches-4 : tie.Need-slice-aggregate-choose-batches-4
+slice-aggregate-choose-batches-4 c = search needs
 
 choose-batches-requires : tie.Need-choose-batches-requires
 choose-batches-requires c κs = search batches-pre
@@ -51,12 +63,16 @@ plan-mosaic-spec =
     ready-times-requires
     slice-aggregate-prefix-sums
     prefix-sums-requires
+    slice-aggregate-prefix-sums-2
+    prefix-sums-requires-2
     slice-aggregate-fill-late
     slice-aggregate-fill-late-2
     slice-aggregate-fill-late-3
+    slice-aggregate-fill-late-4
     fill-late-requires
     slice-aggregate-choose-batches
     slice-aggregate-choose-batches-2
     slice-aggregate-choose-batches-3
+    slice-aggregate-choose-batches-4
     choose-batches-requires
     returns)

@@ -6,13 +6,13 @@ use Prim.Native.Nat.{ℕ, zero, suc, _+_, _*_, _-_, _≤_, _<_}
 use native.Mathlib.Nat.{mul-le-mul}
 use native.Mathlib.Decide.{decLt}
 use native.Mathlib.Omega.{arith}
-use Rattle.sheet.specs.Limits.{mostTime, mostStrips}
+use Rattle.sheet.specs.Limits.{mostTime, mostWeight, mostStrips}
 use Rattle.sheet.specs.Sound.{MosaicSound}
 use Rattle.sheet.specs.declared.MosaicSection.{MosaicSection}
 use Rattle.rules.specs.declared.Batch.{Batch}
 use Rattle.rules.specs.Mosaic.{ready, setupTime}
 use Rattle.running.specs.FunctionLaws.{mostSetup}
-use Rattle.running.specs.Running.{BatchFollows, MosaicRuns, none, more}
+use Rattle.running.specs.Running.{batchWeight, BatchFollows, MosaicRuns, none, more}
 use Rattle.rules_laws.specs.Finish.{setup-most}
 use Rattle.rules_laws.specs.MosaicRunning.{runningFigure}
 use Rattle.batching.specs.Least.{benchStart, finishOf}
@@ -21,7 +21,7 @@ use Rattle.batching.specs.Chosen.{batchOf}
 use Rattle.batching.specs.Index.{leastAt, openAt, closedAt, chosenAt, chosenOpenAt}
 use Rattle.batching.specs.Recursion.{least-end, least-one, least-open, open-last, open-more, chosen-end, chosen-open, chosen-last, chosen-close, chosen-extend}
 use Rattle.mosaic.specs.Laws.Finish.{earliest-lawful}
-use Rattle.mosaic.specs.Laws.Rules.{weight-count, bench-most, ready-most}
+use Rattle.mosaic.specs.Laws.Rules.{weight-most, bench-most, ready-most}
 
 -- each mount starts when the batch before finishes
 unfoldable pub AsEarly : ℕ → List Batch → Type 0
@@ -39,7 +39,7 @@ latest i = i * (mostSetup + mostTime)
 -- the batches of the strips after i, the bench free at `free`
 pub record Attains (m : MosaicSection) (i free figure : ℕ) (bs : List Batch) : Type 0 where
   pub lawful : (p : Batch) → p .last ≡ i → p .finish ≡ free → MosaicRuns m p bs
-  pub figure-is : (p : Batch) → p .last ≡ i → runningFigure p bs ≡ figure
+  pub figure-is : (p : Batch) → p .last ≡ i → runningFigure m p bs ≡ figure
   pub early : AsEarly free bs
   pub finishes : FinishBy (latest (m .strips)) bs
 
@@ -60,13 +60,13 @@ module _ {m : MosaicSection} (S : MosaicSound m) where
         omega (arith, bench-most S i (q - i), ready-most S q, setup-most m S)
 
     pub attains-batch : (figure : ℕ) (bs : List Batch) → Attains m q (finishOf (instanceOf m) free i q) figure bs
-        → Attains m i free ((q - i) * finishOf (instanceOf m) free i q + figure) (batchOf (instanceOf m) free i q ∷ bs)
+        → Attains m i free (batchWeight m i q * finishOf (instanceOf m) free i q + figure) (batchOf (instanceOf m) free i q ∷ bs)
     unfolding runningFigure AsEarly FinishBy batchOf instanceOf
     attains-batch figure bs A = record {
       lawful = λ p e f. more (follows p e f) (A .lawful (batchOf (instanceOf m) free i q) refl refl);
       figure-is = λ p e.
-          ap (λ (j : ℕ). (q - j) * finishOf (instanceOf m) free i q + runningFigure (batchOf (instanceOf m) free i q) bs) e
-          ∙ ap (λ (n : ℕ). (q - i) * finishOf (instanceOf m) free i q + n) (A .figure-is (batchOf (instanceOf m) free i q) refl);
+          ap (λ (j : ℕ). batchWeight m j q * finishOf (instanceOf m) free i q + runningFigure m (batchOf (instanceOf m) free i q) bs) e
+          ∙ ap (λ (n : ℕ). batchWeight m i q * finishOf (instanceOf m) free i q + n) (A .figure-is (batchOf (instanceOf m) free i q) refl);
       early = (refl, A .early);
       finishes = (omega (arith, finish-most), A .finishes);
     } where
@@ -82,7 +82,7 @@ module _ {m : MosaicSection} (S : MosaicSound m) where
         → Attains m i free (closedAt (instanceOf m) (benchStart (setupTime m) free (ready m q)) i q)
         (batchOf (instanceOf m) free i q ∷ chosenAt (instanceOf m) q (finishOf (instanceOf m) free i q))
     unfolding closedAt instanceOf finishOf
-    close A = rw (weight-count m i (q - i)) (attains-batch _ _ A)
+    close A = attains-batch _ _ A
 
   same : {i free v v′ : ℕ} {bs bs′ : List Batch} → v′ ≡ v → bs′ ≡ bs → Attains m i free v bs → Attains m i free v′ bs′
   same e f A = rw (e, f) A
@@ -120,13 +120,13 @@ module _ {m : MosaicSection} (S : MosaicSound m) where
       ]
 
   -- the figure of one batch of all strips is a bound
-  pub figure-most : leastAt (instanceOf m) 0 0 ≤ mostStrips * latest mostStrips
+  pub figure-most : leastAt (instanceOf m) 0 0 ≤ mostStrips * mostWeight * latest mostStrips
   unfolding instanceOf
   figure-most =
       let x = instanceOf m in
       elim (decLt 0 (m .strips)) [
         | yes y ↦
-            let w : x .weight 0 (m .strips) ≤ mostStrips = omega (arith, weight-count m 0 (m .strips - 0), S .most-strips) in
+            let w : x .weight 0 (m .strips) ≤ mostStrips * mostWeight = omega (arith, weight-most S 0 (m .strips), S .most-strips) in
             let f : finishOf x 0 0 (m .strips) ≤ latest mostStrips = omega (arith, finish-most 0 (m .strips) 0 y (omega arith) (omega arith), S .most-strips) in
             omega (arith, least-one x 0 0 y, mul-le-mul w f)
         | no y ↦ omega (arith, least-end x 0 0 (omega arith))

@@ -8,14 +8,13 @@ use native.Mathlib.Decide.{decLt}
 use native.Mathlib.Omega.{arith}
 use Rattle.sheet.specs.declared.MosaicSection.{MosaicSection}
 use Rattle.rules.specs.declared.Batch.{Batch}
-use Rattle.running.specs.Running.{BatchFollowsUnder, MosaicRunsUnder, none, more}
+use Rattle.running.specs.Running.{batchWeight, BatchFollowsUnder, MosaicRunsUnder, none, more}
 use Rattle.rules_laws.specs.MosaicRunning.{runningFigure}
 use Rattle.batching.specs.Least.{Instance, benchStart, finishOf}
 use Rattle.mosaic.specs.Least.{instanceOf}
 use Rattle.batching.specs.Index.{leastAt, openAt, closedAt}
 use Rattle.batching.specs.Recursion.{least-mono, least-end, least-open, open-last, open-more}
 use Rattle.mosaic.specs.Laws.Finish.{finish-least}
-use Rattle.mosaic.specs.Laws.Rules.{weight-count}
 
 -- to close the open batch at strip q, or d strips further on, is a choice; F is a finish that is no earlier
 module _ (x : Instance) where
@@ -44,13 +43,12 @@ module _ (x : Instance) where
 
 module _ {c : ℕ} (m : MosaicSection) where
   batch-cost : (p b : Batch) → BatchFollowsUnder c m p b
-      → leastAt (instanceOf m) (p .last) (p .finish) ≤ (b .last - p .last) * b .finish + leastAt (instanceOf m) (b .last) (b .finish)
+      → leastAt (instanceOf m) (p .last) (p .finish) ≤ batchWeight m (p .last) (b .last) * b .finish + leastAt (instanceOf m) (b .last) (b .finish)
   unfolding instanceOf
   batch-cost p b B =
-      rw (weight-count m (p .last) (b .last - p .last))
-      at (close-at (instanceOf m) (p .last) (b .last) (p .finish) (b .finish) (B .lawful .rises) (B .known) (finish-least m p b (B .lawful)))
+      close-at (instanceOf m) (p .last) (b .last) (p .finish) (b .finish) (B .lawful .rises) (B .known) (finish-least m p b (B .lawful))
 
-  pub lower-after : (bs : List Batch) (p : Batch) → MosaicRunsUnder c m p bs → leastAt (instanceOf m) (p .last) (p .finish) ≤ runningFigure p bs
+  pub lower-after : (bs : List Batch) (p : Batch) → MosaicRunsUnder c m p bs → leastAt (instanceOf m) (p .last) (p .finish) ≤ runningFigure m p bs
   unfolding runningFigure instanceOf
   lower-after [] p (none e) = omega (arith, least-end (instanceOf m) (p .last) (p .finish) (omega arith))
   lower-after (b ∷ bs) p (more f r) = omega (arith, batch-cost p b f, lower-after bs b r)

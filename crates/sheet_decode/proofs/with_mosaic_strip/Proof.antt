@@ -1,4 +1,4 @@
--- `with_mosaic_strip` meets its contract: the station times and the bench time are stored at the strip's place.
+-- `with_mosaic_strip` meets its contract: the station times, the bench time and the weight are stored at the strip's place.
 use Rattle.sheet_decode.specs.DecodeLaws.{mosaic-strip-is}
 use borrow.Author.Needs.{needs}
 use Rattle.sheet_decode.proofs.with_mosaic_strip.Statement.{statement}
@@ -25,8 +25,23 @@ mul-bench c = search needs
 array-write-bench : tie.Need-array-write-bench
 array-write-bench c = search needs
 
-add-t9 : tie.Need-add-t9
-add-t9 c = search needs
+mul-weight-of : tie.Need-mul-weight-of
+mul-weight-of c = search needs
+
+add-weight-of : tie.Need-add-weight-of
+add-weight-of c = search needs
+
+weight-of-requires : tie.Need-weight-of-requires
+weight-of-requires c κs = search needs
+
+mul-weight : tie.Need-mul-weight
+mul-weight c = search needs
+
+array-write-weight : tie.Need-array-write-weight
+array-write-weight c = search needs
+
+add-t14 : tie.Need-add-t14
+add-t14 c = search needs
 
 returns : tie.Need-returns
 returns c = search mosaic-strip-is
@@ -42,5 +57,10 @@ with-mosaic-strip-spec =
     number-requires
     mul-bench
     array-write-bench
-    add-t9
+    mul-weight-of
+    add-weight-of
+    weight-of-requires
+    mul-weight
+    array-write-weight
+    add-t14
     returns)

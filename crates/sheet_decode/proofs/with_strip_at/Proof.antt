@@ -49,6 +49,21 @@ mul-desk-2 c = search needs
 array-write-desk : tie.Need-array-write-desk
 array-write-desk c = search needs
 
+weight-of-requires : tie.Need-weight-of-requires
+weight-of-requires c κs = search needs
+
+mul-weight : tie.Need-mul-weight
+mul-weight c = search needs
+
+add-weight : tie.Need-add-weight
+add-weight c = search needs
+
+mul-weight-2 : tie.Need-mul-weight-2
+mul-weight-2 c = search needs
+
+array-write-weight : tie.Need-array-write-weight
+array-write-weight c = search needs
+
 returns : tie.Need-returns
 returns c = search strip-at-is
 
@@ -71,4 +86,9 @@ with-strip-at-spec =
     add-desk
     mul-desk-2
     array-write-desk
+    weight-of-requires
+    mul-weight
+    add-weight
+    mul-weight-2
+    array-write-weight
     returns)

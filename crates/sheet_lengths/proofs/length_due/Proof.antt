@@ -9,16 +9,16 @@ returns : tie.Need-returns
 returns c = search cases
 
 returns-2 : tie.Need-returns-2
-returns-2 c = mosaic-strip-case _ _ _ (search needs) (omega arith) (omega arith) (omega arith)
+returns-2 c = mosaic-strip-case _ _ _ _ (search needs) (omega arith) (omega arith) (omega arith) (omega arith)
 
 returns-3 : tie.Need-returns-3
-returns-3 c = mosaic-strip-case _ _ _ (search needs) (omega arith) (omega arith) (omega arith)
+returns-3 c = mosaic-strip-case _ _ _ _ (search needs) (omega arith) (omega arith) (omega arith) (omega arith)
 
 returns-4 : tie.Need-returns-4
-returns-4 c = mosaic-strip-case _ _ _ (search needs) (omega arith) (omega arith) (omega arith)
+returns-4 c = mosaic-strip-case _ _ _ _ (search needs) (omega arith) (omega arith) (omega arith) (omega arith)
 
 returns-5 : tie.Need-returns-5
-returns-5 c = mosaic-strip-case _ _ _ (search needs) (omega arith) (omega arith) (omega arith)
+returns-5 c = mosaic-strip-case _ _ _ _ (search needs) (omega arith) (omega arith) (omega arith) (omega arith)
 
 returns-6 : tie.Need-returns-6
 returns-6 c = search cases

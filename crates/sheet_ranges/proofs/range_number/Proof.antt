@@ -1,6 +1,6 @@
 -- `range_number` meets its contract: one case a tag: the values tested are those that stand in the content.
-use Rattle.sheet_ranges.specs.RangeLaws.{mosaic-head-read, strip-pre, mosaic-strip-read, sorting-head-read, sorting-strip-read, flight-head-read, flight-block-read}
-use Rattle.sheet_ranges.specs.RangeLaws.{flight-window-block-read, no-values-read}
+use Rattle.sheet_ranges.specs.RangeLaws.{mosaic-head-read, strip-pre, strip-doubled, strip-others, mosaic-weight-pre, mosaic-strip-read, sorting-head-read, sorting-strip-read}
+use Rattle.sheet_ranges.specs.RangeLaws.{flight-head-read, flight-block-read, flight-window-block-read, no-values-read}
 use borrow.Author.Needs.{needs}
 use Rattle.sheet_ranges.proofs.range_number.Statement.{statement}
 use Rattle.sheet_ranges.proofs.range_number.Tie as tie
@@ -19,6 +19,15 @@ mosaic-head-number-requires c κs = search needs
 
 mosaic-strip-number-requires : tie.Need-mosaic-strip-number-requires
 mosaic-strip-number-requires c κs = search (strip-pre, needs)
+
+mul-strip-number : tie.Need-mul-strip-number
+mul-strip-number c = search strip-doubled
+
+add-strip-number : tie.Need-add-strip-number
+add-strip-number c = search strip-others
+
+strip-number-requires : tie.Need-strip-number-requires
+strip-number-requires c κs = search mosaic-weight-pre
 
 byte-requires-2 : tie.Need-byte-requires-2
 byte-requires-2 c κs = search needs
@@ -43,6 +52,9 @@ number-requires-3 c κs = search needs
 
 sorting-strip-number-requires : tie.Need-sorting-strip-number-requires
 sorting-strip-number-requires c κs = search needs
+
+strip-number-requires-2 : tie.Need-strip-number-requires-2
+strip-number-requires-2 c κs = search needs
 
 number-requires-4 : tie.Need-number-requires-4
 number-requires-4 c κs = search needs
@@ -125,6 +137,9 @@ range-number-spec =
     number-requires
     mosaic-head-number-requires
     mosaic-strip-number-requires
+    mul-strip-number
+    add-strip-number
+    strip-number-requires
     byte-requires-2
     sorting-head-number-requires
     byte-requires-3
@@ -133,6 +148,7 @@ range-number-spec =
     add-number-3
     number-requires-3
     sorting-strip-number-requires
+    strip-number-requires-2
     number-requires-4
     flight-head-number-requires
     number-requires-5

@@ -1,15 +1,15 @@
 -- `choose_batches` meets its contract. Invariant: the batches written, with those that the recursion takes after them, are all that it takes.
 use Prim.Native.Nat.{_-_}
 use borrow.Author.Needs.{needs}
-use Rattle.mosaic.proofs.BatchLaws.{PlanSoFar, plan-start, plan-mounted, plan-first, plan-sub, plan-finish, plan-add, plan-step, plan-end}
+use Rattle.mosaic.proofs.BatchLaws.{PlanSoFar, plan-start, plan-mounted, plan-first, plan-sub, plan-finish, plan-weight, plan-add, plan-step, plan-end}
 use Rattle.mosaic.proofs.batches.choose_batches.Statement.{statement}
 use Rattle.mosaic.proofs.batches.choose_batches.Tie as tie
 
 abbrev Inv-loop : tie.InvT-loop
-Inv-loop rs sums late s n plan₀ i₀ free₀ plan i free = PlanSoFar rs sums s n plan i free
+Inv-loop rs sums weights late s n plan₀ i₀ free₀ plan i free = PlanSoFar rs sums weights s n plan i free
 
 abbrev μ-loop : tie.MeasureT-loop
-μ-loop rs sums late s n plan₀ i₀ free₀ plan i free = n - i
+μ-loop rs sums weights late s n plan₀ i₀ free₀ plan i free = n - i
 
 loop-holds : tie.Need-loop-holds Inv-loop μ-loop
 loop-holds c = search plan-start
@@ -50,20 +50,36 @@ sub-finish c = search plan-sub
 add-finish : tie.Need-add-finish Inv-loop μ-loop
 add-finish c = search plan-finish
 
-sub-add-batch : tie.Need-sub-add-batch Inv-loop μ-loop
-sub-add-batch c = search needs
+mul-weight : tie.Need-mul-weight Inv-loop μ-loop
+mul-weight c = search needs
+
+shared-slice-read-weight : tie.Need-shared-slice-read-weight Inv-loop μ-loop
+shared-slice-read-weight c = search needs
+
+mul-weight-2 : tie.Need-mul-weight-2 Inv-loop μ-loop
+mul-weight-2 c = search needs
+
+shared-slice-read-weight-2 : tie.Need-shared-slice-read-weight-2 Inv-loop μ-loop
+shared-slice-read-weight-2 c = search needs
+
+sub-weight : tie.Need-sub-weight Inv-loop μ-loop
+sub-weight c =
+    plan-weight (c .before .before .before .before .before .before .before .before .before .before .before .before .before .pre) (c .before .before .before .before .before .before .before .before .loop .inv)
+    (c .before .before .before .before .before .before .before .loop-test .taken) (c .before .before .before .before .before .before .first-batch .ensures)
 
 add-batch-requires : tie.Need-add-batch-requires Inv-loop μ-loop
-add-batch-requires c κs = search plan-add
+add-batch-requires c κs =
+    plan-add (c .before .before .before .before .before .before .before .before .before .before .before .before .before .pre) (c .before .before .before .before .before .before .before .before .loop .inv)
+    (c .before .before .before .before .before .before .before .loop-test .taken) (c .before .before .before .before .before .before .first-batch .ensures) _ (c .before .before .before .before .greater .ensures)
 
 loop-less : tie.Need-loop-less Inv-loop μ-loop
 loop-less c = search needs
 
 loop-again : tie.Need-loop-again Inv-loop μ-loop
 loop-again c =
-    plan-step (c .before .before .before .before .before .before .before .before .before .before .before .pre)
-    (c .before .before .before .before .before .before .before .loop .inv) (c .before .before .before .before .before .before .loop-test .taken)
-    (c .before .before .before .before .before .first-batch .ensures) (c .before .before .before .greater .ensures) (c .add-batch .ensures)
+    plan-step (c .before .before .before .before .before .before .before .before .before .before .before .before .before .before .pre) (c .before .before .before .before .before .before .before .before .before .loop .inv)
+    (c .before .before .before .before .before .before .before .before .loop-test .taken) (c .before .before .before .before .before .before .before .first-batch .ensures) (c .before .before .before .before .before .greater .ensures)
+    (c .add-batch .ensures)
 
 returns : tie.Need-returns Inv-loop μ-loop
 returns c = search plan-end
@@ -87,7 +103,11 @@ choose-batches-spec =
     shared-slice-read-finish-2
     sub-finish
     add-finish
-    sub-add-batch
+    mul-weight
+    shared-slice-read-weight
+    mul-weight-2
+    shared-slice-read-weight-2
+    sub-weight
     add-batch-requires
     loop-less
     loop-again
