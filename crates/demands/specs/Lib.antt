@@ -102,7 +102,7 @@ use Rattle.page_laws.specs.Outcomes.{PagePrinted, page-accepted, page-left, pag
 
 -- TERMS.
 
--- What an accepted call has written: place 0, as many bytes as the answer says, which have room in a buffer of 1,095 bytes, and nothing behind them.
+-- What an accepted call has written: place 0, as many bytes as the answer says, which have room in a buffer of 1,103 bytes, and nothing behind them.
 pub record WritesPlan (plan planAfter : List ℕ) (r : Answer) : Type 0 where
   pub place : r .place ≡ 0
   pub long : length (written r planAfter) ≡ r .length
@@ -151,7 +151,7 @@ module _ (sheet plan table planAfter tableEnd : List ℕ) (r : Answer) (call : C
   pub refused-writes-nothing : (r .number ≡ 0 → ⊥) → (planAfter ≡ plan) × (r .length ≡ 0)
   refused-writes-nothing = call-refused sheet plan table planAfter tableEnd r call
 
-  -- "an accepted one writes the plan and no byte past it": `written` is as many bytes as the answer says, at most 1,095, and behind them the buffer is as it
+  -- "an accepted one writes the plan and no byte past it": `written` is as many bytes as the answer says, at most 1,103, and behind them the buffer is as it
   -- was. That they are the plan is demand 3.
   pub accepted-writes-the-plan : r .number ≡ 0 → WritesPlan plan planAfter r
   accepted-writes-the-plan z =

@@ -3,7 +3,8 @@ use Prim.{Unit, tt}
 use Rattle.base.specs.Listed.{listed}
 use Rattle.batching.specs.Least.{benchStart, finishOf, leastOpen, leastFrom}
 use Rattle.batching.specs.Chosen.{batchOf, chosenOpen, chosenFrom}
-use Rattle.mosaic.specs.Least.{weightOf, weightSum, instanceOf}
+use Rattle.running.specs.Running.{batchWeight}
+use Rattle.mosaic.specs.Least.{instanceOf}
 use Rattle.mosaic.specs.Chosen.{chosenBatches}
 use Rattle.interleaving.specs.Search.{stepOf, keep, overDesks, branch, searchFrom, startState, firstBest}
 use Rattle.sorting.specs.Plan.{instanceOf as sortingInstance, listedDesk, reached, jobOf, jobsOfList, chosenJobs}
@@ -18,7 +19,7 @@ use Rattle.planner.specs.Theorems.{figureOfMosaic, figureOfSorting, figu
 
 unfoldable pub plannerComputes : Unit {0}
 unfolding
-    benchStart finishOf leastOpen leastFrom batchOf chosenOpen chosenFrom weightOf weightSum instanceOf chosenBatches
+    benchStart finishOf leastOpen leastFrom batchOf chosenOpen chosenFrom batchWeight instanceOf chosenBatches
     stepOf keep overDesks branch searchFrom startState firstBest sortingInstance listedDesk reached jobOf listed jobsOfList chosenJobs
     relax relaxed rounds holds leastValues solvable constraintOf leastStarts possibleIn orderFigure passesWithStarts leastPasses
     improves tried searched ordersOf delaysFit oneByOne freeOrder chosenOrder isPossible chosenPasses

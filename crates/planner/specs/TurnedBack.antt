@@ -20,7 +20,7 @@ use Rattle.base.specs.declared.Answer.{Answer}
 pub data TurnedBack (sheet plan table : List ℕ) (number place : ℕ) : Type 0 where
   -- "working table below 6,400 numbers of 64 bits"
   table-small : length table < tableLength → number ≡ tableTooSmall → place ≡ 0 → TurnedBack sheet plan table number place
-  -- "plan buffer below 1,095 bytes"
+  -- "plan buffer below 1,095 bytes", since Req 09 below 1,103
   buffer-small : tableLength ≤ length table → length plan < planLength → number ≡ bufferTooSmall → place ≡ 0 → TurnedBack sheet plan table number place
   -- 3 to 10 and 15 to 17: a cause of the sheet, at the first field that has one (sheet, Causes.antt and Table.antt)
   in-sheet : Large plan table → RefusedFor sheet number place → TurnedBack sheet plan table number place

@@ -50,7 +50,7 @@ module _ (s : Sheet) (sound : SheetSound s) where
     plan-length =
         omega (arith, ap length (plan-is s p), length-append (mosaicOf s p ++ sortingOf s p) (flightOf s p), length-append (mosaicOf s p) (sortingOf s p))
 
-    -- a lawful plan has room in a buffer of 1,095 bytes
+    -- a lawful plan has room in a buffer of 1,103 bytes
     pub plan-most : length (planBytes s p) ≤ planLength
     unfolding stripsInAll
     plan-most =

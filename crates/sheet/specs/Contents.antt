@@ -228,7 +228,7 @@ module _ (tag len : ℕ) (table : List TableRow) (content : List Item) (two : co
       either (inr (inl e)) = inr (e ∙ weighted-length content)
       either (inr (inr a)) = absurd a
 
-  either-values : (s : List ℕ) (c : ℕ) → fieldValues s c tag len table ≡ contentValues s c content ++ weightValues s c len (lengthOf content)
+  pub either-values : (s : List ℕ) (c : ℕ) → fieldValues s c tag len table ≡ contentValues s c content ++ weightValues s c len (lengthOf content)
   unfolding fieldValues ofLength weightValues
   either-values s c = ap (contentValues s c) (ap (ofLength len) two) ∙ go either-length
     where

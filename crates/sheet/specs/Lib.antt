@@ -30,4 +30,5 @@ pub mod FlightPlaces
 pub mod SameContent
 pub mod MovedPlaces
 pub mod WrittenZero
+pub mod AbsentWeight
 pub mod OneValue

@@ -94,7 +94,7 @@ module _ {s : List ℕ} {c : ℕ} {t : List ℕ} {d len : ℕ} (b : SameBytes s 
       there : d + (j + i .width) ≡ d + j + i .width
       there = omega arith
 
-  content-same : (content : List Item) → lengthOf content ≤ len → contentValues s c content ≡ contentValues t d content
+  pub content-same : (content : List Item) → lengthOf content ≤ len → contentValues s c content ≡ contentValues t d content
   unfolding contentValues
   content-same content l =
       ap (valuesOf content)
@@ -105,6 +105,13 @@ module _ {s : List ℕ} {c : ℕ} {t : List ℕ} {d len : ℕ} (b : SameBytes s 
 
       there : d + 0 ≡ d
       there = omega arith
+
+  -- so are the station times of a strip that lies in them
+  pub times-same : (base k : ℕ) (times : List ℕ) → 2 * k ≤ len → withStationTimes s c base k times ≡ withStationTimes t d base k times
+  unfolding withStationTimes
+  times-same base zero times l = refl
+  times-same base (suc k) times l =
+      ap₂ (λ (xs : List ℕ) (x : ℕ). set xs (base + k) x) (times-same base k times (omega arith)) (same-number 2 (2 * k) (omega arith))
 
   -- A content of the field's length is no longer than the field.
   of-length-most : (contents : List (List Item)) → lengthOf (ofLength len contents) ≤ len
@@ -176,12 +183,6 @@ module _ {s : List ℕ} {c : ℕ} {t : List ℕ} {d len : ℕ} (b : SameBytes s 
         go (no e) = rw (ne-eqb tag flightOrderTag e)
 
     -- What the field adds to each section.
-    same-times : (base k : ℕ) (times : List ℕ) → 2 * k ≤ len → withStationTimes s c base k times ≡ withStationTimes t d base k times
-    unfolding withStationTimes
-    same-times base zero times l = refl
-    same-times base (suc k) times l =
-        ap₂ (λ (xs : List ℕ) (x : ℕ). set xs (base + k) x) (same-times base k times (omega arith)) (same-number 2 (2 * k) (omega arith))
-
     same-mosaic-head : tag ≡ mosaicHeadTag → withMosaicHead s c ≡ withMosaicHead t d
     unfolding mosaicHead lengthOf withMosaicHead
     same-mosaic-head e =
@@ -200,7 +201,7 @@ module _ {s : List ℕ} {c : ℕ} {t : List ℕ} {d len : ℕ} (b : SameBytes s 
         let w : weightOf s c len (2 * m .stations + 2) ≡ weightOf t d len (2 * m .stations + 2) =
         same-weight (2 * m .stations + 2) (subst (λ x. (len ≡ 2 * x + 2) ⊎ (len ≡ 2 * x + 2 + 1)) (sym st) (mosaic-strip e)) in
         let k : 2 * stations + 2 ≤ len = at-least (2 * stations + 2) (mosaic-strip e) in
-        rw (same-times (4 * m .strips) (m .stations) (m .station) (omega arith), same-number 2 (2 * m .stations) (omega arith), w)
+        rw (times-same (4 * m .strips) (m .stations) (m .station) (omega arith), same-number 2 (2 * m .stations) (omega arith), w)
 
     pub same-mosaic : (m : MosaicSection) → m .stations ≡ stations → nextMosaic s c tag len m ≡ nextMosaic t d tag len m
     unfolding nextMosaic
@@ -309,7 +310,7 @@ pub record Alike (st other : Reading) : Type 0 where
   pub flight : other .flight ≡ withPlace (other .flight .place) (st .flight)
 
 -- a wrong length decides, whatever is checked behind it
-length-decides : (x y z : ℕ) (a b : List ℕ) → firstFailure (x ∷ y ∷ z ∷ lengthWrong ∷ a) ≡ firstFailure (x ∷ y ∷ z ∷ lengthWrong ∷ b)
+pub length-decides : (x y z : ℕ) (a b : List ℕ) → firstFailure (x ∷ y ∷ z ∷ lengthWrong ∷ a) ≡ firstFailure (x ∷ y ∷ z ∷ lengthWrong ∷ b)
 unfolding firstFailure
 length-decides (suc x) y z a b = refl
 length-decides zero (suc y) z a b = refl

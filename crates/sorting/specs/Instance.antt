@@ -158,9 +158,9 @@ timed-more {begun} {scan} {desk} {weight} {J} {k} w l = record {
   within = omega arith;
   size = simp length-set (w .size);
   counts = λ d m. same d (λ e. omega arith) (λ e. omega arith) (λ e. omega arith) ∙ w .counts d m;
-  scans = entries J _ scan 3 k (λ x m. same (3 + x) (λ z. omega arith) (λ z. omega arith) (λ z. omega arith)) (new-scan J scan desk weight k (w .size) l) (w .scans);
-  desks = entries J _ desk 21 k (λ x m. same (21 + x) (λ z. omega arith) (λ z. omega arith) (λ z. omega arith)) (new-desk J scan desk weight k (w .size) l) (w .desks);
-  weights = entries J _ weight 39 k (λ x m. same (39 + x) (λ z. omega arith) (λ z. omega arith) (λ z. omega arith)) (new-weight J scan desk weight k (w .size) l) (w .weights);
+  scans = entries J (stored J scan desk weight k) scan 3 k (λ x m. same (3 + x) (λ z. omega arith) (λ z. omega arith) (λ z. omega arith)) (new-scan J scan desk weight k (w .size) l) (w .scans);
+  desks = entries J (stored J scan desk weight k) desk 21 k (λ x m. same (21 + x) (λ z. omega arith) (λ z. omega arith) (λ z. omega arith)) (new-desk J scan desk weight k (w .size) l) (w .desks);
+  weights = entries J (stored J scan desk weight k) weight 39 k (λ x m. same (39 + x) (λ z. omega arith) (λ z. omega arith) (λ z. omega arith)) (new-weight J scan desk weight k (w .size) l) (w .weights);
 }
   where
     same : (x : ℕ) → (x ≡ 3 + k → ⊥) → (x ≡ 21 + k → ⊥) → (x ≡ 39 + k → ⊥) → getD (stored J scan desk weight k) x 0 ≡ getD J x 0
