@@ -15,13 +15,13 @@ static uint64_t number(const uint8_t *bytes, size_t width) {
 static void print_field(uint8_t tag, const uint8_t *c) {
     switch (tag) {
     case 0x90:
-        printf("mosaic, in minutes: figure %" PRIu64 "\n", number(c, 4));
+        printf("mosaic, in minutes: figure %" PRIu64 "\n", number(c, 8));
         break;
     case 0x91:
         printf("  batch up to strip %" PRIu64 ": mount at %" PRIu64 ", finished at %" PRIu64 "\n", number(c, 1), number(c + 1, 4), number(c + 5, 4));
         break;
     case 0xA0:
-        printf("sorting, in minutes: figure %" PRIu64 "\n", number(c, 4));
+        printf("sorting, in minutes: figure %" PRIu64 "\n", number(c, 8));
         break;
     case 0xA1:
         printf("  desk %" PRIu64 " strip %" PRIu64 ": scan at %" PRIu64 ", desk at %" PRIu64 "\n", number(c, 1), number(c + 1, 1), number(c + 2, 4), number(c + 6, 4));

@@ -14,25 +14,30 @@ from sheet_cases import MOST_TIME as TIME, MOST_TURN, OVER, block, field, flight
 
 FOLDER = sheets.FOLDER.parent / "judge_cases"
 CEILING = 10_000_000
+HEAD = 11  # bytes of the head field of a mosaic or a sorting; a batch has 12 and a scanned strip 13
 
 
 def four(*values):
     return b"".join(struct.pack("<I", value) for value in values)
 
 
+def eight(value):
+    return struct.pack("<Q", value)
+
+
 def batches(figure, *members):
     """Members: last strip, start, finish."""
-    return field(0x90, four(figure)) + b"".join(field(0x91, bytes([last]) + four(start, finish)) for last, start, finish in members)
+    return field(0x90, eight(figure)) + b"".join(field(0x91, bytes([last]) + four(start, finish)) for last, start, finish in members)
 
 
 def jobs(figure, *members):
     """Members: desk, number, scan start, desk start."""
-    return field(0xA0, four(figure)) + b"".join(field(0xA1, bytes([desk, number]) + four(scan, start)) for desk, number, scan, start in members)
+    return field(0xA0, eight(figure)) + b"".join(field(0xA1, bytes([desk, number]) + four(scan, start)) for desk, number, scan, start in members)
 
 
 def passes(figure, order_number, *members):
     """Members: first start, second start."""
-    return field(0xB0, four(figure) + struct.pack("<Q", order_number)) + b"".join(field(0xB1, four(*starts)) for starts in members)
+    return field(0xB0, four(figure) + eight(order_number)) + b"".join(field(0xB1, four(*starts)) for starts in members)
 
 
 def ready_strips(mount, *strips):
@@ -91,7 +96,7 @@ PLAN = BEST + jobs(10, (2, 1, 0, 1), (1, 1, 1, 3)) + passes(5, 0xC, (0, 3), (1, 
 allowed("all three sections", ALL, PLAN, 32, 10, 5)
 
 # Idle time is allowed.
-allowed("mounts that wait", M, batches(4 * 1000 + 10, (4, 992, 1000)).replace(four(4010), four(4000)), 4000)
+allowed("mounts that wait", M, batches(4000, (4, 992, 1000)), 4000)
 allowed("a scanner and desks that wait", S, jobs(27, (2, 1, 5, 10), (1, 1, 7, 11)), 0, 27)
 allowed("passes that wait", F, passes(105, 0xC, (100, 103), (101, 104)), 0, 0, 105)
 
@@ -117,8 +122,8 @@ BAD_SHEETS = [
 BAD_PLANS = [
     ("an empty plan", b"", 12, 0),
     ("a plan whose last field is cut", PLAN[:-1], 12, len(PLAN) - 11),
-    ("a plan whose first batch finishes late", batches(32, (1, 0, 4)) + PLAN[19:], 13, 7),
-    ("a plan whose first figure is untrue", batches(33) + PLAN[7:], 14, 0),
+    ("a plan whose first batch finishes late", batches(32, (1, 0, 4)) + PLAN[HEAD + 12:], 13, HEAD),
+    ("a plan whose first figure is untrue", batches(33) + PLAN[HEAD:], 14, 0),
 ]
 for kind, plan, number, place in BAD_PLANS:
     refused("the good sheet, and " + kind, ALL, plan, number, place)
@@ -130,11 +135,12 @@ for fault, sheet, number, place in BAD_SHEETS:
 refused("an empty plan", M, b"", 12, 0)
 refused("a plan of another section", M, jobs(10, (2, 1, 0, 1)), 12, 0)
 refused("a refusal is no plan", M, field(0xE0, word(6) + four(0)), 12, 0)
-refused("a cut head", M, BEST[:6], 12, 0)
-refused("a cut first member", M, BEST[:18], 12, 7)
-refused("a cut last member", M, BEST[:-1], 12, 7 + 3 * 12)
-refused("a head of five bytes", M, field(0x90, four(32) + b"\0"), 12, 0)
-refused("a member of ten bytes", M, batches(32, (1, 0, 3)) + field(0x91, bytes(10)), 12, 19)
+refused("a cut head", M, BEST[:HEAD - 1], 12, 0)
+refused("a cut first member", M, BEST[:HEAD + 11], 12, HEAD)
+refused("a cut last member", M, BEST[:-1], 12, HEAD + 3 * 12)
+for length in (0, 4, 7, 9, 12):
+    refused("a mosaic head of %d bytes" % length, M, field(0x90, (eight(32) + bytes(4))[:length]) + BEST[HEAD:], 12, 0)
+refused("a member of ten bytes", M, batches(32, (1, 0, 3)) + field(0x91, bytes(10)), 12, HEAD + 12)
 refused("a byte behind the plan", M, BEST + b"\0", 12, len(BEST))
 refused("a head behind the last section", M, BEST + batches(0), 12, len(BEST))
 refused("a section missing at the end", M + S, BEST, 12, len(BEST))
@@ -146,7 +152,7 @@ refused("a wrong last field goes before a broken first member", M, batches(32, (
 def mosaic_fault(name, index, member):
     members = list(FOUR)
     members[index] = member
-    refused(name, M, batches(32, *members), 13, 7 + 12 * index)
+    refused(name, M, batches(32, *members), 13, HEAD + 12 * index)
 
 
 mosaic_fault("a finish too early", 0, (1, 0, 2))
@@ -155,12 +161,12 @@ mosaic_fault("a mount before the batch before finishes", 2, (3, 6, 9))
 mosaic_fault("a batch that does not rise", 2, (2, 7, 8))
 mosaic_fault("a last strip that is not there", 3, (5, 10, 12))
 mosaic_fault("a last strip of 0", 0, (0, 0, 1))
-refused("a batch too many", M, BEST + batches(0, (4, 12, 13))[7:], 13, len(BEST))
+refused("a batch too many", M, BEST + batches(0, (4, 12, 13))[HEAD:], 13, len(BEST))
 refused("batches missing", M, batches(32, *FOUR[:3]), 13, 0)
 refused("no batch", M, batches(32), 13, 0)
 refused("an untrue figure", M, batches(33, *FOUR), 14, 0)
 allowed("a finish at the ceiling", M, batches(4 * CEILING, (4, CEILING - 8, CEILING)), 4 * CEILING)
-refused("a finish past the ceiling", M, batches(4 * CEILING + 4, (4, CEILING - 7, CEILING + 1)), 13, 7)
+refused("a finish past the ceiling", M, batches(4 * CEILING + 4, (4, CEILING - 7, CEILING + 1)), 13, HEAD)
 
 # A mount may start before the last strip of its batch is ready; bench work starts when the mount is done and that strip is ready. One strip with a bench
 # time of 2: mount time, when the strip is ready, start, finish. A finish one minute early or late is 13.
@@ -189,12 +195,12 @@ for mount, ready, start, finish in [
     sheet, name = ready_strips(mount, (ready, 2)), "a mount of %d from %d on, a strip ready at %d" % (mount, start, ready)
     allowed(name, sheet, batches(finish, (1, start, finish)), finish)
     for what, other in [("early", finish - 1), ("late", finish + 1)]:
-        refused("%s, a finish one minute %s" % (name, what), sheet, batches(other, (1, start, other)), 13, 7)
+        refused("%s, a finish one minute %s" % (name, what), sheet, batches(other, (1, start, other)), 13, HEAD)
 AHEAD = ready_strips(3, (5, 2))
-refused("a mount ahead, a finish as if the strip were ready", AHEAD, batches(5, (1, 0, 5)), 13, 7)
-refused("a mount ahead, a finish as if it started when the strip is ready", AHEAD, batches(10, (1, 0, 10)), 13, 7)
+refused("a mount ahead, a finish as if the strip were ready", AHEAD, batches(5, (1, 0, 5)), 13, HEAD)
+refused("a mount ahead, a finish as if it started when the strip is ready", AHEAD, batches(10, (1, 0, 10)), 13, HEAD)
 refused("a mount ahead, an untrue figure", AHEAD, batches(10, (1, 0, 7)), 14, 0)
-refused("a mount ahead, a finish one minute late, an untrue figure", AHEAD, batches(7, (1, 0, 8)), 13, 7)
+refused("a mount ahead, a finish one minute late, an untrue figure", AHEAD, batches(7, (1, 0, 8)), 13, HEAD)
 
 # The first worked sheet: several starts have one finish, up to the last start at which the mount is done when the strip is ready.
 allowed("batch 1 from 1 on", M, batches(35, (1, 1, 3), (2, 4, 8), (3, 8, 11), (4, 11, 13)), 35)
@@ -203,17 +209,17 @@ for start, finish in [(4, 12), (6, 12), (7, 13)]:
     allowed("batch 2-3 from %d on" % start, M, batches(figure, (1, 0, 3), (3, start, finish), (4, finish, finish + 2)), figure)
 for start, finish in [(8, 12), (9, 13)]:
     allowed("batch 3-4 from %d on" % start, M, batches(10 + 2 * finish, (1, 0, 3), (2, 3, 7), (4, start, finish)), 10 + 2 * finish)
-refused("batch 2-3 from 7 on, finished as from 6 on", M, batches(41, (1, 0, 3), (3, 7, 12), (4, 12, 14)), 13, 19)
-refused("batch 2-3 from 6 on, finished as from 7 on", M, batches(44, (1, 0, 3), (3, 6, 13), (4, 13, 15)), 13, 19)
-refused("batch 3-4 from 9 on, finished as from 8 on", M, batches(34, (1, 0, 3), (2, 3, 7), (4, 9, 12)), 13, 31)
+refused("batch 2-3 from 7 on, finished as from 6 on", M, batches(41, (1, 0, 3), (3, 7, 12), (4, 12, 14)), 13, HEAD + 12)
+refused("batch 2-3 from 6 on, finished as from 7 on", M, batches(44, (1, 0, 3), (3, 6, 13), (4, 13, 15)), 13, HEAD + 12)
+refused("batch 3-4 from 9 on, finished as from 8 on", M, batches(34, (1, 0, 3), (2, 3, 7), (4, 9, 12)), 13, HEAD + 24)
 # A batch waits for its last strip, not for its first one.
-refused("batch 2-3, finished as if strip 2 were the last one", M, batches(32, (1, 0, 3), (3, 3, 9), (4, 9, 11)), 13, 19)
-refused("batch 3-4, finished as if strip 3 were the last one", M, batches(32, (1, 0, 3), (2, 3, 7), (4, 7, 11)), 13, 31)
+refused("batch 2-3, finished as if strip 2 were the last one", M, batches(32, (1, 0, 3), (3, 3, 9), (4, 9, 11)), 13, HEAD + 12)
+refused("batch 3-4, finished as if strip 3 were the last one", M, batches(32, (1, 0, 3), (2, 3, 7), (4, 7, 11)), 13, HEAD + 24)
 # A start before the batch before finishes is 13, though the finish would be the same.
 mosaic_fault("a mount one minute before batch 1 finishes, its finish as it should be", 1, (2, 2, 7))
-refused("batch 2-3 one minute before batch 1 finishes", M, batches(41, (1, 0, 3), (3, 2, 12), (4, 12, 14)), 13, 19)
-refused("batch 3-4 one minute before batch 2 finishes", M, batches(34, (1, 0, 3), (2, 3, 7), (4, 6, 12)), 13, 31)
-refused("batch 3-4 from 0 on", M, batches(34, (1, 0, 3), (2, 3, 7), (4, 0, 12)), 13, 31)
+refused("batch 2-3 one minute before batch 1 finishes", M, batches(41, (1, 0, 3), (3, 2, 12), (4, 12, 14)), 13, HEAD + 12)
+refused("batch 3-4 one minute before batch 2 finishes", M, batches(34, (1, 0, 3), (2, 3, 7), (4, 6, 12)), 13, HEAD + 24)
+refused("batch 3-4 from 0 on", M, batches(34, (1, 0, 3), (2, 3, 7), (4, 0, 12)), 13, HEAD + 24)
 # The figure is that of the finishes in the plan.
 refused("four batches, figure 36", M, batches(36, *FOUR), 14, 0)
 refused("four batches, later mounts, figure 32", M, batches(32, (1, 2, 4), (2, 4, 8), (3, 8, 11), (4, 11, 13)), 14, 0)
@@ -233,7 +239,7 @@ for name, figure, members in [
     for index, (last, start, finish) in enumerate(members):
         for what, other in [("early", finish - 1), ("late", finish + 1)]:
             changed = [*members[:index], (last, start, other), *members[index + 1:]]
-            refused("%s, finish %d one minute %s" % (name, index + 1, what), WAITED, batches(figure, *changed), 13, 7 + 12 * index)
+            refused("%s, finish %d one minute %s" % (name, index + 1, what), WAITED, batches(figure, *changed), 13, HEAD + 12 * index)
 for name, index, member in [
     ("batch 1 finished as if its strip were ready", 0, (1, 0, 5)),
     ("batch 2 one minute before batch 1 finishes", 1, (2, 7, 10)),
@@ -244,11 +250,11 @@ for name, index, member in [
     ("batch 3 one minute before batch 2 finishes", 2, (3, 10, 24)),
     ("batch 3 from 0 on", 2, (3, 0, 24)),
 ]:
-    refused(name, WAITED, batches(43, *EARLIEST[:index], member, *EARLIEST[index + 1:]), 13, 7 + 12 * index)
+    refused(name, WAITED, batches(43, *EARLIEST[:index], member, *EARLIEST[index + 1:]), 13, HEAD + 12 * index)
 for start, finish in [(0, 28), (18, 28), (19, 29)]:
     allowed("one batch from %d on" % start, WAITED, batches(3 * finish, (3, start, finish)), 3 * finish)
 for what, finish in [("none were waited for", 10), ("strip 1 were the last one", 13), ("strip 2 were the last one", 14)]:
-    refused("one batch, finished as if %s" % what, WAITED, batches(3 * finish, (3, 0, finish)), 13, 7)
+    refused("one batch, finished as if %s" % what, WAITED, batches(3 * finish, (3, 0, finish)), 13, HEAD)
 allowed("batches 1-2, 3", WAITED, batches(44, (2, 0, 10), (3, 10, 24)), 44)
 allowed("batches 1, 2-3", WAITED, batches(58, (1, 0, 8), (3, 8, 25)), 58)
 
@@ -256,17 +262,17 @@ allowed("batches 1, 2-3", WAITED, batches(58, (1, 0, 8), (3, 8, 25)), 58)
 OFF = mosaic(2, 1) + strip(9, 0, 1) + strip(0, 0, 1)
 allowed("cameras off at the last strip", OFF, batches(22, (1, 0, 10), (2, 10, 12)), 22)
 allowed("cameras off at the last strip, one batch", OFF, batches(22, (2, 0, 11)), 22)
-refused("cameras off at the last strip, finished as if it were ready at 0", OFF, batches(6, (2, 0, 3)), 13, 7)
+refused("cameras off at the last strip, finished as if it were ready at 0", OFF, batches(6, (2, 0, 3)), 13, HEAD)
 ALL_OFF = mosaic(4, 2) + strip(0, 0, 0, 0, 3) * 2
 allowed("cameras off everywhere", ALL_OFF, batches(15, (1, 0, 5), (2, 5, 10)), 15)
 allowed("cameras off everywhere, one batch", ALL_OFF, batches(16, (2, 0, 8)), 16)
-refused("cameras off everywhere, finished without the mount", ALL_OFF, batches(12, (2, 0, 6)), 13, 7)
+refused("cameras off everywhere, finished without the mount", ALL_OFF, batches(12, (2, 0, 6)), 13, HEAD)
 
 # 40 strips in a batch: the last one is ready at 40 T.
 IN_ONE = mosaic(1, TIME) + strip(TIME, TIME) * 40
 for start, finish in [(0, 80 * TIME), (39 * TIME, 80 * TIME), (39 * TIME + 1, 80 * TIME + 1)]:
     allowed("40 strips in a batch from %d on" % start, IN_ONE, batches(40 * finish, (40, start, finish)), 40 * finish)
-refused("40 strips in a batch, finished as if none were waited for", IN_ONE, batches(40 * 41 * TIME, (40, 0, 41 * TIME)), 13, 7)
+refused("40 strips in a batch, finished as if none were waited for", IN_ONE, batches(40 * 41 * TIME, (40, 0, 41 * TIME)), 13, HEAD)
 
 # Up to the ceiling, and numbers near the greatest of four bytes.
 allowed("one strip up to the ceiling", AHEAD, batches(CEILING, (1, CEILING - 5, CEILING)), CEILING)
@@ -280,36 +286,36 @@ for start, finish in [
     (2**32 - 3, 7),
     (2**32 - 1, 4),
 ]:
-    refused("one strip from %d to %d" % (start, finish), AHEAD, batches(finish, (1, start, finish)), 13, 7)
+    refused("one strip from %d to %d" % (start, finish), AHEAD, batches(finish, (1, start, finish)), 13, HEAD)
 PAIR = ready_strips(3, (5, 2), (6, 2))
 late = lambda over: [(1, 0, 7), (2, CEILING + over - 5, CEILING + over)]
 allowed("two strips up to the ceiling", PAIR, batches(CEILING + 7, *late(0)), CEILING + 7)
-refused("two strips, the second one past the ceiling", PAIR, batches(CEILING + 8, *late(1)), 13, 19)
-refused("two strips, the second behind the ceiling", PAIR, batches(2 * CEILING + 5, (1, CEILING - 5, CEILING), (2, CEILING, CEILING + 5)), 13, 19)
+refused("two strips, the second one past the ceiling", PAIR, batches(CEILING + 8, *late(1)), 13, HEAD + 12)
+refused("two strips, the second behind the ceiling", PAIR, batches(2 * CEILING + 5, (1, CEILING - 5, CEILING), (2, CEILING, CEILING + 5)), 13, HEAD + 12)
 
 # Beside other sections, and what goes first.
-allowed("batches 1, 2-3, 4 beside two sections", ALL, batches(41, (1, 0, 3), (3, 3, 12), (4, 12, 14)) + PLAN[55:], 41, 10, 5)
-refused("a mount one minute before batch 1 finishes, beside two sections", ALL, batches(32, FOUR[0], (2, 2, 7)) + PLAN[31:], 13, 19)
-refused("four batches, figure 36, beside two sections", ALL, batches(36) + PLAN[7:], 14, 0)
-refused("a mount one minute before batch 1 finishes, a byte behind the plan", M, batches(32, FOUR[0], (2, 2, 7)) + BEST[31:] + b"\0", 12, 55)
-refused("a mount one minute before batch 1 finishes, batches missing", M, batches(32, FOUR[0], (2, 2, 7)), 13, 19)
+allowed("batches 1, 2-3, 4 beside two sections", ALL, batches(41, (1, 0, 3), (3, 3, 12), (4, 12, 14)) + PLAN[len(BEST):], 41, 10, 5)
+refused("a mount one minute before batch 1 finishes, beside two sections", ALL, batches(32, FOUR[0], (2, 2, 7)) + PLAN[HEAD + 24:], 13, HEAD + 12)
+refused("four batches, figure 36, beside two sections", ALL, batches(36) + PLAN[HEAD:], 14, 0)
+refused("a mount one minute before batch 1 finishes, a byte behind the plan", M, batches(32, FOUR[0], (2, 2, 7)) + BEST[HEAD + 24:] + b"\0", 12, len(BEST))
+refused("a mount one minute before batch 1 finishes, batches missing", M, batches(32, FOUR[0], (2, 2, 7)), 13, HEAD + 12)
 refused("a mount ahead, batches missing", M, batches(3, FOUR[0]), 13, 0)
 
 # 13 at a job.
-refused("a desk that is not there", S, jobs(10, (3, 1, 0, 1), (1, 1, 1, 3)), 13, 7)
-refused("desk 0", S, jobs(10, (0, 1, 0, 1), (1, 1, 1, 3)), 13, 7)
-refused("a strip out of turn", S, jobs(10, (2, 2, 0, 1), (1, 1, 1, 3)), 13, 7)
-refused("a strip twice", S, jobs(10, (2, 1, 0, 1), (2, 1, 1, 3)), 13, 20)
-refused("a strip too many", S, jobs(10, (2, 1, 0, 1), (1, 1, 1, 3), (1, 2, 8, 9)), 13, 33)
-refused("a scan before the one above it ends", S, jobs(9, (2, 1, 0, 1), (1, 1, 0, 2)), 13, 20)
-refused("a desk job before its scan ends", S, jobs(9, (2, 1, 0, 1), (1, 1, 1, 2)), 13, 20)
+refused("a desk that is not there", S, jobs(10, (3, 1, 0, 1), (1, 1, 1, 3)), 13, HEAD)
+refused("desk 0", S, jobs(10, (0, 1, 0, 1), (1, 1, 1, 3)), 13, HEAD)
+refused("a strip out of turn", S, jobs(10, (2, 2, 0, 1), (1, 1, 1, 3)), 13, HEAD)
+refused("a strip twice", S, jobs(10, (2, 1, 0, 1), (2, 1, 1, 3)), 13, HEAD + 13)
+refused("a strip too many", S, jobs(10, (2, 1, 0, 1), (1, 1, 1, 3), (1, 2, 8, 9)), 13, HEAD + 26)
+refused("a scan before the one above it ends", S, jobs(9, (2, 1, 0, 1), (1, 1, 0, 2)), 13, HEAD + 13)
+refused("a desk job before its scan ends", S, jobs(9, (2, 1, 0, 1), (1, 1, 1, 2)), 13, HEAD + 13)
 TWO = sorting(1) + job(1, 1, 5) + job(1, 1, 5)
 allowed("a desk's strips one after another", TWO, jobs(17, (1, 1, 0, 1), (1, 2, 1, 6)), 0, 17)
-refused("a desk that takes two strips at once", TWO, jobs(16, (1, 1, 0, 1), (1, 2, 1, 5)), 13, 20)
+refused("a desk that takes two strips at once", TWO, jobs(16, (1, 1, 0, 1), (1, 2, 1, 5)), 13, HEAD + 13)
 refused("jobs missing", S, jobs(2, (2, 1, 0, 1)), 13, 0)
 refused("an untrue sorting figure", S, jobs(9, (2, 1, 0, 1), (1, 1, 1, 3)), 14, 0)
 allowed("a desk that finishes at the ceiling", sorting() + job(1, 1, 1), jobs(CEILING, (1, 1, 0, CEILING - 1)), 0, CEILING)
-refused("a desk that finishes past the ceiling", sorting() + job(1, 1, 1), jobs(CEILING + 1, (1, 1, 0, CEILING)), 13, 7)
+refused("a desk that finishes past the ceiling", sorting() + job(1, 1, 1), jobs(CEILING + 1, (1, 1, 0, CEILING)), 13, HEAD)
 
 # 13 at a block, and at the head of a flight.
 refused("a delay one second short", F, passes(5, 0xC, (0, 2), (1, 4)), 13, 15)
@@ -390,7 +396,7 @@ BEFORE = PLAN[:-37]
 allowed("a turn behind two sections", M + S + TURNED, BEFORE + passes(10, 0xC, (0, 6), (3, 9)), 32, 10, 10)
 refused("a turn too short behind two sections", M + S + TURNED, BEFORE + passes(9, 0xC, (0, 6), (2, 8)), 13, len(BEFORE))
 refused("the same with an untrue figure", M + S + TURNED, BEFORE + passes(8, 0xC, (0, 6), (2, 8)), 13, len(BEFORE))
-refused("an untrue mosaic figure and a turn too short", M + TURNED, batches(33) + BEST[7:] + passes(9, 0xC, (0, 6), (2, 8)), 14, 0)
+refused("an untrue mosaic figure and a turn too short", M + TURNED, batches(33) + BEST[HEAD:] + passes(9, 0xC, (0, 6), (2, 8)), 14, 0)
 refused("a turn too short and a byte behind the plan", TURNED, passes(9, 0xC, (0, 6), (2, 8)) + b"\0", 12, 37)
 
 # A sheet that is impossible by its turn: no plan of it is allowed, and 11 is not given.
@@ -400,7 +406,7 @@ refused("a delay below the turn, an untrue figure", NEVER, passes(5, 2, (0, 5)),
 refused("a delay below the turn, the turn kept", NEVER, passes(7, 2, (0, 6)), 13, 15)
 refused("a delay below the turn, no block", NEVER, passes(6, 2), 13, 0)
 refused("a delay below the turn, an empty plan", NEVER, b"", 12, 0)
-refused("a delay below the turn, an untrue mosaic figure", M + NEVER, batches(33) + BEST[7:] + passes(6, 2, (0, 5)), 14, 0)
+refused("a delay below the turn, an untrue mosaic figure", M + NEVER, batches(33) + BEST[HEAD:] + passes(6, 2, (0, 5)), 14, 0)
 TIGHT = flight(1) + block(1, 2, 1) * 2
 allowed("a turn of 1, order A", TIGHT + order(0xA), passes(9, 0xA, (0, 3), (5, 8)), 0, 0, 9)
 refused("a turn of 1, order C cannot be kept", TIGHT + order(0xC), passes(5, 0xC, (0, 3), (1, 4)), 13, 0)
@@ -497,7 +503,7 @@ refused("order A given, order C flown", WIDE + order(0xA), passes(8, 0xC, (0, 2)
 allowed("a window behind two sections", M + S + WIDE, BEFORE + passes(8, 0xC, (0, 2), (1, 7)), 32, 10, 8)
 refused("a delay outside its window behind two sections", M + S + WIDE, BEFORE + passes(8, 0xC, (0, 5), (1, 7)), 13, len(BEFORE) + 15)
 refused("an untrue figure behind two sections", M + S + WIDE, BEFORE + passes(7, 0xC, (0, 2), (1, 7)), 14, len(BEFORE))
-refused("an untrue mosaic figure and a delay outside its window", M + WIDE, batches(33) + BEST[7:] + passes(8, 0xC, (0, 5), (1, 7)), 14, 0)
+refused("an untrue mosaic figure and a delay outside its window", M + WIDE, batches(33) + BEST[HEAD:] + passes(8, 0xC, (0, 5), (1, 7)), 14, 0)
 
 # The turn and windows: passes of 1 and windows from 0 to 20, a turn of 5. A gap of the turn is allowed, one a second shorter is 13 at the head.
 GAPS = flight(5) + window(1, 0, 20, 1) * 2
@@ -523,13 +529,13 @@ allowed("the longest mosaic, every mount behind the last strip", sheets.LONG_MOS
 for name, members in [("the longest mosaic", ALONE), ("the longest mosaic, every mount behind the last strip", WAITING)]:
     late = lambda over: [*members[:-1], (40, CEILING + over - 2 * TIME, CEILING + over)]
     allowed(name + ", up to the ceiling", sheets.LONG_MOSAIC, batches(together(late(0)), *late(0)), together(late(0)))
-    refused(name + ", one past the ceiling", sheets.LONG_MOSAIC, batches(together(late(1)), *late(1)), 13, 7 + 12 * 39)
+    refused(name + ", one past the ceiling", sheets.LONG_MOSAIC, batches(together(late(1)), *late(1)), 13, HEAD + 12 * 39)
 
 IN_TURN = [(k % 3 + 1, k // 3 + 1, k * TIME, (k + 1) * TIME) for k in range(18)]
 allowed("the longest sorting", sheets.LONG_SORTING, jobs(189 * TIME, *IN_TURN), 0, 189 * TIME)
 late = lambda over: [*IN_TURN[:-1], (3, 6, 17 * TIME, CEILING + over - TIME)]
 allowed("the longest sorting, up to the ceiling", sheets.LONG_SORTING, jobs(170 * TIME + CEILING, *late(0)), 0, 170 * TIME + CEILING)
-refused("the longest sorting, one past the ceiling", sheets.LONG_SORTING, jobs(170 * TIME + CEILING + 1, *late(1)), 13, 7 + 13 * 17)
+refused("the longest sorting, one past the ceiling", sheets.LONG_SORTING, jobs(170 * TIME + CEILING + 1, *late(1)), 13, HEAD + 13 * 17)
 
 LONG_FLIGHT = flight() + sheets.LONG_BLOCK * 32
 BY_ONE, BY_TWO = sheets.alternate(32), int("1100" * 16, 2)
@@ -584,7 +590,7 @@ for index, (last, start, finish) in enumerate(FOUR):
         ("a finish one minute past the ceiling", (last, CEILING - BENCH[index], CEILING + 1)),
     ]:
         if member[1] >= 0:
-            faulty(kind, M, lambda *ms: batches(32, *ms), FOUR, index, member, 7 + 12 * index)
+            faulty(kind, M, lambda *ms: batches(32, *ms), FOUR, index, member, HEAD + 12 * index)
 
 THREE = sorting(2) + job(1, 1, 5) + job(2, 1, 1) + job(1, 1, 2)
 JOBS = [(1, 1, 0, 1), (2, 1, 1, 2), (1, 2, 2, 6)]
@@ -601,8 +607,8 @@ for index, (desk, number, scan, start) in enumerate(JOBS):
         ("a desk job one second past the ceiling", (desk, number, scan, CEILING + 1 - DESK_TIMES[index])),
     ]:
         if scan > 0 or member[2] == scan:
-            faulty(kind, THREE, lambda *ms: jobs(17, *ms), JOBS, index, member, 7 + 13 * index)
-faulty("a desk job one second before its desk is free", THREE, lambda *ms: jobs(17, *ms), JOBS, 2, (1, 2, 2, 5), 33)
+            faulty(kind, THREE, lambda *ms: jobs(17, *ms), JOBS, index, member, HEAD + 13 * index)
+faulty("a desk job one second before its desk is free", THREE, lambda *ms: jobs(17, *ms), JOBS, 2, (1, 2, 2, 5), HEAD + 26)
 
 BLOCKS = flight() + block(1, 4, 1) * 3
 STARTED = [(0, 5), (1, 6), (2, 7)]
@@ -620,9 +626,9 @@ for index, (first, second) in enumerate(STARTED):
 
 # Faults in two sections.
 BAD_JOBS = jobs(10, (2, 1, 0, 0), (1, 1, 1, 3))
-refused("the first section's fault goes first", M + S, batches(32, *FOUR[:3], (4, 10, 13)) + BAD_JOBS, 13, 43)
+refused("the first section's fault goes first", M + S, batches(32, *FOUR[:3], (4, 10, 13)) + BAD_JOBS, 13, HEAD + 36)
 refused("an untrue mosaic figure goes before a broken sorting member", M + S, batches(33, *FOUR) + BAD_JOBS, 14, 0)
-refused("a good mosaic and a broken sorting", M + S, BEST + BAD_JOBS, 13, len(BEST) + 7)
+refused("a good mosaic and a broken sorting", M + S, BEST + BAD_JOBS, 13, len(BEST) + HEAD)
 refused("two good sections and an untrue flight figure", ALL, PLAN[:-37] + passes(6, 0xC, (0, 3), (1, 4)), 14, len(PLAN) - 37)
 
 

@@ -14,12 +14,12 @@ import tempfile
 
 import judge_cases as judged
 import sheet_cases as sheets
-from judge_cases import CEILING, batches, four, jobs, passes
+from judge_cases import CEILING, HEAD, batches, four, jobs, passes
 from sheet_cases import MOST_TIME, MOST_TURN, block, field, flight, job, mosaic, order, sorting, strip, window, word
 
 LEAST_ROOM = 3069
 FILL, BEHIND = b"\xA5", 16
-SMALL_ROOMS = [0, 1, 32, 33, 1095, LEAST_ROOM - 33, LEAST_ROOM - 1]
+SMALL_ROOMS = [0, 1, 32, 33, 1103, LEAST_ROOM - 33, LEAST_ROOM - 1]
 ROOMS = [LEAST_ROOM, LEAST_ROOM + 1, LEAST_ROOM + 33, 65536]
 
 PAGES = []
@@ -41,9 +41,9 @@ def number_at(data, at, length):
 # The letter of each field of a plan, and of each column of its line the width, and the offset and length in bytes of the number there: a length of 0 is for
 # the member's own number, None for blanks.
 FIELDS = {
-    0x90: ("m", [(31, 0, 4)]),
+    0x90: ("m", [(31, 0, 8)]),
     0x91: ("M", [(3, 0, 0), (4, 0, 1), (12, 1, 4), (12, 5, 4)]),
-    0xA0: ("s", [(31, 0, 4)]),
+    0xA0: ("s", [(31, 0, 8)]),
     0xA1: ("S", [(3, 0, 1), (4, 1, 1), (12, 2, 4), (12, 6, 4)]),
     0xB0: ("f", [(31, 0, 4)]),
     0xB1: ("F", [(3, 0, 0), (4, 0, None), (12, 0, 4), (12, 4, 4)]),
@@ -264,9 +264,9 @@ for name, sheet, line in sheets.CASES + sheets.LARGE:
     if number != 0:
         refused(name, sheet, judged.PLAN, number, place)
 refused("a plan with an order that is impossible", judged.A + order(0xC), passes(9, 0xA, (0, 1), (2, 8)), 13, 0)
-refused("a plan with a mount before the batch before finishes", judged.M, batches(32, judged.FOUR[0], (2, 2, 7)) + judged.BEST[31:], 13, 19)
+refused("a plan with a mount before the batch before finishes", judged.M, batches(32, judged.FOUR[0], (2, 2, 7)) + judged.BEST[HEAD + 24:], 13, HEAD + 12)
 for finish in (7, 9):
-    refused("a plan with a batch that finishes at %d and not at 8" % finish, judged.WAITED, batches(43, (1, 0, finish), *judged.EARLIEST[1:]), 13, 7)
+    refused("a plan with a batch that finishes at %d and not at 8" % finish, judged.WAITED, batches(43, (1, 0, finish), *judged.EARLIEST[1:]), 13, HEAD)
 refused("a plan with a turn that is too short", judged.TURNED, passes(9, 0xC, (0, 6), (2, 8)), 13, 0)
 for name, delay, figure in [("below", 2, 5), ("above", 7, 10)]:
     refused("a plan with a delay %s its window" % name, flight() + judged.SOME, passes(figure, 2, (0, 2 + delay)), 13, 15)
@@ -278,7 +278,7 @@ LONG_FILES = [
     ("a field of the sheet past the bytes that are taken", field(0x10, bytes(65535)), judged.PLAN, (3, 0), (5, 0)),
     ("a window block past the bytes that are taken", flight() + field(0x33, bytes(65535)), judged.PLAN, (3, 3), (5, 3)),
     ("a window block up to the last byte that is taken", flight() + field(0x33, bytes(65530)), judged.PLAN, (5, 3), (5, 3)),
-    ("a member past the bytes that are taken", judged.M, judged.BEST + MEMBER * 5457, (12, 7 + 12 * 5460), (13, len(judged.BEST))),
+    ("a member past the bytes that are taken", judged.M, judged.BEST + MEMBER * 5457, (12, HEAD + 12 * 5460), (13, len(judged.BEST))),
 ]
 
 wrong = []

@@ -18,7 +18,7 @@ import tempfile
 
 import judge_cases as judged
 import sheet_cases as sheets
-from judge_cases import batches, four, jobs, passes
+from judge_cases import HEAD, batches, four, jobs, passes
 from program_cases import FIRST_PLAN, FIRST_SHEET
 from sheet_cases import MOST_TURN, alternate, block, field, flight, job, mosaic, order, sorting, strip, window, word
 
@@ -43,7 +43,7 @@ def best(name, sheet, *figures, sorting_part=b""):
 def tied(name, sheet, plan, *others):
     """A sorting with several best plans: the one that is due, and others, which are allowed."""
     planned(name, sheet, plan)
-    OTHERS.extend((name, sheet, other, (0, 0, 0, int.from_bytes(plan[3:7], "little"), 0)) for other in (plan, *others))
+    OTHERS.extend((name, sheet, other, (0, 0, 0, int.from_bytes(plan[3:HEAD], "little"), 0)) for other in (plan, *others))
 
 
 def refused(name, sheet, number, place):
@@ -289,7 +289,7 @@ mounted("40 strips in three batches", 100, [(k, 41 - k) for k in range(1, 41)], 
 BESIDE, MOUNTS = judged.WAITED, batches(43, *judged.EARLIEST)
 planned("mounts ahead and a sorting", BESIDE + judged.S, MOUNTS + jobs(10, (2, 1, 0, 1), (1, 1, 1, 3)))
 planned("mounts ahead and a flight", BESIDE + judged.F, MOUNTS + passes(5, 0xC, (0, 3), (1, 4)))
-planned("mounts ahead and two sections", BESIDE + judged.S + judged.F, MOUNTS + judged.PLAN[55:])
+planned("mounts ahead and two sections", BESIDE + judged.S + judged.F, MOUNTS + judged.PLAN[len(judged.BEST):])
 refused("mounts ahead, order C cannot be kept", BESIDE + judged.A + order(0xC), 11, len(BESIDE + judged.A))
 
 # Of several best scanner lists that with the lower desk at the first place where they part.
@@ -679,7 +679,7 @@ def figures_judged(judge, sheet, plan):
 
 def mounts_follow(plan):
     """Whether each mount of a plan starts when the batch before finishes, the first at 0."""
-    free, at = 0, 7
+    free, at = 0, HEAD
     while plan[:1] == b"\x90" and plan[at:at + 1] == b"\x91":
         start, finish = (int.from_bytes(plan[k:k + 4], "little") for k in (at + 4, at + 8))
         if start != free:
