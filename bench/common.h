@@ -11,8 +11,8 @@
 
 typedef uint64_t u64;
 
-/* The greatest time of a sheet, and the greatest turn. */
-enum { MOST_TIME = 60000, MOST_TURN = 600 };
+/* The greatest time of a sheet, the greatest turn and the greatest weight. */
+enum { MOST_TIME = 60000, MOST_TURN = 600, MOST_WEIGHT = 100 };
 
 static u64 seed = 1;
 
@@ -20,6 +20,23 @@ static u64 seed = 1;
 static inline u64 any(u64 low, u64 high) {
     seed = seed * 6364136223846793005u + 1442695040888963407u;
     return low + (seed >> 33) % (high - low + 1);
+}
+
+/* What weights the strips of a section have: all 1, random, one the greatest and all others 1, 1 or the greatest, or rising with the strip's time, falling
+   with it, or rising with its place in the row. */
+enum weights { UNWEIGHTED, RANDOM_WEIGHTS, ONE_HEAVY, EXTREME_WEIGHTS, LONG_HEAVY, SHORT_HEAVY, LAST_HEAVY };
+
+/* The weight of a strip with this time and place, both counted from 0 up to a greatest one. The caller sets the one heavy strip. */
+static inline uint32_t random_weight(enum weights weights, u64 time, u64 most_time, u64 place, u64 last_place) {
+    const u64 over = MOST_WEIGHT - 1;
+    switch (weights) {
+    case RANDOM_WEIGHTS: return (uint32_t)any(1, MOST_WEIGHT);
+    case EXTREME_WEIGHTS: return any(0, 1) == 0 ? 1 : MOST_WEIGHT;
+    case LONG_HEAVY: return (uint32_t)(1 + over * time / most_time);
+    case SHORT_HEAVY: return (uint32_t)(MOST_WEIGHT - over * time / most_time);
+    case LAST_HEAVY: return (uint32_t)(1 + over * place / last_place);
+    default: return 1;
+    }
 }
 
 /* Processor time in seconds. */

@@ -6,13 +6,13 @@
 
 enum { CEILING = 10000000 };
 
-/* Of each section of a plan: its head's tag (a member's is one more), and the bytes of a head and of a member. */
+/* Of each section of a plan: its head's tag (a member's is one more), and the bytes of a head, of a member and of the figure, with which the head begins. */
 struct plan_section {
     uint8_t tag;
-    size_t head, member;
+    size_t head, member, figure;
 };
 
-static const struct plan_section plan_sections_of[3] = {{PLAN_MOSAIC, 7, 12}, {PLAN_SORTING, 7, 13}, {PLAN_FLIGHT, 15, 11}};
+static const struct plan_section plan_sections_of[3] = {{PLAN_MOSAIC, 11, 12, 8}, {PLAN_SORTING, 11, 13, 8}, {PLAN_FLIGHT, 15, 11, 4}};
 
 /* A section as it stands in the plan: the place of its head and of its first member, and the number of its members. */
 struct stretch {
@@ -48,15 +48,15 @@ static inline size_t find_sections(const bool *present, const uint8_t *plan, siz
 }
 
 static inline struct finding judge_mosaic(const struct mosaic *m, const uint8_t *plan, struct stretch s) {
-    u64 ready[40] = {0}, sums[41] = {0}, free = 0, done = 0, figure = 0;
-    read_times(m, ready, sums);
+    u64 ready[40] = {0}, sums[41] = {0}, weights[41] = {0}, free = 0, done = 0, figure = 0;
+    read_times(m, ready, sums, weights);
     for (size_t k = 0, at = s.first; k < s.members; k++, at += 12) {
         u64 last = plan[at + 3], start = number_at(plan + at + 4, 4), finish = number_at(plan + at + 8, 4);
         if (last <= done || m->strips < last || start < free)
             return (struct finding){at, 0};
         if (finish != bench_start(m->mount, start, ready[last - 1]) + sums[last] - sums[done] || CEILING < finish)
             return (struct finding){at, 0};
-        figure += (last - done) * finish;
+        figure += (weights[last] - weights[done]) * finish;
         done = last;
         free = finish;
     }
@@ -74,8 +74,8 @@ static inline struct finding judge_sorting(const struct sorting *section, const 
             return (struct finding){at, 0};
         scanner = scanned;
         free[d] = finish;
+        figure += section->weight[6 * d + taken[d]] * finish;
         taken[d]++;
-        figure += finish;
     }
     return (struct finding){s.members == section->counts[0] + section->counts[1] + section->counts[2] ? NO_FAULT : s.head, figure};
 }
@@ -129,7 +129,7 @@ static inline struct sevulamon_judged judge_in_c(const uint8_t *bytes, size_t le
                          : judge_flight(&s.flight, plan, found[i]);
         if (f.fault != NO_FAULT)
             return turned_back(SEVULAMON_RULE_BROKEN, f.fault);
-        if (f.figure != number_at(plan + found[i].head + 3, 4))
+        if (f.figure != number_at(plan + found[i].head + 3, plan_sections_of[i].figure))
             return turned_back(SEVULAMON_FIGURE_UNTRUE, found[i].head);
         figures[i] = f.figure;
     }

@@ -1,8 +1,8 @@
-/* Times the mosaic planner against plain C with the same tables, at 10, 20 and 40 strips. Both must give the same figure.
+/* Times the mosaic planner against plain C with the same tables, at 10, 20 and 40 strips, without and with weights. Both must give the same figure.
    rt staticlib mosaic_bench && gcc -O2 -Wall -Wextra -Werror -o target/bench_mosaic bench/mosaic.c target/staticlib/libmosaic_bench.a && target/bench_mosaic */
 #include "mosaic.h"
 
-extern u64 mosaic_best(size_t stations, u64 mount, size_t strips, const u64 station[160], const u64 bench[40]);
+extern u64 mosaic_best(size_t stations, u64 mount, size_t strips, const u64 station[160], const u64 bench[40], const uint32_t weight[40]);
 
 enum { INSTANCES = 60 };
 
@@ -13,14 +13,21 @@ struct family {
     const char *name;
     u64 most;
     enum change change;
+    enum weights weights;
 };
 
 static const struct family families[] = {
-    {"to 60,000", MOST_TIME, NONE},
-    {"to 10,000", 10000, NONE},
-    {"to 10", 10, NONE},
-    {"long mounts", 1000, LONG_MOUNTS},
-    {"just ready", MOST_TIME / 2, JUST_READY},
+    {"to 60,000", MOST_TIME, NONE, UNWEIGHTED},
+    {"to 10,000", 10000, NONE, UNWEIGHTED},
+    {"to 10", 10, NONE, UNWEIGHTED},
+    {"long mounts", 1000, LONG_MOUNTS, UNWEIGHTED},
+    {"just ready", MOST_TIME / 2, JUST_READY, UNWEIGHTED},
+    {"random weights", MOST_TIME, NONE, RANDOM_WEIGHTS},
+    {"one of 100", MOST_TIME, NONE, ONE_HEAVY},
+    {"long ones heavy", MOST_TIME, NONE, LONG_HEAVY},
+    {"last ones heavy", MOST_TIME, NONE, LAST_HEAVY},
+    {"w., long mounts", 1000, LONG_MOUNTS, RANDOM_WEIGHTS},
+    {"w., just ready", MOST_TIME / 2, JUST_READY, RANDOM_WEIGHTS},
 };
 
 struct instance {
@@ -31,7 +38,7 @@ struct instance {
 static void ours(void *p) {
     struct instance *x = p;
     const struct mosaic *m = &x->mosaic;
-    x->ours = mosaic_best(m->stations, m->mount, m->strips, m->station, m->bench);
+    x->ours = mosaic_best(m->stations, m->mount, m->strips, m->station, m->bench, m->weight);
 }
 
 static void plain(void *p) {
@@ -40,7 +47,7 @@ static void plain(void *p) {
 }
 
 static struct mosaic make_mosaic(const struct family *f, size_t stations, size_t strips) {
-    struct mosaic m = random_mosaic(stations, strips, 0, f->most);
+    struct mosaic m = random_mosaic(stations, strips, 0, f->most, f->weights);
     if (f->change == LONG_MOUNTS)
         m.mount = any(MOST_TIME / 2, MOST_TIME);
     if (f->change == JUST_READY)
@@ -57,7 +64,7 @@ static double measure(const struct family *f, size_t strips) {
         add_instance(&t, ours, plain, &x);
         require_equal(x.ours == x.plain, f->name, i);
     }
-    printf("%-12s %6zu %9d ", f->name, strips, INSTANCES);
+    printf("%-16s %6zu %9d ", f->name, strips, INSTANCES);
     print_times(&t);
     printf("\n");
     return median(t.ours, t.count);
@@ -65,11 +72,11 @@ static double measure(const struct family *f, size_t strips) {
 
 static void measure_all(const struct family *f) {
     double ten = measure(f, 10), twenty = measure(f, 20), forty = measure(f, 40);
-    printf("%-12s growth of the planner's time: from 10 to 20 strips %.1f, from 20 to 40 %.1f\n", f->name, twenty / ten, forty / twenty);
+    printf("%-16s growth of the planner's time: from 10 to 20 strips %.1f, from 20 to 40 %.1f\n", f->name, twenty / ten, forty / twenty);
 }
 
 int main(void) {
-    printf("%-12s %6s %9s ", "times", "strips", "instances");
+    printf("%-16s %6s %9s ", "times", "strips", "instances");
     print_times_head();
     printf("\n");
     for (size_t i = 0; i < sizeof families / sizeof families[0]; i++)

@@ -16,26 +16,29 @@ struct family {
     u64 number;
     enum change change;
     u64 mosaic_high;
-    enum sorting_family sorting;
+    enum sorting_times sorting;
+    enum weights weights;
     enum flight_family flight;
     const struct flight_times *flight_times;
 };
 
 static const struct family families[] = {
-    {"40 batches, 18 strips, 32 blocks", 0, ALL_BATCHES, MOST_TIME, RANDOM, ONE_BY_ONE, long_times},
-    {"40 batches, 18 strips, 8 blocks", 0, ALL_BATCHES, MOST_TIME, RANDOM, FREE_RANDOM, long_times},
-    {"the same with small times", 0, ALL_BATCHES, 10, RANDOM_SMALL, FREE_RANDOM, short_times},
-    {"few batches, 18 strips, 32 blocks", 0, NONE, MOST_TIME, RANDOM, ONE_BY_ONE, long_times},
-    {"the same with a turn", 0, NONE, MOST_TIME, RANDOM, ONE_BY_ONE, long_turns},
-    {"the same with windows", 0, NONE, MOST_TIME, RANDOM, WINDOWS_ONE_BY_ONE, long_times},
-    {"the same with windows and a turn", 0, NONE, MOST_TIME, RANDOM, WINDOWS_ONE_BY_ONE, long_turns},
-    {"one member in each section", 0, ONE_MEMBER_EACH, MOST_TIME, RANDOM, FREE_RANDOM, long_times},
-    {"2: page buffer too small", SEVULAMON_BUFFER_TOO_SMALL, SMALL_BUFFER, MOST_TIME, RANDOM, ONE_BY_ONE, long_times},
-    {"12: last field cut", SEVULAMON_LAYOUT_WRONG, CUT, MOST_TIME, RANDOM, ONE_BY_ONE, long_times},
-    {"13: last member broken", SEVULAMON_RULE_BROKEN, BROKEN, MOST_TIME, RANDOM, ONE_BY_ONE, long_times},
-    {"13: delay beyond its window", SEVULAMON_RULE_BROKEN, LONG_DELAY, MOST_TIME, RANDOM, WINDOWS_ONE_BY_ONE, long_times},
-    {"13: turn too short", SEVULAMON_RULE_BROKEN, SHORT_TURN, MOST_TIME, RANDOM, ONE_BY_ONE, long_turns},
-    {"14: first figure untrue", SEVULAMON_FIGURE_UNTRUE, UNTRUE, MOST_TIME, RANDOM, ONE_BY_ONE, long_times},
+    {"40 batches, 18 strips, 32 blocks", 0, ALL_BATCHES, MOST_TIME, RANDOM, UNWEIGHTED, ONE_BY_ONE, long_times},
+    {"40 batches, 18 strips, 8 blocks", 0, ALL_BATCHES, MOST_TIME, RANDOM, UNWEIGHTED, FREE_RANDOM, long_times},
+    {"the same with small times", 0, ALL_BATCHES, 10, RANDOM_SMALL, UNWEIGHTED, FREE_RANDOM, short_times},
+    {"few batches, 18 strips, 32 blocks", 0, NONE, MOST_TIME, RANDOM, UNWEIGHTED, ONE_BY_ONE, long_times},
+    {"the same with a turn", 0, NONE, MOST_TIME, RANDOM, UNWEIGHTED, ONE_BY_ONE, long_turns},
+    {"the same with windows", 0, NONE, MOST_TIME, RANDOM, UNWEIGHTED, WINDOWS_ONE_BY_ONE, long_times},
+    {"the same with windows and a turn", 0, NONE, MOST_TIME, RANDOM, UNWEIGHTED, WINDOWS_ONE_BY_ONE, long_turns},
+    {"the same with random weights", 0, NONE, MOST_TIME, RANDOM, RANDOM_WEIGHTS, ONE_BY_ONE, long_times},
+    {"the same with long strips heavy", 0, NONE, MOST_TIME, RANDOM, LONG_HEAVY, ONE_BY_ONE, long_times},
+    {"one member in each section", 0, ONE_MEMBER_EACH, MOST_TIME, RANDOM, UNWEIGHTED, FREE_RANDOM, long_times},
+    {"2: page buffer too small", SEVULAMON_BUFFER_TOO_SMALL, SMALL_BUFFER, MOST_TIME, RANDOM, UNWEIGHTED, ONE_BY_ONE, long_times},
+    {"12: last field cut", SEVULAMON_LAYOUT_WRONG, CUT, MOST_TIME, RANDOM, UNWEIGHTED, ONE_BY_ONE, long_times},
+    {"13: last member broken", SEVULAMON_RULE_BROKEN, BROKEN, MOST_TIME, RANDOM, UNWEIGHTED, ONE_BY_ONE, long_times},
+    {"13: delay beyond its window", SEVULAMON_RULE_BROKEN, LONG_DELAY, MOST_TIME, RANDOM, UNWEIGHTED, WINDOWS_ONE_BY_ONE, long_times},
+    {"13: turn too short", SEVULAMON_RULE_BROKEN, SHORT_TURN, MOST_TIME, RANDOM, UNWEIGHTED, ONE_BY_ONE, long_turns},
+    {"14: first figure untrue", SEVULAMON_FIGURE_UNTRUE, UNTRUE, MOST_TIME, RANDOM, UNWEIGHTED, ONE_BY_ONE, long_times},
 };
 
 struct call {
@@ -83,8 +86,8 @@ static void change_sheet(struct call *x, struct sheet *s, enum change change) {
 
 static void make_call(struct call *x, const struct family *f) {
     struct sheet s = {0};
-    s.mosaic = random_mosaic(4, 40, 0, f->mosaic_high);
-    s.sorting = random_sorting(f->sorting, MOST_TIME);
+    s.mosaic = random_mosaic(4, 40, 0, f->mosaic_high, f->weights);
+    s.sorting = random_sorting(f->sorting, f->weights, MOST_TIME);
     s.flight = random_flight(f->flight, f->flight_times);
     change_sections(&s, f->change);
     x->length = write_sheet(x->sheet, &s);

@@ -22,9 +22,10 @@ static inline void print_number(uint8_t *line, size_t end, u64 value) {
     while ((value /= 10) != 0);
 }
 
-static inline void print_head(uint8_t *line, char letter, const uint8_t *head) {
+/* A head whose figure has `width` bytes. */
+static inline void print_head(uint8_t *line, char letter, const uint8_t *head, size_t width) {
     start_line(line, letter);
-    print_number(line, 32, number_at(head + 3, 4));
+    print_number(line, 32, number_at(head + 3, width));
 }
 
 /* The two starts of a member, or start and finish. */
@@ -61,11 +62,11 @@ static inline size_t print_in_c(const uint8_t *plan, size_t length, uint8_t *pag
         const uint8_t *field = plan + at;
         number = *field == PLAN_BATCH || *field == PLAN_BLOCK ? number + 1 : 0;
         switch (*field) {
-        case PLAN_MOSAIC: print_head(line, 'm', field); break;
+        case PLAN_MOSAIC: print_head(line, 'm', field, 8); break;
         case PLAN_BATCH: print_batch(line, number, field); break;
-        case PLAN_SORTING: print_head(line, 's', field); break;
+        case PLAN_SORTING: print_head(line, 's', field, 8); break;
         case PLAN_STRIP: print_strip(line, field); break;
-        case PLAN_FLIGHT: print_head(line, 'f', field); break;
+        case PLAN_FLIGHT: print_head(line, 'f', field, 4); break;
         case PLAN_BLOCK: print_block(line, number, field); break;
         }
     }

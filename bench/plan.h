@@ -19,14 +19,14 @@ static inline uint8_t *put_head(uint8_t *d, uint8_t tag, size_t length) {
 }
 
 static inline uint8_t *write_mosaic(uint8_t *d, const struct mosaic_plan *p) {
-    d = put(put_head(d, PLAN_MOSAIC, 4), 4, p->figure);
+    d = put(put_head(d, PLAN_MOSAIC, 8), 8, p->figure);
     for (size_t i = 0; i < p->batches; i++)
         d = put(put(put(put_head(d, PLAN_BATCH, 9), 1, p->last[i]), 4, p->start[i]), 4, p->finish[i]);
     return d;
 }
 
 static inline uint8_t *write_sorting(uint8_t *d, const struct sorting_plan *p) {
-    d = put(put_head(d, PLAN_SORTING, 4), 4, p->figure);
+    d = put(put_head(d, PLAN_SORTING, 8), 8, p->figure);
     for (size_t i = 0; i < p->jobs; i++) {
         d = put(put(put_head(d, PLAN_STRIP, 10), 1, p->desk[i]), 1, p->number[i]);
         d = put(put(d, 4, p->scan[i]), 4, p->start[i]);

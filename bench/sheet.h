@@ -56,13 +56,20 @@ static inline bool permitted(uint8_t tag, const struct reading *r) {
     }
 }
 
-/* A flight head is empty or has the turn. A window block and a pass order have 8 bytes. */
+/* The bytes of a strip of the mosaic without its weight, and of a strip of a desk. */
+static inline size_t strip_length(size_t stations) {
+    return 2 * stations + 2;
+}
+
+enum { JOB_LENGTH = 5 };
+
+/* A strip may have its weight as one last byte. A flight head is empty or has the turn. A window block and a pass order have 8 bytes. */
 static inline bool length_is_due(uint8_t tag, size_t length, size_t stations) {
     switch (tag) {
     case MOSAIC_HEAD: return length == 3;
-    case MOSAIC_STRIP: return length == 2 * stations + 2;
+    case MOSAIC_STRIP: return length == strip_length(stations) || length == strip_length(stations) + 1;
     case SORTING_HEAD: return length == 1;
-    case SORTING_STRIP: return length == 5;
+    case SORTING_STRIP: return length == JOB_LENGTH || length == JOB_LENGTH + 1;
     case FLIGHT_HEAD: return length == 0 || length == 2;
     case FLIGHT_BLOCK: return length == 6;
     default: return length == 8;
@@ -86,23 +93,32 @@ static inline u64 time_number(const uint8_t *bytes, u64 least) {
     return time < least ? SEVULAMON_TIME_OF_ZERO : 0;
 }
 
+/* The weight behind the other bytes of a strip, or 1 where there is none. */
+static inline uint8_t weight_of(const uint8_t *c, size_t length, size_t others) {
+    return length > others ? c[others] : 1;
+}
+
 static inline u64 head_number(const uint8_t *c) {
     u64 number = count_number(c[0], 4);
     return number == 0 ? time_number(c + 1, 0) : number;
 }
 
-static inline u64 strip_number(const uint8_t *c, size_t stations) {
+static inline u64 strip_number(const uint8_t *c, size_t length, size_t stations) {
     u64 number = 0;
     for (size_t k = 0; k < stations && number == 0; k++)
         number = time_number(c + 2 * k, 0);
-    return number == 0 ? time_number(c + 2 * stations, 1) : number;
+    if (number == 0)
+        number = time_number(c + 2 * stations, 1);
+    return number == 0 ? count_number(weight_of(c, length, strip_length(stations)), MOST_WEIGHT) : number;
 }
 
-static inline u64 job_number(const uint8_t *c, size_t desks) {
+static inline u64 job_number(const uint8_t *c, size_t length, size_t desks) {
     u64 number = count_number(c[0], desks);
     if (number == 0)
         number = time_number(c + 1, 1);
-    return number == 0 ? time_number(c + 3, 1) : number;
+    if (number == 0)
+        number = time_number(c + 3, 1);
+    return number == 0 ? count_number(weight_of(c, length, JOB_LENGTH), MOST_WEIGHT) : number;
 }
 
 static inline u64 turn_number(u64 turn) {
@@ -120,9 +136,9 @@ static inline u64 block_number(const uint8_t *c, size_t delays) {
 static inline u64 range_number(uint8_t tag, const uint8_t *c, size_t length, const struct sheet *s) {
     switch (tag) {
     case MOSAIC_HEAD: return head_number(c);
-    case MOSAIC_STRIP: return strip_number(c, s->mosaic.stations);
+    case MOSAIC_STRIP: return strip_number(c, length, s->mosaic.stations);
     case SORTING_HEAD: return count_number(c[0], 3);
-    case SORTING_STRIP: return job_number(c, s->sorting.desks);
+    case SORTING_STRIP: return job_number(c, length, s->sorting.desks);
     case FLIGHT_HEAD: return turn_number(number_at(c, length));
     case FLIGHT_BLOCK: return block_number(c, 1);
     case FLIGHT_WINDOW: return block_number(c, 2);
@@ -177,16 +193,18 @@ static inline u64 field_number(uint8_t tag, const uint8_t *c, size_t length, con
     return 0;
 }
 
-static inline void add_strip(struct mosaic *m, const uint8_t *c) {
+static inline void add_strip(struct mosaic *m, const uint8_t *c, size_t length) {
     for (size_t k = 0; k < m->stations; k++)
         m->station[4 * m->strips + k] = number_at(c + 2 * k, 2);
+    m->weight[m->strips] = weight_of(c, length, strip_length(m->stations));
     m->bench[m->strips++] = number_at(c + 2 * m->stations, 2);
 }
 
-static inline void add_job(struct sorting *s, const uint8_t *c) {
+static inline void add_job(struct sorting *s, const uint8_t *c, size_t length) {
     size_t d = c[0] - 1u, at = 6 * d + s->counts[d]++;
     s->scan[at] = number_at(c + 1, 2);
     s->desk[at] = number_at(c + 3, 2);
+    s->weight[at] = weight_of(c, length, JOB_LENGTH);
 }
 
 /* A block with one delay, or with two. */
@@ -204,9 +222,9 @@ static inline void add_field(struct sheet *s, uint8_t tag, const uint8_t *c, siz
         s->mosaic.stations = c[0];
         s->mosaic.mount = number_at(c + 1, 2);
         break;
-    case MOSAIC_STRIP: add_strip(&s->mosaic, c); break;
+    case MOSAIC_STRIP: add_strip(&s->mosaic, c, length); break;
     case SORTING_HEAD: s->sorting.desks = c[0]; break;
-    case SORTING_STRIP: add_job(&s->sorting, c); break;
+    case SORTING_STRIP: add_job(&s->sorting, c, length); break;
     case FLIGHT_HEAD:
         s->flight.turn = number_at(c, length);
         s->flight_place = at;

@@ -5,26 +5,38 @@
 #include "plan.h"
 
 /* The bytes of the longest sheet that is accepted. */
-enum { MOST_SHEET = 1042 };
+enum { MOST_SHEET = 1100 };
 
 /* Each of these writes at d and returns where it ended. */
+
+/* A weight of 1 is not written. */
+static inline size_t weight_width(uint32_t weight) {
+    return weight > 1 ? 1 : 0;
+}
 
 static inline uint8_t *put_mosaic(uint8_t *d, const struct mosaic *m) {
     d = put(put(put_head(d, MOSAIC_HEAD, 3), 1, m->stations), 2, m->mount);
     for (size_t j = 0; j < m->strips; j++) {
-        d = put_head(d, MOSAIC_STRIP, 2 * m->stations + 2);
+        size_t width = weight_width(m->weight[j]);
+        d = put_head(d, MOSAIC_STRIP, strip_length(m->stations) + width);
         for (size_t k = 0; k < m->stations; k++)
             d = put(d, 2, m->station[4 * j + k]);
-        d = put(d, 2, m->bench[j]);
+        d = put(put(d, 2, m->bench[j]), width, m->weight[j]);
     }
     return d;
+}
+
+static inline uint8_t *put_job(uint8_t *d, size_t desk, u64 scan, u64 time, uint32_t weight) {
+    size_t width = weight_width(weight);
+    d = put(put_head(d, SORTING_STRIP, JOB_LENGTH + width), 1, desk);
+    return put(put(put(d, 2, scan), 2, time), width, weight);
 }
 
 static inline uint8_t *put_sorting(uint8_t *d, const struct sorting *s) {
     d = put(put_head(d, SORTING_HEAD, 1), 1, s->desks);
     for (size_t i = 0; i < 18; i++)
         if (i % 6 < s->counts[i / 6])
-            d = put(put(put(put_head(d, SORTING_STRIP, 5), 1, i / 6 + 1), 2, s->scan[i]), 2, s->desk[i]);
+            d = put_job(d, i / 6 + 1, s->scan[i], s->desk[i], s->weight[i]);
     return d;
 }
 

@@ -1,5 +1,5 @@
 /* Times the search of the sorting planner against plain C: the same search with the same cuts, and plain enumeration of all interleavings.
-   Full sections of 6 + 6 + 6 strips, in families; all three must give the same figure and the same list.
+   Full sections of 6 + 6 + 6 strips, in families, without and with weights; all three must give the same figure and the same list.
    rt staticlib sorting_bench && gcc -O2 -Wall -Wextra -Werror -o target/bench_sorting bench/sorting.c target/staticlib/libsorting_bench.a && target/bench_sorting
    Arguments: instances to a family, at most 100; the greatest time, 60,000 where none is given. */
 #include "sorting.h"
@@ -31,20 +31,20 @@ static bool equal(struct incumbent a, struct incumbent b) {
     return a.figure == b.figure && a.path == b.path;
 }
 
-static void measure(enum sorting_family family, u64 most, int count) {
+static void measure(const struct sorting_family *family, u64 most, int count) {
     static struct instance x;
     struct times t = {0};
     double nodes[MOST_INSTANCES], part[MOST_INSTANCES];
     for (int i = 0; i < count; i++) {
-        struct sorting s = random_sorting(family, most);
+        struct sorting s = random_sorting(family->times, family->weights, most);
         jobs_of(&s, x.jobs);
         add_instance(&t, ours, plain, &x);
         part[i] = t.ours[i] / time_of(enumeration, &x, 1);
         nodes[i] = (double)x.plain.nodes;
-        require_equal(equal(x.ours, x.plain.best) && equal(x.ours, x.all.best), sorting_names[family], i);
+        require_equal(equal(x.ours, x.plain.best) && equal(x.ours, x.all.best), family->name, i);
     }
     double most_nodes = greatest(nodes, count), most_part = greatest(part, count);
-    printf("%-24s %9d ", sorting_names[family], count);
+    printf("%-28s %9d ", family->name, count);
     print_times(&t);
     printf(" | %9.0f %9.0f %11.0f | %8.5f %8.5f\n", median(nodes, count), most_nodes, (double)x.all.nodes, median(part, count), most_part);
     fflush(stdout);
@@ -57,10 +57,10 @@ int main(int argc, char **argv) {
     most = most < 10 ? 10 : most > MOST_TIME ? MOST_TIME : most;
     printf("times up to %d\n", most);
     printf("ratio: to C with the same cuts. C nodes: of that C, in the median and at most; all nodes: of plain enumeration in C. part: of the time of plain enumeration, in the median and at most.\n");
-    printf("%-24s %9s ", "family (6 + 6 + 6)", "instances");
+    printf("%-28s %9s ", "family (6 + 6 + 6)", "instances");
     print_times_head();
     printf(" | %9s %9s %11s | %8s %8s\n", "C nodes", "greatest", "all nodes", "part", "greatest");
-    for (int family = 0; family < SORTING_FAMILIES; family++)
-        measure(family, (u64)most, count);
+    for (size_t i = 0; i < sizeof sorting_families / sizeof sorting_families[0]; i++)
+        measure(&sorting_families[i], (u64)most, count);
     return 0;
 }

@@ -4,10 +4,11 @@
 
 #include "common.h"
 
-/* Strip k of desk d, both from 0, stands at 6 d + k. */
+/* Strip k of desk d, both from 0, stands at 6 d + k. A strip that carries no weight has 1. */
 struct sorting {
     size_t desks, counts[3];
     u64 scan[18], desk[18];
+    uint32_t weight[18];
 };
 
 /* A section as the search reads it: strips of each desk, scan times, desk times, weights. */
@@ -52,7 +53,7 @@ static inline void jobs_of(const struct sorting *s, u64 *jobs) {
     for (int i = 0; i < 18; i++) {
         jobs[SCAN + i] = s->scan[i];
         jobs[DESK + i] = s->desk[i];
-        jobs[WEIGHT + i] = 1;
+        jobs[WEIGHT + i] = s->weight[i];
     }
 }
 
@@ -237,51 +238,99 @@ static inline struct sorting_plan sorting_in_c(const struct sorting *section, u6
     return plan;
 }
 
-enum sorting_family {
-    EQUAL, RANDOM, RANDOM_SMALL, EXTREME, SCAN_HEAVY, DESK_HEAVY, RISING_SCANS, IDENTICAL_DESKS, PROPORTIONAL, EQUAL_BUT_ONE, EQUAL_STRIPS, IDENTICAL_SMALL,
-    SORTING_FAMILIES
+enum sorting_times {
+    EQUAL, RANDOM, RANDOM_SMALL, EXTREME, SCAN_HEAVY, DESK_HEAVY, RISING_SCANS, IDENTICAL_DESKS, PROPORTIONAL, EQUAL_BUT_ONE, EQUAL_STRIPS, IDENTICAL_SMALL
 };
 
-static const char *const sorting_names[] = {
-    "all times equal", "random from 1 on", "random 1..5", "times 1 or the greatest", "scan-heavy", "desk-heavy", "rising scans per desk",
-    "three identical desks", "desk up to 3 times scan", "all times equal but one", "equal, desk 1..2 x scan", "identical desks, 1..5",
+/* A family of full sections: what its times and its weights are. */
+struct sorting_family {
+    const char *name;
+    enum sorting_times times;
+    enum weights weights;
+};
+
+static const struct sorting_family sorting_families[] = {
+    {"all times equal", EQUAL, UNWEIGHTED},
+    {"random from 1 on", RANDOM, UNWEIGHTED},
+    {"random 1..5", RANDOM_SMALL, UNWEIGHTED},
+    {"times 1 or the greatest", EXTREME, UNWEIGHTED},
+    {"scan-heavy", SCAN_HEAVY, UNWEIGHTED},
+    {"desk-heavy", DESK_HEAVY, UNWEIGHTED},
+    {"rising scans per desk", RISING_SCANS, UNWEIGHTED},
+    {"three identical desks", IDENTICAL_DESKS, UNWEIGHTED},
+    {"desk up to 3 times scan", PROPORTIONAL, UNWEIGHTED},
+    {"all times equal but one", EQUAL_BUT_ONE, UNWEIGHTED},
+    {"equal, desk 1..2 x scan", EQUAL_STRIPS, UNWEIGHTED},
+    {"identical desks, 1..5", IDENTICAL_SMALL, UNWEIGHTED},
+    {"random, weights random", RANDOM, RANDOM_WEIGHTS},
+    {"random, one weight of 100", RANDOM, ONE_HEAVY},
+    {"random, weights 1 or 100", RANDOM, EXTREME_WEIGHTS},
+    {"random, long strips heavy", RANDOM, LONG_HEAVY},
+    {"random, short strips heavy", RANDOM, SHORT_HEAVY},
+    {"random, last strips heavy", RANDOM, LAST_HEAVY},
+    {"all times equal, random w.", EQUAL, RANDOM_WEIGHTS},
+    {"equal, last strips heavy", EQUAL, LAST_HEAVY},
+    {"random 1..5, random w.", RANDOM_SMALL, RANDOM_WEIGHTS},
+    {"times 1 or m., w. 1 or 100", EXTREME, EXTREME_WEIGHTS},
+    {"scan-heavy, random w.", SCAN_HEAVY, RANDOM_WEIGHTS},
+    {"scan-heavy, long heavy", SCAN_HEAVY, LONG_HEAVY},
+    {"desk-heavy, random w.", DESK_HEAVY, RANDOM_WEIGHTS},
+    {"desk-heavy, long heavy", DESK_HEAVY, LONG_HEAVY},
+    {"rising scans, random w.", RISING_SCANS, RANDOM_WEIGHTS},
+    {"identical desks, random w.", IDENTICAL_DESKS, RANDOM_WEIGHTS},
+    {"identical desks, long heavy", IDENTICAL_DESKS, LONG_HEAVY},
+    {"identical desks, last heavy", IDENTICAL_DESKS, LAST_HEAVY},
+    {"desk up to 3 x, random w.", PROPORTIONAL, RANDOM_WEIGHTS},
+    {"desk up to 3 x, w. 1 or 100", PROPORTIONAL, EXTREME_WEIGHTS},
+    {"desk up to 3 x, one of 100", PROPORTIONAL, ONE_HEAVY},
+    {"desk up to 3 x, long heavy", PROPORTIONAL, LONG_HEAVY},
+    {"desk up to 3 x, short heavy", PROPORTIONAL, SHORT_HEAVY},
+    {"desk up to 3 x, last heavy", PROPORTIONAL, LAST_HEAVY},
+    {"equal strips, random w.", EQUAL_STRIPS, RANDOM_WEIGHTS},
+    {"equal strips, one of 100", EQUAL_STRIPS, ONE_HEAVY},
+    {"equal strips, last heavy", EQUAL_STRIPS, LAST_HEAVY},
+    {"identical 1..5, random w.", IDENTICAL_SMALL, RANDOM_WEIGHTS},
 };
 
 /* The strip whose times strip i has, or i where its times are its own. With all strips equal the three desks are identical too. */
-static inline int same_strip(enum sorting_family family, int i) {
-    if (family == EQUAL || family == EQUAL_STRIPS)
+static inline int same_strip(enum sorting_times times, int i) {
+    if (times == EQUAL || times == EQUAL_STRIPS)
         return 0;
-    return (family == IDENTICAL_DESKS || family == IDENTICAL_SMALL) && i >= 6 ? i - 6 : i;
+    return (times == IDENTICAL_DESKS || times == IDENTICAL_SMALL) && i >= 6 ? i - 6 : i;
 }
 
 /* The times of strip i, as they stand in the arrays, none above `most`: a desk's six rising scans rise by at most sixteen hundredths of it each. */
-static inline void random_strip(struct sorting *s, enum sorting_family family, u64 most, int i) {
+static inline void random_strip(struct sorting *s, enum sorting_times times, u64 most, int i) {
     u64 *scan = s->scan + i, *desk = s->desk + i;
-    bool small = family == RANDOM_SMALL || family == IDENTICAL_SMALL;
-    *scan = any(1, family == DESK_HEAVY ? most / 10 : small ? 5 : family == PROPORTIONAL ? most / 3 : most);
-    *desk = any(1, family == SCAN_HEAVY ? most / 10 : small ? 5 : family == PROPORTIONAL ? 3 * *scan : most);
-    if (family == EXTREME) {
+    bool small = times == RANDOM_SMALL || times == IDENTICAL_SMALL;
+    *scan = any(1, times == DESK_HEAVY ? most / 10 : small ? 5 : times == PROPORTIONAL ? most / 3 : most);
+    *desk = any(1, times == SCAN_HEAVY ? most / 10 : small ? 5 : times == PROPORTIONAL ? 3 * *scan : most);
+    if (times == EXTREME) {
         *scan = *scan <= most / 2 ? 1 : most;
         *desk = *desk <= most / 2 ? 1 : most;
     }
-    if (family == RISING_SCANS)
+    if (times == RISING_SCANS)
         *scan = (i % 6 > 0 ? scan[-1] : 0) + any(1, most * 16 / 100);
-    if (family == EQUAL_STRIPS) {
+    if (times == EQUAL_STRIPS) {
         *scan = any(1, most / 2);
         *desk = any(*scan, 2 * *scan);
     }
-    if (family == EQUAL || (family == EQUAL_BUT_ONE && i > 0))
+    if (times == EQUAL || (times == EQUAL_BUT_ONE && i > 0))
         *desk = *scan = s->scan[0];
-    int from = same_strip(family, i);
+    int from = same_strip(times, i);
     *scan = s->scan[from];
     *desk = s->desk[from];
 }
 
 /* A full section: 6 strips at each of 3 desks, with times up to `most`. */
-static inline struct sorting random_sorting(enum sorting_family family, u64 most) {
+static inline struct sorting random_sorting(enum sorting_times times, enum weights weights, u64 most) {
     struct sorting s = {.desks = 3, .counts = {6, 6, 6}};
-    for (int i = 0; i < 18; i++)
-        random_strip(&s, family, most, i);
+    for (int i = 0; i < 18; i++) {
+        random_strip(&s, times, most, i);
+        s.weight[i] = random_weight(weights, s.scan[i] + s.desk[i], 2 * most, (u64)i % 6, 5);
+    }
+    if (weights == ONE_HEAVY)
+        s.weight[any(0, 17)] = MOST_WEIGHT;
     return s;
 }
 
