@@ -15,6 +15,7 @@ import sys
 
 MOST_TIME = 60_000
 MOST_TURN = 600
+MOST_WEIGHT = 100
 FOLDER = pathlib.Path(__file__).resolve().parent.parent / "crates" / "sheet_cases"
 
 
@@ -30,17 +31,22 @@ def mosaic(stations=1, mount=0):
     return field(0x10, bytes([stations]) + word(mount))
 
 
-def strip(*times):
+def carried(weight):
+    """The last byte of a strip that carries a weight, or nothing."""
+    return b"" if weight is None else bytes([weight])
+
+
+def strip(*times, weight=None):
     """Station times, then the bench time."""
-    return field(0x11, word(*times))
+    return field(0x11, word(*times) + carried(weight))
 
 
 def sorting(desks=1):
     return field(0x20, bytes([desks]))
 
 
-def job(desk=1, scan=1, time=1):
-    return field(0x21, bytes([desk]) + word(scan, time))
+def job(desk=1, scan=1, time=1, weight=None):
+    return field(0x21, bytes([desk]) + word(scan, time) + carried(weight))
 
 
 def flight(turn=None):
@@ -75,12 +81,13 @@ BLOCK = block()
 WINDOW = window()
 
 CASES = []
-# Refused sheets of over 2,048 bytes. They have no room in the file that sheet_cases reads; plan_cases.py and page_cases.py try them beside the others.
+# Refused sheets of over 250 bytes. They have no room in the file that sheet_cases reads; plan_cases.py and page_cases.py try them beside the others.
 LARGE = []
 
 
 def refused(name, sheet, number, place):
-    CASES.append((name, sheet, "%d %d" % (number, place)))
+    cases = CASES if len(sheet) <= 250 else LARGE
+    cases.append((name, sheet, "%d %d" % (number, place)))
 
 
 def sound(name, sheet, strips=0, desks=(0, 0, 0), blocks=0, turn=0, order_number=0):
@@ -159,12 +166,17 @@ refused("an unknown tag behind the order", F + BLOCK + order(2) + field(0x00), 4
 # 5: lengths. Each field of the table: its name, what stands before it, its tag, a good content, and another length that is due, if there is one.
 LENGTHS = [
     ("mosaic head", b"", 0x10, b"\x01" + word(0)),
-    ("strip of 1 station", mosaic(1), 0x11, word(7, 1)),
-    ("strip of 2 stations", mosaic(2), 0x11, word(7, 7, 1)),
-    ("strip of 3 stations", mosaic(3), 0x11, word(7, 7, 7, 1)),
-    ("strip of 4 stations", mosaic(4), 0x11, word(7, 7, 7, 7, 1)),
+    ("strip of 1 station", mosaic(1), 0x11, word(7, 1), 5),
+    ("strip of 2 stations", mosaic(2), 0x11, word(7, 7, 1), 7),
+    ("strip of 3 stations", mosaic(3), 0x11, word(7, 7, 7, 1), 9),
+    ("strip of 4 stations", mosaic(4), 0x11, word(7, 7, 7, 7, 1), 11),
+    ("weighted strip of 1 station", mosaic(1), 0x11, word(7, 1) + b"\x64", 4),
+    ("weighted strip of 2 stations", mosaic(2), 0x11, word(7, 7, 1) + b"\x64", 6),
+    ("weighted strip of 3 stations", mosaic(3), 0x11, word(7, 7, 7, 1) + b"\x64", 8),
+    ("weighted strip of 4 stations", mosaic(4), 0x11, word(7, 7, 7, 7, 1) + b"\x64", 10),
     ("sorting head", b"", 0x20, b"\x01"),
-    ("strip of a desk", S, 0x21, b"\x01" + word(1, 1)),
+    ("strip of a desk", S, 0x21, b"\x01" + word(1, 1), 6),
+    ("weighted strip of a desk", S, 0x21, b"\x01" + word(1, 1) + b"\x64", 5),
     ("flight head", b"", 0x30, b"", 2),
     ("flight head with a turn", b"", 0x30, word(MOST_TURN), 0),
     ("block", F, 0x31, word(1, 0, 1)),
@@ -182,12 +194,12 @@ def of_length(content, length):
 for kind, before, tag, content, *other in LENGTHS:
     for length in [*range(13), len(content) + 256, len(content) * 256]:
         if length not in (len(content), *other):
-            cases = CASES if length < 2048 else LARGE
-            cases.append(("%s of %d bytes" % (kind, length), before + field(tag, of_length(content, length)), "5 %d" % len(before)))
+            refused("%s of %d bytes" % (kind, length), before + field(tag, of_length(content, length)), 5, len(before))
 for m in (1, 2, 3, 4):
     sound("a strip of %d stations" % m, mosaic(m) + strip(*[7] * m, 1), strips=1)
-    for n in {1, 2, 3, 4} - {m}:
-        refused("a strip of %d stations behind two of %d" % (n, m), mosaic(m) + strip(*[7] * m, 1) * 2 + strip(*[7] * n, 1), 5, 6 + 2 * (5 + 2 * m))
+    for n, weight in itertools.product({1, 2, 3, 4} - {m}, (None, 1)):
+        name = "a %s of %d stations behind two of %d" % ("strip" if weight is None else "weighted strip", n, m)
+        refused(name, mosaic(m) + strip(*[7] * m, 1) * 2 + strip(*[7] * n, 1, weight=weight), 5, 6 + 2 * (5 + 2 * m))
 
 # 3, 8, 10 and 4 go before 5, and 5 before all others.
 for kind, before, tag, content, *_ in LENGTHS:
@@ -205,7 +217,9 @@ refused("5 goes before 6: stations 0", field(0x10, bytes(4)), 5, 0)
 refused("5 goes before 15: a turn of 601 in three bytes", field(0x30, word(MOST_TURN + 1) + b"\0"), 5, 0)
 refused("a flight head of one byte behind a mosaic", M + STRIP + field(0x30, b"\1"), 5, 13)
 refused("5 goes before 16: first pass 0", F + field(0x31, bytes(8)), 5, 3)
+refused("5 goes before 6: weight 0, one byte over", M + field(0x11, word(0, 1) + bytes(2)), 5, 6)
 refused("5 goes before 7: a 41st strip", M + STRIP * 40 + field(0x11, word(0, 1, 1)), 5, 6 + 7 * 40)
+refused("5 goes before 7: a 41st strip with a weight", M + STRIP * 40 + field(0x11, word(0, 1) + b"\1\1"), 5, 6 + 7 * 40)
 refused("5 goes before 9: an order of seven bytes", F + BLOCK + field(0x32, bytes(7)), 5, 12)
 
 # 6, 15 and 16: the values of a field are examined from left to right.
@@ -232,11 +246,17 @@ FROM_1 = {0: 16, OVER: 15}, {0xEB00: 15, 0xFFFF: 15}
 
 # Each field: its name, what stands before it, how it is made from its values, and its values from left to right, each with its name, a good one and its kind.
 BENCH = ("bench time", 1, FROM_1)
+WEIGHT = ("weight", 1, count(MOST_WEIGHT))
+STATIONS = lambda m: [("station time %d" % k, 0, FROM_0) for k in range(1, m + 1)]
+AT_DESK = [("desk", 1, count(2)), ("scan time", 1, FROM_1), ("desk time", 1, FROM_1)]
+weighted = lambda make: lambda *values: make(*values[:-1], weight=values[-1])
 FIELDS = [
     ("mosaic head", b"", mosaic, [("stations", 1, count(4)), ("mount time", 0, FROM_0)]),
-    *[("strip of %d stations" % m, mosaic(m), strip, [*[("station time %d" % k, 0, FROM_0) for k in range(1, m + 1)], BENCH]) for m in (1, 2, 3, 4)],
+    *[("strip of %d stations" % m, mosaic(m), strip, [*STATIONS(m), BENCH]) for m in (1, 2, 3, 4)],
+    *[("weighted strip of %d stations" % m, mosaic(m), weighted(strip), [*STATIONS(m), BENCH, WEIGHT]) for m in (1, 2, 3, 4)],
     ("sorting head", b"", sorting, [("desks", 1, count(3))]),
-    ("strip for two desks", sorting(2), job, [("desk", 1, count(2)), ("scan time", 1, FROM_1), ("desk time", 1, FROM_1)]),
+    ("strip for two desks", sorting(2), job, AT_DESK),
+    ("weighted strip for two desks", sorting(2), weighted(job), [*AT_DESK, WEIGHT]),
     ("flight head", b"", flight, [("turn", 0, TURN)]),
     ("block", F, block, [("first pass", 1, FROM_1), ("delay", 0, FROM_0), ("second pass", 1, FROM_1)]),
     ("window block", F, window, [("first pass", 1, FROM_1), ("shortest delay", 0, FROM_0), ("longest delay", 0, FROM_0), ("second pass", 1, FROM_1)]),
@@ -296,7 +316,9 @@ for time in (0, 256, MOST_TIME):
 # 3, 4 and 5 of the same field go before 6, 15 and 16.
 for name, before, _, bad, _ in ONE_BAD:
     refused("3 goes before: " + name, before + bad[:-1], 3, len(before))
-    refused("5 goes before, one byte short: " + name, before + field(bad[0], bad[3:-1]), 5, len(before))
+    # Without its last byte a weighted strip has the length of one without a weight.
+    short = 2 if name.startswith("weighted") else 1
+    refused("5 goes before, too short: " + name, before + field(bad[0], bad[3:-short]), 5, len(before))
     refused("5 goes before, two bytes over: " + name, before + field(bad[0], bad[3:] + word(1)), 5, len(before))
 for name, _, _, bad, _ in MEMBERS:
     refused("4 goes before: " + name, bad, 4, 0)
@@ -500,9 +522,67 @@ sound("32 blocks of both kinds with an order", F + PAIR * 16 + order(LATE), bloc
 refused("32 window blocks without order", F + WINDOW * 32, 10, 0)
 refused("32 window blocks, then a block", F + WINDOW * 32 + BLOCK, 7, 3 + 11 * 32)
 
-# The longest sheet: 1,042 bytes.
+# Weights: both ends of their range and values between, at each number of stations and at each desk. What a weight is does not show in the line.
+for m, weight in itertools.product((1, 2, 3, 4), (1, 2, 99, MOST_WEIGHT)):
+    sound("weight %d of a strip of %d stations" % (weight, m), mosaic(m) + strip(*[0] * m, 1, weight=weight), strips=1)
+for m, weight in itertools.product((1, 2, 3), (1, 2, 99, MOST_WEIGHT)):
+    sound("weight %d at desk %d" % (weight, m), sorting(m) + job(m, weight=weight), desks=tuple(int(d == m) for d in (1, 2, 3)))
+# Strips with and without a weight may be mixed, in any order, and count together.
+HEAVY, HEAVY_JOB = strip(0, 1, weight=MOST_WEIGHT), job(weight=MOST_WEIGHT)
+for mixed in itertools.product((STRIP, HEAVY), repeat=3):
+    kinds = " ".join(str(len(one) - 3) for one in mixed)
+    sound("strips of %s bytes" % kinds, M + b"".join(mixed), strips=3)
+for mixed in itertools.product((JOB, HEAVY_JOB), repeat=3):
+    kinds = " ".join(str(len(one) - 3) for one in mixed)
+    sound("strips of a desk of %s bytes" % kinds, S + b"".join(mixed), desks=(3, 0, 0))
+sound("40 strips, every second one with a weight", M + (STRIP + HEAVY) * 20, strips=40)
+sound("six strips of each desk, some with a weight", sorting(3) + (job(1) + job(2, weight=7) + job(3)) * 6, desks=(6, 6, 6))
+sound("all three with weights", M + STRIP + HEAVY + S + HEAVY_JOB + JOB + F + BLOCK, strips=2, desks=(2, 0, 0), blocks=1)
+# A strip too many is 7 with a weight and without; a weight out of its range is 6 before that.
+for what, last, number in [("no weight", STRIP, 7), ("weight 1", strip(0, 1, weight=1), 7), ("weight 100", HEAVY, 7), ("weight 0", strip(0, 1, weight=0), 6)]:
+    refused("a 41st strip, " + what, M + (STRIP + HEAVY) * 20 + last, number, 6 + 15 * 20)
+for what, weight, number in [("no weight", None, 7), ("weight 1", 1, 7), ("weight 100", 100, 7), ("weight 101", 101, 6)]:
+    refused("a seventh strip of a desk, " + what, sorting(2) + (job(2) + job(2, weight=7)) * 3 + job(2, weight=weight), number, 4 + 17 * 3)
+# The first bad field decides: a weight against other faults before and behind it.
+for name, behind in [
+    ("a field that is cut", b"\x11"),
+    ("a tag that is not permitted", field(0x99)),
+    ("a strip of a wrong length", field(0x11)),
+    ("a station time of 60,001", strip(OVER, 1)),
+    ("a bench time of 0", strip(0, 0)),
+    ("another mosaic head", M),
+    ("a sorting head with 4 desks", sorting(4)),
+    ("40 strips", STRIP * 40),
+]:
+    refused("weight 0, then " + name, M + strip(0, 1, weight=0) + behind, 6, 6)
+    refused("weight 101 behind a strip, then " + name, M + STRIP + strip(0, 1, weight=101) + behind, 6, 13)
+for name, before, number in [
+    ("a station time of 60,001", strip(OVER, 1), 15),
+    ("a bench time of 0", strip(0, 0, weight=5), 16),
+    ("a strip of a wrong length", field(0x11), 5),
+    ("a strip of a desk", JOB, 4),
+]:
+    refused("%s, then weight 0" % name, M + before + strip(0, 1, weight=0), number, 6)
+for one, other in itertools.permutations((0, 101), 2):
+    refused("weight %d in the mosaic, %d in the sorting" % (one, other), M + strip(0, 1, weight=one) + S + job(weight=other), 6, 6)
+refused("a good weight in the mosaic, 101 in the sorting", M + HEAVY + S + job(weight=101), 6, 18)
+refused("weight 0 in the sorting, a turn of 601", S + JOB + job(weight=0) + OVER_TURN + BLOCK, 6, 12)
+refused("a turn of 601 behind weights", M + HEAVY + S + HEAVY_JOB + OVER_TURN + BLOCK, 15, 27)
+refused("weight 0 in a section, none in the next", S + job(weight=0) + F, 6, 4)
+refused("nine blocks behind weights", M + HEAVY + F + BLOCK * 9, 10, 14)
+# Every byte as a weight.
+for weight in range(256):
+    if weight in range(1, MOST_WEIGHT + 1):
+        sound("a strip of a desk with weight %d" % weight, S + job(weight=weight), desks=(1, 0, 0))
+    else:
+        refused("a strip of a desk with weight %d" % weight, S + job(weight=weight), 6, 4)
+
+# The longest sheet: 1,100 bytes.
 LONG_WINDOW = window(MOST_TIME, MOST_TIME, MOST_TIME, MOST_TIME)
-LONGEST = LONG_MOSAIC + LONG_SORTING + G + LONG_WINDOW * 32 + order(alternate(32))
+HEAVY_MOSAIC = mosaic(4, MOST_TIME) + strip(*[MOST_TIME] * 5, weight=MOST_WEIGHT) * 40
+HEAVY_SORTING = sorting(3) + b"".join(job(desk, MOST_TIME, MOST_TIME, weight=MOST_WEIGHT) for desk in (1, 2, 3)) * 6
+LONGEST = HEAVY_MOSAIC + HEAVY_SORTING + G + LONG_WINDOW * 32 + order(alternate(32))
+assert len(LONGEST) == 1100
 sound("the longest sheet", LONGEST, strips=40, desks=(6, 6, 6), blocks=32, turn=600, order_number=alternate(32))
 
 
