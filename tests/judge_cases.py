@@ -6,11 +6,12 @@ Each case is a name, a sheet, a plan, and the line due: number, place and the th
     judge_cases.py           writes crates/judge_cases/stdin and stdout
     judge_cases.py --check   says whether they are as written here
 """
+import itertools
 import struct
 import sys
 
 import sheet_cases as sheets
-from sheet_cases import MOST_TIME as TIME, MOST_TURN, OVER, block, field, flight, job, mosaic, order, sorting, strip, window, word
+from sheet_cases import MOST_TIME as TIME, MOST_TURN, MOST_WEIGHT, OVER, block, field, flight, job, mosaic, order, sorting, strip, window, word
 
 FOLDER = sheets.FOLDER.parent / "judge_cases"
 CEILING = 10_000_000
@@ -47,12 +48,12 @@ def ready_strips(mount, *strips):
 
 
 CASES = []
-# Sheets and plans of over 1,000 bytes together. They have no room in the file that judge_cases reads; plan_cases.py and page_cases.py try them.
+# Sheets and plans of over 200 bytes together. They have no room in the file that judge_cases reads; plan_cases.py and page_cases.py try them.
 LARGE = []
 
 
 def judged(name, sheet, plan, line):
-    cases = CASES if len(sheet) + len(plan) <= 1000 else LARGE
+    cases = CASES if len(sheet) + len(plan) <= 200 else LARGE
     cases.append((name, sheet, plan, line))
 
 
@@ -103,15 +104,17 @@ allowed("passes that wait", F, passes(105, 0xC, (100, 103), (101, 104)), 0, 0, 1
 # The sheet goes first, with its place in the sheet.
 refused("a sheet that is refused", flight() + block() * 9, b"", 10, 0)
 refused("a cut sheet and a good plan", M[:-1], BEST, 3, 33)
-# So it is with 6, 15, 16 and 17: all three sections, in each of them a value out of its range, or two of which the left one decides; and a plan of the good
-# sheet, or a plan with a fault of its own. For the good sheet each of these plans is 12, 13 or 14.
+# So it is with 6, 15, 16 and 17: all three sections, in each of them a value out of its range, a weight among them, or two of which the left one decides; and a
+# plan of the good sheet, or a plan with a fault of its own. For the good sheet each of these plans is 12, 13 or 14.
 ONE_JOB, ONE_BLOCK = sorting(2) + job(1, 2, 5), flight() + block(1, 2, 1)
 BAD_SHEETS = [
     ("stations 0, mount time 60,001", mosaic(0, OVER) + M[6:] + S + F, 6, 0),
     ("mount time 60,001", mosaic(2, OVER) + M[6:] + S + F, 15, 0),
     ("station time 60,001, bench time 0", M[:6] + strip(2, OVER, 0) + M[15:] + S + F, 15, 6),
     ("bench time 0 of the second strip", M[:15] + strip(1, 3, 0) + M[24:] + S + F, 16, 15),
+    ("weight 0 of the second strip", M[:15] + strip(1, 3, 3, weight=0) + M[24:] + S + F, 6, 15),
     ("desk 3 of 2", M + ONE_JOB + job(3, 1, 1) + F, 6, len(M + ONE_JOB)),
+    ("weight 101 of the second job", M + ONE_JOB + job(2, 1, 1, weight=101) + F, 6, len(M + ONE_JOB)),
     ("scan time 0, desk time 60,001", M + ONE_JOB + job(2, 0, OVER) + F, 16, len(M + ONE_JOB)),
     ("desk time 60,001", M + ONE_JOB + job(2, 1, OVER) + F, 15, len(M + ONE_JOB)),
     ("turn 601", M + S + flight(MOST_TURN + 1) + F[3:], 15, len(M + S)),
@@ -520,6 +523,118 @@ refused("a longest delay below the turn, the turn kept", NO_WINDOW, passes(7, 2,
 refused("a longest delay below the turn, an order", NO_WINDOW + order(2), passes(6, 2, (0, 5)), 13, 0)
 refused("a longest delay below the turn, an empty plan", NO_WINDOW, b"", 12, 0)
 
+# Weights. A batch counts with the sum of the weights of its strips, each strip of a desk with its own. Beside the true figure: that of the same plan without
+# weights, that with the weights of the strips exchanged, one more and one less, and figures with the same low four bytes.
+def of_weights(weights, *members):
+    """The mosaic figure of these batches."""
+    ends = [0, *[last for last, _, _ in members]]
+    return sum(sum(weights[first:last]) * finish for first, (last, _, finish) in zip(ends, members))
+
+
+def weighted_worked(weights):
+    """The first worked sheet with these weights; None for a strip that carries none."""
+    return mosaic(2, 1) + b"".join(strip(*times, weight=weight) for times, weight in zip(WORKED, weights))
+
+
+def untrue_figures(name, sheet, plan_of, figure, *others):
+    """Figures that are not the true one."""
+    for other in {figure - 1, figure + 1, figure + 2**32, figure + 2**63, figure % 2**32, *others} - {figure}:
+        refused("%s, figure %d" % (name, other), sheet, plan_of(other), 14, 0)
+
+
+WORKED = [(2, 1, 1), (1, 3, 3), (4, 2, 2), (1, 3, 1)]
+BATCHINGS = [
+    ("four batches", FOUR),
+    ("batches 1, 2-3, 4", [(1, 0, 3), (3, 3, 12), (4, 12, 14)]),
+    ("batches 1, 2, 3-4, later mounts", [(1, 2, 4), (2, 4, 8), (4, 9, 13)]),
+    ("one batch", [(4, 0, 16)]),
+]
+assert weighted_worked([None] * 4) == M
+for name, members in BATCHINGS:
+    for weights in [(1, 1, 1, 1), (100, 1, 1, 1), (1, 1, 1, 100), (2, 3, 5, 7)]:
+        sheet, figure = weighted_worked(weights), of_weights(weights, *members)
+        allowed("%s, weights %d %d %d %d" % (name, *weights), sheet, batches(figure, *members), figure)
+weights, members = (2, 3, 5, 7), BATCHINGS[1][1]
+untrue_figures(
+    "weights 2 3 5 7", weighted_worked(weights), lambda figure: batches(figure, *members), of_weights(weights, *members),
+    of_weights([1] * 4, *members), of_weights(weights[::-1], *members), of_weights([17] * 4, *members),
+)
+untrue_figures("no weights", M, lambda figure: batches(figure, *FOUR), 32)
+for which in itertools.product((None, 1), repeat=4):
+    name = " ".join("none" if weight is None else "1" for weight in which)
+    allowed("weights %s" % name, weighted_worked(which), BEST, 32)
+MIXED_STRIPS = weighted_worked((None, 9, None, 4))
+allowed("strips with and without weights", MIXED_STRIPS, batches(124, *FOUR), 124)
+refused("strips with and without weights, figure 32", MIXED_STRIPS, BEST, 14, 0)
+refused("strips with and without weights, a finish too late", MIXED_STRIPS, batches(125, FOUR[0], (2, 3, 8), *FOUR[2:]), 13, HEAD + 12)
+refused("strips with and without weights, a finish too late, an untrue figure", MIXED_STRIPS, batches(9, *FOUR[:3], (4, 10, 13)), 13, HEAD + 36)
+refused("strips with and without weights, a batch missing", MIXED_STRIPS, batches(76, *FOUR[:3]), 13, 0)
+refused("strips with and without weights, a byte behind the plan", MIXED_STRIPS, batches(124, *FOUR) + b"\0", 12, len(BEST))
+
+# A heavy strip may wait: the judge allows plans that are not best.
+URGENT = sorting(2) + job(1, 2, 5, weight=3) + job(2, 1, 1)
+allowed("the heavy strip first", URGENT, jobs(25, (1, 1, 0, 2), (2, 1, 2, 3)), 0, 25)
+allowed("the heavy strip last", URGENT, jobs(26, (2, 1, 0, 1), (1, 1, 1, 3)), 0, 26)
+allowed("the heavy strip last and late", URGENT, jobs(10 + 3 * 100, (2, 1, 0, 9), (1, 1, 1, 95)), 0, 310)
+untrue_figures("the heavy strip first", URGENT, lambda figure: jobs(figure, (1, 1, 0, 2), (2, 1, 2, 3)), 25, 11, 7 + 3 * 4, 3 * 11)
+for which in itertools.product((None, 1), repeat=2):
+    sheet = sorting(2) + job(1, 2, 5, weight=which[0]) + job(2, 1, 1, weight=which[1])
+    allowed("weights of a sorting, %s" % " and ".join(map(str, which)), sheet, jobs(10, (2, 1, 0, 1), (1, 1, 1, 3)), 0, 10)
+refused("a heavy strip scanned before the scanner is free, an untrue figure", URGENT, jobs(1, (2, 1, 0, 1), (1, 1, 0, 3)), 13, HEAD + 13)
+refused("a heavy strip missing", URGENT, jobs(2, (2, 1, 0, 1)), 13, 0)
+# The weight is that of the strip with the desk and the number, whichever strips stand before it in the sheet.
+ORDERED = sorting(2) + job(2, 1, 1, weight=10) + job(1, 1, 1, weight=20) + job(2, 1, 1, weight=40) + job(1, 1, 1)
+IN_SCANS = [(1, 1, 0, 1), (2, 1, 1, 2), (2, 2, 2, 3), (1, 2, 3, 4)]
+for weights, number in [((20, 10, 40, 1), 0), ((10, 20, 40, 1), 14), ((1, 40, 10, 20), 14), ((20, 10, 1, 40), 14)]:
+    figure = sum(weight * (start + 1) for weight, (_, _, _, start) in zip(weights, IN_SCANS))
+    if number:
+        refused("strips scanned with weights %d %d %d %d" % weights, ORDERED, jobs(figure, *IN_SCANS), number, 0)
+    else:
+        allowed("strips scanned with weights %d %d %d %d" % weights, ORDERED, jobs(figure, *IN_SCANS), 0, figure)
+
+# All three sections with weights: the flight has none. The first untrue figure decides.
+HEAVY_ALL = weighted_worked((2, 3, 5, 7)) + URGENT + F
+HEAVY_PLAN = lambda one, two, three: batches(one, *FOUR) + jobs(two, (1, 1, 0, 2), (2, 1, 2, 3)) + passes(three, 0xC, (0, 3), (1, 4))
+allowed("all three sections with weights", HEAVY_ALL, HEAVY_PLAN(161, 25, 5), 161, 25, 5)
+for one, two, three, section in [(32, 25, 5, 0), (161, 11, 5, 1), (161, 25, 15, 2), (32, 11, 5, 0), (160, 24, 4, 0), (161, 24, 4, 1)]:
+    place = [0, len(BEST), len(BEST) + HEAD + 26][section]
+    refused("all three sections with weights, figures %d %d %d" % (one, two, three), HEAVY_ALL, HEAVY_PLAN(one, two, three), 14, place)
+
+# Heads of other lengths than eight bytes, and in flight than twelve, are 12; so is a head of four bytes with its members, whatever its figure.
+for length in (0, 4, 7, 9, 12):
+    head = lambda tag, figure: field(tag, (eight(figure) + bytes(4))[:length])
+    refused("a sorting head of %d bytes" % length, S, head(0xA0, 10) + PLAN[len(BEST) + HEAD:-37], 12, 0)
+    refused("a sorting head of %d bytes behind a mosaic" % length, M + S, BEST + head(0xA0, 10) + PLAN[len(BEST) + HEAD:-37], 12, len(BEST))
+    refused("a mosaic head of %d bytes, a broken member" % length, M, head(0x90, 32) + batches(0, (1, 0, 4))[HEAD:], 12, 0)
+refused("a mosaic head of four bytes and four more", M, field(0x90, four(32)) + bytes(4) + BEST[HEAD:], 12, 0)
+refused("a flight head of sixteen bytes", F, field(0xB0, eight(5) + eight(0xC)) + PLAN[-22:], 12, 0)
+
+# Figures above four bytes: 40 strips of weight 100 in a batch that finishes at the ceiling, and each alone.
+FORTY = mosaic(1, 0) + strip(0, 1, weight=MOST_WEIGHT) * 40
+MOST_FIGURE = 40 * MOST_WEIGHT * CEILING
+allowed("40 strips of weight 100 up to the ceiling", FORTY, batches(MOST_FIGURE, (40, CEILING - 40, CEILING)), MOST_FIGURE)
+untrue_figures("40 strips of weight 100", FORTY, lambda figure: batches(figure, (40, CEILING - 40, CEILING)), MOST_FIGURE, 40 * CEILING)
+refused("40 strips of weight 100, one past the ceiling", FORTY, batches(MOST_FIGURE + 4000, (40, CEILING - 39, CEILING + 1)), 13, HEAD)
+LAST_ALONE = [(k, CEILING - 41 + k, CEILING - 40 + k) for k in range(1, 41)]
+figure = of_weights([MOST_WEIGHT] * 40, *LAST_ALONE)
+allowed("40 strips of weight 100, each alone, up to the ceiling", FORTY, batches(figure, *LAST_ALONE), figure)
+untrue_figures("40 strips of weight 100, each alone", FORTY, lambda figure: batches(figure, *LAST_ALONE), figure)
+ONE_HEAVY = mosaic(1, 0) + strip(0, 1) * 39 + strip(0, 1, weight=MOST_WEIGHT)
+allowed("one weight of 100 among 40 strips", ONE_HEAVY, batches(139 * CEILING, (40, CEILING - 40, CEILING)), 139 * CEILING)
+# Figures on both sides of 2^32, which is 430 × 9,988,296 + 16.
+for total, finish in [(429, CEILING), (430, CEILING), (430, 9_988_296), (430, 9_988_297)]:
+    weights = [86] * 4 + [total - 4 * 86]
+    sheet = mosaic(1, 0) + b"".join(strip(0, 1, weight=weight) for weight in weights)
+    allowed("weights of %d in all, finished at %d" % (total, finish), sheet, batches(total * finish, (5, finish - 5, finish)), total * finish)
+# 18 strips of weight 100 at three desks, all of them late.
+LATE_JOBS = [(k // 6 + 1, k % 6 + 1, k, CEILING - 6 + k % 6) for k in range(18)]
+HEAVY_JOBS = sorting(3) + b"".join(job(desk, weight=MOST_WEIGHT) * 6 for desk in (1, 2, 3))
+figure = MOST_WEIGHT * sum(start + 1 for _, _, _, start in LATE_JOBS)
+allowed("18 strips of weight 100 up to the ceiling", HEAVY_JOBS, jobs(figure, *LATE_JOBS), 0, figure)
+untrue_figures("18 strips of weight 100", HEAVY_JOBS, lambda figure: jobs(figure, *LATE_JOBS), figure, figure // MOST_WEIGHT)
+BOTH_LATE = batches(MOST_FIGURE, (40, CEILING - 40, CEILING)) + jobs(figure, *LATE_JOBS)
+allowed("both figures above four bytes", FORTY + HEAVY_JOBS, BOTH_LATE, MOST_FIGURE, figure)
+
 # The longest sections: full ones in which every time is 60,000. Without idle time, with the last member as late as it may be, and one later.
 ALONE = [(k, (2 * k - 2) * TIME, 2 * k * TIME) for k in range(1, 41)]
 WAITING = [(k, (38 + 2 * k) * TIME, (40 + 2 * k) * TIME) for k in range(1, 41)]
@@ -566,8 +681,9 @@ BOTH = flight() + (block(1, 1, 1) + window(1, 0, 1, 1)) * 16 + order(BY_ONE)
 EACH = [(3 * k, 3 * k + 2) for k in range(32)]
 allowed("32 blocks of both kinds", BOTH, passes(96, BY_ONE, *EACH), 0, 0, 96)
 refused("32 blocks of both kinds, the last delay one second long", BOTH, passes(97, BY_ONE, *EACH[:-1], (93, 96)), 13, 15 + 11 * 31)
-LONGEST_PLAN = batches(1640 * TIME, *ALONE) + jobs(189 * TIME, *IN_TURN) + passes(LAST_END, BY_ONE, *TURNED_STARTS)
-allowed("the longest sheet", sheets.LONGEST, LONGEST_PLAN, 1640 * TIME, 189 * TIME, LAST_END)
+HEAVY_FIGURES = MOST_WEIGHT * 1640 * TIME, MOST_WEIGHT * 189 * TIME
+LONGEST_PLAN = batches(HEAVY_FIGURES[0], *ALONE) + jobs(HEAVY_FIGURES[1], *IN_TURN) + passes(LAST_END, BY_ONE, *TURNED_STARTS)
+allowed("the longest sheet", sheets.LONGEST, LONGEST_PLAN, *HEAVY_FIGURES, LAST_END)
 
 LONG_PLAN = batches(1640 * TIME, *ALONE) + jobs(189 * TIME, *IN_TURN) + passes(96 * TIME, BY_ONE, *ONE_BY_ONE)
 allowed("the longest sections", sheets.LONG, LONG_PLAN, 1640 * TIME, 189 * TIME, 96 * TIME)
