@@ -523,8 +523,8 @@ refused("a longest delay below the turn, the turn kept", NO_WINDOW, passes(7, 2,
 refused("a longest delay below the turn, an order", NO_WINDOW + order(2), passes(6, 2, (0, 5)), 13, 0)
 refused("a longest delay below the turn, an empty plan", NO_WINDOW, b"", 12, 0)
 
-# Weights. A batch counts with the sum of the weights of its strips, each strip of a desk with its own. Beside the true figure: that of the same plan without
-# weights, that with the weights of the strips exchanged, one more and one less, and figures with the same low four bytes.
+# Weights. A batch counts with the sum of the weights of its strips, each strip of a desk with its own. Untrue are the figure of the same plan without weights,
+# and that with weights of other strips.
 def of_weights(weights, *members):
     """The mosaic figure of these batches."""
     ends = [0, *[last for last, _, _ in members]]
@@ -537,8 +537,8 @@ def weighted_worked(weights):
 
 
 def untrue_figures(name, sheet, plan_of, figure, *others):
-    """Figures that are not the true one."""
-    for other in {figure - 1, figure + 1, figure + 2**32, figure + 2**63, figure % 2**32, *others} - {figure}:
+    """Figures that are not the true one: those next to it, those with the same low four bytes, and others."""
+    for other in sorted({figure - 1, figure + 1, figure + 2**32, figure + 2**63, figure % 2**32, *others} - {figure}):
         refused("%s, figure %d" % (name, other), sheet, plan_of(other), 14, 0)
 
 
@@ -621,11 +621,12 @@ allowed("40 strips of weight 100, each alone, up to the ceiling", FORTY, batches
 untrue_figures("40 strips of weight 100, each alone", FORTY, lambda figure: batches(figure, *LAST_ALONE), figure)
 ONE_HEAVY = mosaic(1, 0) + strip(0, 1) * 39 + strip(0, 1, weight=MOST_WEIGHT)
 allowed("one weight of 100 among 40 strips", ONE_HEAVY, batches(139 * CEILING, (40, CEILING - 40, CEILING)), 139 * CEILING)
-# Figures on both sides of 2^32, which is 430 × 9,988,296 + 16.
-for total, finish in [(429, CEILING), (430, CEILING), (430, 9_988_296), (430, 9_988_297)]:
-    weights = [86] * 4 + [total - 4 * 86]
-    sheet = mosaic(1, 0) + b"".join(strip(0, 1, weight=weight) for weight in weights)
-    allowed("weights of %d in all, finished at %d" % (total, finish), sheet, batches(total * finish, (5, finish - 5, finish)), total * finish)
+# A batch whose figure is 2^32 - 1, 2^32 or 2^32 + 1: strips of weight 100 and a last one, the finish.
+HUNDREDS = lambda count, last: mosaic(1, 0) + strip(0, 1, weight=MOST_WEIGHT) * count + strip(0, 1, weight=last)
+for figure, count, last, finish in [(2**32 - 1, 7, 71, 5_570_645), (2**32, 5, 12, 8_388_608), (2**32 + 1, 6, 41, 6_700_417)]:
+    batch = count + 1, finish - count - 1, finish
+    allowed("a figure of %d" % figure, HUNDREDS(count, last), batches(figure, batch), figure)
+    untrue_figures("a figure of %d" % figure, HUNDREDS(count, last), lambda other: batches(other, batch), figure)
 # 18 strips of weight 100 at three desks, all of them late.
 LATE_JOBS = [(k // 6 + 1, k % 6 + 1, k, CEILING - 6 + k % 6) for k in range(18)]
 HEAVY_JOBS = sorting(3) + b"".join(job(desk, weight=MOST_WEIGHT) * 6 for desk in (1, 2, 3))

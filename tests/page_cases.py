@@ -204,7 +204,35 @@ printed(
     "F  1               0       60001",
 )
 
-# Numbers of one digit and of eight; a figure of nine.
+# Nor is a weight: the figure shows it.
+printed(
+    "a heavy strip first", judged.URGENT, jobs(25, (1, 1, 0, 2), (2, 1, 2, 3)),
+    "s                             25",
+    "S  1   1           0           2",
+    "S  2   1           2           3",
+)
+printed(
+    "a heavy strip last", judged.URGENT, jobs(26, (2, 1, 0, 1), (1, 1, 1, 3)),
+    "s                             26",
+    "S  2   1           0           1",
+    "S  1   1           1           3",
+)
+printed(
+    "strips with and without weights", judged.MIXED_STRIPS, batches(124, *judged.FOUR),
+    "m                            124",
+    *MOSAIC_LINES[1:],
+)
+printed(
+    "all three sections with weights", judged.HEAVY_ALL, judged.HEAVY_PLAN(161, 25, 5),
+    "m                            161",
+    *MOSAIC_LINES[1:],
+    "s                             25",
+    "S  1   1           0           2",
+    "S  2   1           2           3",
+    *FLIGHT_LINES,
+)
+
+# Numbers of one digit and of eight; figures of nine digits to eleven.
 printed(
     "a batch from 0 to 1", mosaic(1, 0) + strip(0, 1), batches(1, (1, 0, 1)),
     "m                              1",
@@ -219,6 +247,36 @@ printed(
     "40 strips in a batch up to the ceiling", mosaic(1, 0) + strip(0, 1) * 40, batches(40 * CEILING, (40, CEILING - 40, CEILING)),
     "m                      400000000",
     "M  1  40     9999960    10000000",
+)
+printed(
+    "40 strips of weight 100 in a batch up to the ceiling", judged.FORTY, batches(4000 * CEILING, (40, CEILING - 40, CEILING)),
+    "m                    40000000000",
+    "M  1  40     9999960    10000000",
+)
+printed(
+    "ten strips of weight 100 in a batch up to the ceiling", judged.HUNDREDS(9, 100), batches(1000 * CEILING, (10, CEILING - 10, CEILING)),
+    "m                    10000000000",
+    "M  1  10     9999990    10000000",
+)
+printed(
+    "a strip of weight 100 up to the ceiling", mosaic(1, 0) + strip(0, 1, weight=100), batches(100 * CEILING, (1, CEILING - 1, CEILING)),
+    "m                     1000000000",
+    "M  1   1     9999999    10000000",
+)
+printed(
+    "a figure one below 2^32", judged.HUNDREDS(7, 71), batches(2**32 - 1, (8, 5570637, 5570645)),
+    "m                     4294967295",
+    "M  1   8     5570637     5570645",
+)
+printed(
+    "a figure of 2^32", judged.HUNDREDS(5, 12), batches(2**32, (6, 8388602, 8388608)),
+    "m                     4294967296",
+    "M  1   6     8388602     8388608",
+)
+printed(
+    "a strip of a desk of weight 100 up to the ceiling", sorting() + job(1, 1, 1, 100), jobs(100 * CEILING, (1, 1, 0, CEILING - 1)),
+    "s                     1000000000",
+    "S  1   1           0     9999999",
 )
 printed(
     "a desk that finishes at the ceiling", sorting() + job(1, 1, 1), jobs(CEILING, (1, 1, 0, CEILING - 1)),

@@ -5,13 +5,14 @@ Where a sheet has several best batchings or free pass orders, the choice is left
 compared, and the program judge_plan must allow it; of a mosaic also that each mount starts when the batch before finishes, and of a flight with windows that
 the starts are the least of the order that the plan has. Of several best scanner lists one is due: its bytes are compared, and judge_plan must allow the others
 too. The plans that judge_cases.py has no room for are judged here.
-A written turn of 0 must give the plan that an empty head gives, and a window of one value that of an exact delay.
+A written turn of 0 must give the plan that an empty head gives, a window of one value that of an exact delay, and a weight of 1 that of a strip without one.
 
     plan_cases.py PLANNER JUDGE
 """
 import functools
 import itertools
 import pathlib
+import random
 import subprocess
 import sys
 import tempfile
@@ -20,7 +21,7 @@ import judge_cases as judged
 import sheet_cases as sheets
 from judge_cases import HEAD, batches, four, jobs, passes
 from program_cases import FIRST_PLAN, FIRST_SHEET
-from sheet_cases import MOST_TURN, alternate, block, field, flight, job, mosaic, order, sorting, strip, window, word
+from sheet_cases import MOST_TURN, MOST_WEIGHT, alternate, block, field, flight, job, mosaic, order, sorting, strip, window, word
 
 T = sheets.MOST_TIME
 
@@ -142,9 +143,11 @@ def finish_of(ready, mount, bench, free, first, last):
     return max(free + mount, ready[last - 1]) + sum(bench[first - 1:last])
 
 
-def best_batchings(ready, mount, bench):
-    """The least sum of completions over all batchings, and the best ones, at most two of them; from the ready times and the bench times of the strips."""
+def best_batchings(ready, mount, bench, weights=None):
+    """The least figure over all batchings, and the best ones, at most two of them; from the ready times, the bench times and the weights of the strips, which
+    are 1 where none are given."""
     n = len(ready)
+    weights = weights or [1] * n
 
     @functools.cache
     def rest(done, free):
@@ -154,16 +157,16 @@ def best_batchings(ready, mount, bench):
         for last in range(done + 1, n + 1):
             end = finish_of(ready, mount, bench, free, done + 1, last)
             figure, ways = rest(last, end)
-            found.append(((last - done) * end + figure, [(last, *way) for way in ways]))
+            found.append((sum(weights[done:last]) * end + figure, [(last, *way) for way in ways]))
         least = min(figure for figure, _ in found)
         return least, [way for figure, ways in found if figure == least for way in ways][:2]
 
     return rest(0, 0)
 
 
-def least_sum(ready, mount, bench):
-    """The least sum of completions over all batchings."""
-    return best_batchings(ready, mount, bench)[0]
+def least_sum(ready, mount, bench, weights=None):
+    """The least figure over all batchings."""
+    return best_batchings(ready, mount, bench, weights)[0]
 
 
 def times_of(strips):
@@ -182,27 +185,87 @@ def batched(ready, mount, bench, batching):
     return members
 
 
-def mosaic_of(mount, strips):
-    """The sheet of these strips."""
-    return mosaic(len(strips[0]) - 1, mount) + b"".join(strip(*times) for times in strips)
+def mosaic_of(mount, strips, weights=None):
+    """The sheet of these strips. A strip whose weight is 1 carries none."""
+    carried = [weight if weight > 1 else None for weight in weights or [1] * len(strips)]
+    return mosaic(len(strips[0]) - 1, mount) + b"".join(strip(*times, weight=weight) for times, weight in zip(strips, carried))
 
 
-def mounted(name, mount, strips, figure, *members):
+def mounted(name, mount, strips, figure, *members, weights=None):
     """A mosaic and the plan of its only best batching."""
     ready, bench = times_of(strips)
     batching = tuple(last for last, _, _ in members)
-    assert best_batchings(ready, mount, bench) == (figure, [batching]) and batched(ready, mount, bench, batching) == list(members)
-    planned(name, mosaic_of(mount, strips), batches(figure, *members))
+    assert best_batchings(ready, mount, bench, weights) == (figure, [batching]) and batched(ready, mount, bench, batching) == list(members)
+    planned(name, mosaic_of(mount, strips, weights), batches(figure, *members))
 
 
-def tried(name, mount, strips):
+def tried(name, mount, strips, weights=None):
     """A mosaic whose batchings are tried here: the plan of the best one, or the figure where there are several."""
     ready, bench = times_of(strips)
-    figure, batchings = best_batchings(ready, mount, bench)
+    figure, batchings = best_batchings(ready, mount, bench, weights)
     if len(batchings) == 1:
-        planned(name, mosaic_of(mount, strips), batches(figure, *batched(ready, mount, bench, batchings[0])))
+        planned(name, mosaic_of(mount, strips, weights), batches(figure, *batched(ready, mount, bench, batchings[0])))
     else:
-        best(name, mosaic_of(mount, strips), figure, 0, 0)
+        best(name, mosaic_of(mount, strips, weights), figure, 0, 0)
+
+
+# A strip of a desk here is (scan time, desk time, weight); a scanner list is a row of desks, counted from 1.
+def lists_of(counts):
+    """Every scanner list of so many strips for each desk."""
+    if not any(counts):
+        yield ()
+    for desk, left in enumerate(counts):
+        if left:
+            for rest in lists_of([left - (other == desk) for other, left in enumerate(counts)]):
+                yield (desk + 1, *rest)
+
+
+def scanned(desks, order_of_desks):
+    """The figure of a scanner list and its members, each as early as it can be."""
+    figure, members, scan, free, taken = 0, [], 0, [0] * len(desks), [0] * len(desks)
+    for desk in order_of_desks:
+        scan_time, desk_time, weight = desks[desk - 1][taken[desk - 1]]
+        start = max(scan + scan_time, free[desk - 1])
+        taken[desk - 1] += 1
+        members.append((desk, taken[desk - 1], scan, start))
+        scan, free[desk - 1] = scan + scan_time, start + desk_time
+        figure += weight * free[desk - 1]
+    return figure, members
+
+
+def best_list(desks):
+    """The least figure over all lists, and the first list that has it."""
+    return min((scanned(desks, one)[0], one) for one in lists_of([len(strips) for strips in desks]))
+
+
+def sorting_of(desks):
+    """The sheet of these strips, desk after desk. A strip whose weight is 1 carries none."""
+    strips = [(desk + 1, *one) for desk, strips in enumerate(desks) for one in strips]
+    return sorting(len(desks)) + b"".join(job(desk, scan, time, weight if weight > 1 else None) for desk, scan, time, weight in strips)
+
+
+def listed(name, desks, *due):
+    """A sorting whose lists are tried here, and the plan of the one that is due; its figure and its desks where they are given."""
+    figure, order_of_desks = best_list(desks)
+    assert due in ((), (figure, *order_of_desks))
+    planned(name, sorting_of(desks), jobs(figure, *scanned(desks, order_of_desks)[1]))
+
+
+def with_weights(sheet, weights):
+    """A sheet without weights in which the strips get these, one after another; None for none."""
+    given, at = b"", 0
+    while at < len(sheet):
+        end = at + 3 + int.from_bytes(sheet[at + 1:at + 3], "little")
+        weight = next(weights) if sheet[at] in (0x11, 0x21) else None
+        given += field(sheet[at], sheet[at + 3:end] + sheets.carried(weight))
+        at = end
+    return given
+
+
+def same_weights(name, sheet):
+    """A sheet without weights: the same with a weight of 1 in every strip, and in every second one."""
+    for what, weights in [("every strip", itertools.repeat(1)), ("every second strip", itertools.cycle((None, 1)))]:
+        SAME.append(("weights of 1 in %s: %s" % (what, name), sheet, with_weights(sheet, weights)))
 
 
 # The worked sheets of 01 with their best plans.
@@ -359,7 +422,8 @@ SUM = least_sum([k * T for k in range(1, 41)], T, [T] * 40)
 for stations in (1, 2, 3, 4):
     best("40 strips of %d stations, time 60,000 in every time" % stations, mosaic(stations, T) + strip(*[T] * (stations + 1)) * 40, SUM, 0, 0)
 best("40 strips, a mount of 59,999", mosaic(1, T - 1) + strip(T, T) * 40, least_sum([k * T for k in range(1, 41)], T - 1, [T] * 40), 0, 0)
-DESK_AFTER_DESK = jobs(189 * T, *[(k // 6 + 1, k % 6 + 1, k * T, (k + 1) * T) for k in range(18)])
+IN_DESKS = [(k // 6 + 1, k % 6 + 1, k * T, (k + 1) * T) for k in range(18)]
+DESK_AFTER_DESK = jobs(189 * T, *IN_DESKS)
 tied("6 + 6 + 6 strips, time 60,000 in every time", sheets.LONG_SORTING, DESK_AFTER_DESK, jobs(189 * T, *judged.IN_TURN))
 for number, figure, starts in [(judged.BY_ONE, 96 * T, judged.ONE_BY_ONE), (judged.BY_TWO, 64 * T, judged.TWO_BY_TWO)]:
     planned("32 blocks, time 60,000 in every time, order %X" % number, judged.LONG_FLIGHT + order(number), passes(figure, number, *starts))
@@ -613,7 +677,8 @@ planned("32 windows two by two, time 60,000", flight() + window(T, 0, T, T) * 32
 # A block with a delay of 1, then one with a window from 0 to 1: five seconds for both.
 IN_FIVE = [start for k in range(16) for start in ((5 * k, 5 * k + 2), (5 * k + 3, 5 * k + 4))]
 planned("32 blocks of both kinds", judged.BOTH, passes(80, judged.BY_ONE, *IN_FIVE))
-best("the longest sheet", sheets.LONGEST, SUM, 189 * T, judged.LAST_END, sorting_part=DESK_AFTER_DESK)
+HEAVY_AFTER_DESK = jobs(MOST_WEIGHT * 189 * T, *IN_DESKS)
+best("the longest sheet", sheets.LONGEST, MOST_WEIGHT * SUM, MOST_WEIGHT * 189 * T, judged.LAST_END, sorting_part=HEAVY_AFTER_DESK)
 
 # A window of one value means the same as an exact delay.
 for name, head, blocks, behind in [
@@ -635,6 +700,109 @@ for name, head, blocks, behind in [
     ("two blocks behind two sections", judged.M + judged.S + flight(), [(1, 2, 1)] * 2, b""),
 ]:
     same_windows(name, head, blocks, behind)
+
+# Weights. A heavy strip gets a batch of its own: two strips in a batch finish at 10, apart at 8 and 14.
+for weight, figure in [(1, 20), (3, 38), (4, 46), (MOST_WEIGHT, 814)]:
+    members = [(2, 0, 10)] if weight == 1 else [(1, 0, 8), (2, 8, 14)]
+    mounted("two strips, the first of weight %d" % weight, 4, [(0, 4), (2, 2)], figure, *members, weights=[weight, 1])
+best("two strips, the first of weight 2", mosaic_of(4, [(0, 4), (2, 2)], [2, 1]), 30, 0, 0)
+# A heavy strip saves a mount: two strips apart finish at 2 and 5, in a batch at 4.
+for weight, figure in [(1, 7), (3, 16), (4, 20), (MOST_WEIGHT, 404)]:
+    members = [(1, 0, 2), (2, 2, 5)] if weight == 1 else [(2, 0, 4)]
+    mounted("two strips, the second of weight %d" % weight, 1, [(0, 1), (0, 2)], figure, *members, weights=[1, weight])
+best("two strips, the second of weight 2", mosaic_of(1, [(0, 1), (0, 2)], [1, 2]), 12, 0, 0)
+# The first worked sheet with one heavy strip, at each mount time, and with the same weight in every strip.
+for mount, which in itertools.product((0, 1, 2, 3, 5, 10), range(4)):
+    tried("the first worked sheet, mount time %d, strip %d heavy" % (mount, which + 1), mount, WORKED, [100 if k == which else 1 for k in range(4)])
+for weight in (2, 7, MOST_WEIGHT):
+    mounted("the first worked sheet, weight %d in every strip" % weight, 1, WORKED, 32 * weight, *judged.FOUR, weights=[weight] * 4)
+    mounted("the first worked sheet, mount time 5, weight %d in every strip" % weight, 5, WORKED, 52 * weight, (2, 0, 9), (4, 9, 17), weights=[weight] * 4)
+# Three strips, every batching tried with every weight.
+for mount, weights in itertools.product((0, 1, 2, 4), itertools.product((1, 3, MOST_WEIGHT), repeat=3)):
+    tried("weights %d, %d and %d, mount time %d" % (*weights, mount), mount, [(1, 2), (4, 1), (0, 3)], weights)
+# A batch that is cut for a heavy strip before it, behind it and inside it.
+for which in range(6):
+    tried("six strips, strip %d heavy" % (which + 1), 6, [(2, 3)] * 6, [100 if k == which else 1 for k in range(6)])
+    tried("six strips, strip %d light" % (which + 1), 6, [(2, 3)] * 6, [1 if k == which else 100 for k in range(6)])
+
+# Figures above four bytes. 40 strips far apart: every strip alone, whatever the weights.
+FAR = [(1, 0, T + 1), *[(k, (k - 1) * T + 1, k * T + 1) for k in range(2, 41)]]
+for name, weights in [
+    ("100 in every strip", [MOST_WEIGHT] * 40),
+    ("100 in every second strip", [MOST_WEIGHT, 1] * 20),
+    ("rising weights", [2 * k + 20 for k in range(1, 41)]),
+    ("falling weights", [102 - 2 * k for k in range(1, 41)]),
+]:
+    mounted("40 strips far apart, " + name, 1, [(T, 1)] * 40, judged.of_weights(weights, *FAR), *FAR, weights=weights)
+HEAVY_SUM = least_sum([k * T for k in range(1, 41)], T, [T] * 40, [MOST_WEIGHT, 1] * 20)
+best("40 strips of 60,000, 100 in every strip", sheets.HEAVY_MOSAIC, MOST_WEIGHT * SUM, 0, 0)
+best("40 strips of 60,000, 100 in every second strip", mosaic_of(T, [(T, T)] * 40, [MOST_WEIGHT, 1] * 20), HEAVY_SUM, 0, 0)
+for which in (0, 19, 39):
+    weights = [100 if k == which else 1 for k in range(40)]
+    figure = least_sum([k * T for k in range(1, 41)], T, [T] * 40, weights)
+    best("40 strips of 60,000, strip %d heavy" % (which + 1), mosaic_of(T, [(T, T)] * 40, weights), figure, 0, 0)
+# In a sorting the least figure has four bytes at most: with 100 in each of 18 strips of 60,000 it is 18,900 × 60,000.
+planned("6 + 6 + 6 strips of 60,000, 100 in every strip", sheets.HEAVY_SORTING, HEAVY_AFTER_DESK)
+
+# A heavy strip goes first. Desk 1 has (2, 5) and desk 2 (1, 1): with weights up to 2 the short one is no worse as the first, and from 2 on the heavy one.
+for weight, figure, first in [(1, 10, 2), (2, 18, 1), (3, 25, 1), (MOST_WEIGHT, 704, 1)]:
+    listed("(2, 5) of weight %d at desk 1" % weight, [[(2, 5, weight)], [(1, 1, 1)]], figure, first, 3 - first)
+for weight, figure, first in [(1, 10, 1), (2, 18, 1), (3, 25, 2), (MOST_WEIGHT, 704, 2)]:
+    listed("(2, 5) of weight %d at desk 2" % weight, [[(1, 1, 1)], [(2, 5, weight)]], figure, first, 3 - first)
+listed("a heavy strip behind a light one of its desk", [[(1, 1, 1)] * 2, [(1, 1, 1), (1, 1, MOST_WEIGHT)]], 311, 2, 2, 1, 1)
+listed("a heavy strip behind a long one of its desk", [[(1, 1, 1)] * 2, [(9, 1, 1), (1, 1, 4)]], 69, 1, 1, 2, 2)
+listed("a heavy strip at desk 3", [[(1, 1, 1)], [(1, 1, 1)], [(3, 3, MOST_WEIGHT)]], 611, 3, 1, 2)
+# Of several lists of least weighted figure that with the lower desk: weights that make a tie, and weights that end one.
+listed("weights 2 and 1 as their times are", [[(2, 1, 2)], [(1, 1, 1)]], 10, 1, 2)
+listed("the same weights at the other desks", [[(1, 1, 1)], [(2, 1, 2)]], 10, 1, 2)
+listed("two equal strips, the second heavier", [[(1, 1, 1)], [(1, 1, 2)]], 7, 2, 1)
+listed("two equal strips of weight 100", [[(1, 1, MOST_WEIGHT)], [(1, 1, MOST_WEIGHT)]], 500, 1, 2)
+tied(
+    "a tie of the weighted figures alone", sorting(2) + job(1, 2, 1, 2) + job(2, 1, 1),
+    jobs(10, (1, 1, 0, 2), (2, 1, 2, 3)), jobs(10, (2, 1, 0, 1), (1, 1, 1, 3)),
+)
+# Small sortings with every weight, every list tried.
+for weights in itertools.product((1, 2, MOST_WEIGHT), repeat=4):
+    desks = [[(2, 5, weights[0]), (1, 1, weights[1])], [(1, 2, weights[2]), (3, 1, weights[3])]]
+    listed("two desks, weights %d %d and %d %d" % weights, desks)
+for weights in itertools.product((1, 3), repeat=6):
+    desks = [[(1, 2, weights[2 * d]), (2, 1, weights[2 * d + 1])] for d in range(3)]
+    listed("three identical desks, weights %d %d, %d %d and %d %d" % weights, desks)
+# Drawn ones: small times and weights, with many best lists and batchings, and great ones.
+rng = random.Random(9)
+for k in range(60):
+    most_time, most_weight = [(3, 3), (9, MOST_WEIGHT), (T, MOST_WEIGHT)][k % 3]
+    drawn = lambda *lows: tuple(rng.randint(low, most_time) for low in lows)
+    weight = lambda: rng.randint(1, most_weight)
+    listed("a drawn sorting, %d" % k, [[(*drawn(1, 1), weight()) for _ in range(rng.randint(1, 3))] for _ in range(rng.randint(1, 3))])
+    strips = [drawn(0, 0, 1) for _ in range(rng.randint(2, 8))]
+    tried("a drawn mosaic, %d" % k, *drawn(0), strips, [weight() for _ in strips])
+
+# All three sections with weights, and 11 behind them: the flight has no part in it.
+URGENT_PLAN = jobs(25, (1, 1, 0, 2), (2, 1, 2, 3))
+HEAVY_BEST = batches(judged.of_weights((2, 3, 5, 7), *judged.FOUR), *judged.FOUR)
+tried("the first worked sheet, weights 2 3 5 7", 1, WORKED, (2, 3, 5, 7))
+planned("all three sections with weights", judged.HEAVY_ALL, HEAVY_BEST + URGENT_PLAN + passes(5, 0xC, (0, 3), (1, 4)))
+refused("weights, order C cannot be kept", judged.URGENT + judged.A + order(0xC), 11, len(judged.URGENT + judged.A))
+CASES.append(("weight 0 behind a mosaic", judged.M + sorting(2) + job(1, 2, 5, 0) + judged.F, bytes.fromhex("E0 06 00 06 00 2E 00 00 00")))
+CASES.append(("weight 101 of the fourth strip", judged.M[:33] + strip(1, 3, 1, weight=101), bytes.fromhex("E0 06 00 06 00 21 00 00 00")))
+refused("a weight of 0, order C cannot be kept", sorting() + job(weight=0) + judged.A + order(0xC), 6, 4)
+
+# A weight of 1 means the same as none.
+for name, sheet in [
+    ("the first worked sheet", judged.M),
+    ("two desks", judged.S),
+    ("two desks, 5 either way", judged.T),
+    ("three strips, two desks", judged.THREE),
+    ("all three sections", judged.ALL),
+    ("mounts ahead", judged.WAITED),
+    ("40 strips in three batches", mosaic_of(100, [(k, 41 - k) for k in range(1, 41)])),
+    ("40 strips, several best batchings", mosaic_of(1, [(0, 2)] * 40)),
+    ("the longest sections", sheets.LONG),
+    ("the longest sections, a free flight", FREE_LONG),
+    ("the longest sections and the longest turn", sheets.LONG_TURN),
+]:
+    same_weights(name, sheet)
 
 # All other numbers go before 11, 17 too. The bytes of the whole answer.
 CASES.append(("a window from 5 to 4 behind a mosaic", judged.M + flight() + window(1, 5, 4, 1), bytes.fromhex("E0 06 00 11 00 2D 00 00 00")))
