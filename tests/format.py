@@ -1,9 +1,9 @@
 #!/usr/bin/env python3
 """Compares docs/FORMAT.md with the code that gives the length due for a field (02, Req 05).
 
-Of the table of fields: each length is the sum of the bytes of its content, and "0 or" that sum where the content may be left out. Of the table of lengths: its
-rows are those of the table of fields, 11 once for each station count, and two for what has no length: 11 with any other count, and any other tag; its cases are
-those of `length_due`, in their order, and give its lengths.
+Of the table of fields: each length is the sum of the bytes of its content; where the last number may be left out, which is so where its row says what that
+means, the sum without it "or" the sum. Of the table of lengths: its rows are those of the table of fields, 11 once for each station count, and two for what has
+no length: 11 with any other count, and any other tag; its cases are those of `length_due`, in their order, and give its lengths.
 Ends with status 1 and the first difference.
 """
 import pathlib
@@ -33,38 +33,45 @@ def table(columns):
 
 
 def fields():
-    """Of each field: its tag, its length in words, and each number of its content with its bytes in words."""
+    """Of each field: its tag, its length in words, and each number of its content with its bytes in words and whether it may be left out."""
     found = []
     for tag, _, length, content, width, _ in table(["tag", "field", "length", "content", "bytes", "range"]):
         if tag:
             found.append((tag, length, []))
         if width:
-            found[-1][2].append((content.split(",")[0].split(";")[0], width))
+            found[-1][2].append((content.split(",")[0].split(";")[0], width, " means " in content))
     return found
 
 
 def with_stations(tag, length, content, m):
     """The length, and the content with the bytes of its numbers, of a field with m stations."""
-    numbers = []
-    for name, width in content:
+    always, last = [], []
+    for name, width, left_out in content:
         if width == "2 each":
-            numbers.append(("%d station time%s" % (m, "s" if m > 1 else ""), 2 * m))
-        else:
-            numbers.append((name, int(width)))
-    due, words = str(sum(width for _, width in numbers)), " + ".join("%s (%d)" % number for number in numbers)
-    if length.startswith("0 or "):
-        due, words = "0 or " + due, "nothing, or " + words
-    same("tag %s: its length and the sum of its bytes" % tag, str(2 * m + 2) if length == "2 m + 2" else length, due)
-    return due, words
+            name, width = "%d station time%s" % (m, "s" if m > 1 else ""), 2 * m
+        (last if left_out else always).append((name, int(width)))
+    sums = [sum(width for _, width in numbers) for numbers in (always, always + last)]
+    due = " or ".join(map(str, sums if last else sums[:1]))
+    same("tag %s: its length and the sum of its bytes" % tag, re.sub(r"2 m \+ (\d)", lambda k: str(2 * m + int(k[1])), length), due)
+    return due, in_words(always, last)
+
+
+def in_words(always, last):
+    """The content of a field: the numbers that it always has, and the one that it may have behind them."""
+    joined = lambda numbers: " + ".join("%s (%d)" % number for number in numbers)
+    if not last:
+        return joined(always)
+    return "%s, or these + %s" % (joined(always), joined(last)) if always else "nothing, or " + joined(last)
 
 
 def lengths_of_fields():
     """The rows of the table of lengths by the table of fields, without their cases."""
     for tag, length, content in fields():
-        for m in STATIONS if length == "2 m + 2" else [0]:
+        by_stations = "2 m" in length
+        for m in STATIONS if by_stations else [0]:
             due, words = with_stations(tag, length, content, m)
             yield tag, str(m or ""), words, due
-        if length == "2 m + 2":
+        if by_stations:
             yield tag, "other", "none: a head has 1 to 4 stations", "none"
     yield "other", "", "none: the tag is not in the table", "none"
 
