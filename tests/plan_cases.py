@@ -741,6 +741,10 @@ for which in (0, 19, 39):
     weights = [100 if k == which else 1 for k in range(40)]
     figure = least_sum([k * T for k in range(1, 41)], T, [T] * 40, weights)
     best("40 strips of 60,000, strip %d heavy" % (which + 1), mosaic_of(T, [(T, T)] * 40, weights), figure, 0, 0)
+# The longest plan: 40 batches, 18 strips and 32 blocks.
+LONGEST_PLAN = batches(MOST_WEIGHT * (820 * T + 40), *FAR) + HEAVY_AFTER_DESK + passes(judged.LAST_END, judged.BY_ONE, *judged.TURNED_STARTS)
+assert len(LONGEST_PLAN) == 1103
+planned("the longest plan", mosaic_of(1, [(T, 1)] * 40, [MOST_WEIGHT] * 40) + sheets.HEAVY_SORTING + judged.TURNED_FLIGHT, LONGEST_PLAN)
 # In a sorting the least figure has four bytes at most: with 100 in each of 18 strips of 60,000 it is 18,900 × 60,000.
 planned("6 + 6 + 6 strips of 60,000, 100 in every strip", sheets.HEAVY_SORTING, HEAVY_AFTER_DESK)
 

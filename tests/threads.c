@@ -1,5 +1,6 @@
 /* Four threads plan, judge and print the sheets of the given files at once, each on the stack that sevulamon.h names, and must get the answers that one thread
-   gets alone; then four judge and print on the smaller stack. Buffers of length 0 with a null pointer are tried first. */
+   gets alone; then four judge and print on the smaller stack. Buffers of length 0 with a null pointer are tried first, and plan buffers of lengths next to the
+   least that is enough. */
 #include "sevulamon.h"
 
 #include <pthread.h>
@@ -91,6 +92,14 @@ static int null_pointers_taken(const struct example *e) {
         && sevulamon_page(e->sheet, e->length, e->plan, e->answer.length, NULL, 0).number == SEVULAMON_BUFFER_TOO_SMALL;
 }
 
+/* A plan buffer of 1,103 bytes is enough, whatever the sheet, and one of a byte less is not. */
+static int least_length_kept(const struct example *e) {
+    uint8_t plan[1103];
+    struct sevulamon_answer answer = sevulamon_plan(e->sheet, e->length, plan, 1102);
+    return SEVULAMON_PLAN_LENGTH == 1103 && answer.number == SEVULAMON_BUFFER_TOO_SMALL && answer.place == 0 && answer.length == 0
+        && sevulamon_plan(e->sheet, e->length, plan, 1103).number == e->answer.number;
+}
+
 int main(int argc, char **argv) {
     for (int i = 1; i < argc && count < MOST_SHEETS; i++)
         if (!read_example(&examples[count++], argv[i])) {
@@ -98,6 +107,8 @@ int main(int argc, char **argv) {
             return 1;
         }
     int wrong = count == 0 || !null_pointers_taken(&examples[0]);
+    for (size_t i = 0; i < count; i++)
+        wrong |= !least_length_kept(&examples[i]);
     wrong |= run_threads(plan_all, SEVULAMON_PLAN_STACK) | run_threads(judge_all, SEVULAMON_JUDGE_STACK);
     printf("%zu sheets planned, judged and printed by %d threads at once: %s\n", count, THREADS, wrong ? "WRONG" : "as by one");
     return wrong;
