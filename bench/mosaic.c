@@ -23,11 +23,11 @@ static const struct family families[] = {
     {"long mounts", 1000, LONG_MOUNTS, UNWEIGHTED},
     {"just ready", MOST_TIME / 2, JUST_READY, UNWEIGHTED},
     {"random weights", MOST_TIME, NONE, RANDOM_WEIGHTS},
-    {"one of 100", MOST_TIME, NONE, ONE_HEAVY},
-    {"long ones heavy", MOST_TIME, NONE, LONG_HEAVY},
-    {"last ones heavy", MOST_TIME, NONE, LAST_HEAVY},
-    {"w., long mounts", 1000, LONG_MOUNTS, RANDOM_WEIGHTS},
-    {"w., just ready", MOST_TIME / 2, JUST_READY, RANDOM_WEIGHTS},
+    {"one weight of 100", MOST_TIME, NONE, ONE_HEAVY},
+    {"long strips heavy", MOST_TIME, NONE, LONG_HEAVY},
+    {"last strips heavy", MOST_TIME, NONE, LAST_HEAVY},
+    {"random weights, long mounts", 1000, LONG_MOUNTS, RANDOM_WEIGHTS},
+    {"random weights, just ready", MOST_TIME / 2, JUST_READY, RANDOM_WEIGHTS},
 };
 
 struct instance {
@@ -64,7 +64,7 @@ static double measure(const struct family *f, size_t strips) {
         add_instance(&t, ours, plain, &x);
         require_equal(x.ours == x.plain, f->name, i);
     }
-    printf("%-16s %6zu %9d ", f->name, strips, INSTANCES);
+    printf("%-28s %6zu %9d ", f->name, strips, INSTANCES);
     print_times(&t);
     printf("\n");
     return median(t.ours, t.count);
@@ -72,11 +72,11 @@ static double measure(const struct family *f, size_t strips) {
 
 static void measure_all(const struct family *f) {
     double ten = measure(f, 10), twenty = measure(f, 20), forty = measure(f, 40);
-    printf("%-16s growth of the planner's time: from 10 to 20 strips %.1f, from 20 to 40 %.1f\n", f->name, twenty / ten, forty / twenty);
+    printf("%-28s growth of the planner's time: from 10 to 20 strips %.1f, from 20 to 40 %.1f\n", f->name, twenty / ten, forty / twenty);
 }
 
 int main(void) {
-    printf("%-16s %6s %9s ", "times", "strips", "instances");
+    printf("%-28s %6s %9s ", "times", "strips", "instances");
     print_times_head();
     printf("\n");
     for (size_t i = 0; i < sizeof families / sizeof families[0]; i++)

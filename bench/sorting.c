@@ -44,7 +44,7 @@ static void measure(const struct sorting_family *family, u64 most, int count) {
         require_equal(equal(x.ours, x.plain.best) && equal(x.ours, x.all.best), family->name, i);
     }
     double most_nodes = greatest(nodes, count), most_part = greatest(part, count);
-    printf("%-28s %9d ", family->name, count);
+    printf("%-36s %9d ", family->name, count);
     print_times(&t);
     printf(" | %9.0f %9.0f %11.0f | %8.5f %8.5f\n", median(nodes, count), most_nodes, (double)x.all.nodes, median(part, count), most_part);
     fflush(stdout);
@@ -57,7 +57,7 @@ int main(int argc, char **argv) {
     most = most < 10 ? 10 : most > MOST_TIME ? MOST_TIME : most;
     printf("times up to %d\n", most);
     printf("ratio: to C with the same cuts. C nodes: of that C, in the median and at most; all nodes: of plain enumeration in C. part: of the time of plain enumeration, in the median and at most.\n");
-    printf("%-28s %9s ", "family (6 + 6 + 6)", "instances");
+    printf("%-36s %9s ", "family (6 + 6 + 6)", "instances");
     print_times_head();
     printf(" | %9s %9s %11s | %8s %8s\n", "C nodes", "greatest", "all nodes", "part", "greatest");
     for (size_t i = 0; i < sizeof sorting_families / sizeof sorting_families[0]; i++)

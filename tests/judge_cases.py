@@ -1,7 +1,8 @@
 #!/usr/bin/env python3
 """The sheets and plans that the program judge_cases reads, with what it must write for each.
 
-Each case is a name, a sheet, a plan, and the line due: number, place and the three figures. The lines are written by hand from 01 and the requests of 02.
+Each case is a name, a sheet, a plan, and the line due: number, place and the three figures. The lines are written by hand from 01 and the requests of 02;
+figures with weights are summed here from the batches or the finishing times.
 
     judge_cases.py           writes crates/judge_cases/stdin and stdout
     judge_cases.py --check   says whether they are as written here
