@@ -1,4 +1,5 @@
-/* The mosaic planner in plain C: ready times, sums of bench times and of weights, one row of least figures, and the figures that begin with a batch that waits. */
+/* The mosaic planner in plain C: ready times, sums of bench times and of weights, one row of least figures, and the figures that begin with a batch that
+   waits. */
 #ifndef BENCH_MOSAIC_H
 #define BENCH_MOSAIC_H
 
@@ -34,7 +35,8 @@ static inline u64 candidate(const u64 *ready, const u64 *sums, const u64 *weight
     return late[41 * i + q];
 }
 
-static inline struct choice choose_batch(const u64 *ready, const u64 *sums, const u64 *weights, const u64 *late, const u64 *row, u64 mount, size_t n, u64 free, size_t i) {
+static inline struct choice
+choose_batch(const u64 *ready, const u64 *sums, const u64 *weights, const u64 *late, const u64 *row, u64 mount, size_t n, u64 free, size_t i) {
     struct choice best = {n, candidate(ready, sums, weights, late, row, mount, free, i, n)};
     for (size_t q = n; i + 1 < q;) {
         q--;
@@ -45,7 +47,8 @@ static inline struct choice choose_batch(const u64 *ready, const u64 *sums, cons
     return best;
 }
 
-static inline void fill_block(const u64 *ready, const u64 *sums, const u64 *weights, const u64 *late, u64 *row, u64 mount, size_t n, u64 begin, size_t i, size_t low) {
+static inline void
+fill_block(const u64 *ready, const u64 *sums, const u64 *weights, const u64 *late, u64 *row, u64 mount, size_t n, u64 begin, size_t i, size_t low) {
     u64 at = begin + (u64)(n - low) * mount;
     row[n] = 0;
     for (size_t p = n; low < p;) {
