@@ -2,7 +2,7 @@
    rt staticlib mosaic_bench && gcc -O2 -Wall -Wextra -Werror -o target/bench_mosaic bench/mosaic.c target/staticlib/libmosaic_bench.a && target/bench_mosaic */
 #include "mosaic.h"
 
-extern u64 mosaic_best(size_t stations, u64 mount, size_t strips, const u64 station[160], const u64 bench[40], const uint32_t weight[40]);
+extern u64 mosaic_best(size_t stations, u64 mount, size_t strips, const u64 station[160], const u64 bench[40], const u64 weight[40]);
 
 enum { INSTANCES = 60 };
 

@@ -9,7 +9,7 @@
 struct mosaic {
     size_t stations, strips;
     u64 mount, station[160], bench[40];
-    uint32_t weight[40];
+    u64 weight[40];
 };
 
 struct mosaic_plan {

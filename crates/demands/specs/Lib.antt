@@ -7,25 +7,28 @@
 use Prim.Native.Nat.{ℕ, zero, suc, _+_, _*_, _≤_, _<_}
 use mathlib.Core.Path.{_≡_, refl, sym, ap, ap₂, subst, _∙_}
 use mathlib.Core.Bool.{true, false, true≢false}
-use mathlib.Core.List.{List, _++_}
+use mathlib.Core.List.{List, [], _∷_, _++_}
 use mathlib.Core.Logic.{inl, inr, ⊎-elim}
-use lib.ListN.{length, drop}
+use lib.ListN.{length, getD, drop}
 use native.Mathlib.Omega.{arith}
-use Rattle.field.specs.Bytes.{numberAt}
-use Rattle.field.specs.Field.{fieldAt}
+use borrow.Author.Tests.{le-ltb}
+use Rattle.field.specs.Bytes.{numberAt, bytesOf}
+use Rattle.field.specs.Field.{fieldAt, fieldBytes}
+use Rattle.field.specs.Fields.{whole-at}
 use Rattle.field.specs.declared.Field.the-variants.{Whole}
-use Rattle.sheet.specs.Limits.{ceiling, mostStations, mostTurn, mostBlocks, tableLength, planLength, pageLength}
+use Rattle.sheet.specs.Limits.{ceiling, mostStations, mostTurn, mostWeight, mostStrips, mostDesks, mostStripsOfDesk, mostBlocks, tableLength, planLength}
+use Rattle.sheet.specs.Limits.{pageLength}
 use Rattle.sheet.specs.Tags.{mosaicHeadTag, mosaicStripTag, sortingHeadTag, sortingStripTag, flightHeadTag, flightBlockTag, flightOrderTag}
-use Rattle.sheet.specs.Tags.{flightWindowBlockTag}
+use Rattle.sheet.specs.Tags.{flightWindowBlockTag, planMosaicTag, planSortingTag}
 use Rattle.sheet.specs.Refusals.{lengthWrong, outOfRange, orderImpossible, bufferTooSmall, layoutWrong, ruleBroken, figureUntrue, timeTooLarge, timeOfZero}
 use Rattle.sheet.specs.Refusals.{longestBelowShortest}
 use Rattle.sheet.specs.Read.{readSheet}
 use Rattle.sheet.specs.Theorems.{read-sound}
 use Rattle.sheet.specs.Among.{Among}
-use Rattle.sheet.specs.FieldTable.{TableRow, fieldTable, tableOf, lengthOf, lengthsDue, turnFlightHead, Value, valuesOf}
+use Rattle.sheet.specs.FieldTable.{Between, TableRow, fieldTable, tableOf, lengthOf, lengthsDue, turnFlightHead, Value, valuesOf}
 use Rattle.sheet.specs.Contents.{RowOfLength, head-lengths, head-length, flight-head-values}
 use Rattle.sheet.specs.Causes.{NoMembers, OrderMissing, Permitted, FirstOut, CountOutOfRange, TimeTooLarge, TimeOfZero, TooMany, fieldRows, rowsAt}
-use Rattle.sheet.specs.Table.{Reached, RefusedFor, RefusedForValue, RefusedForLongestBelowShortest}
+use Rattle.sheet.specs.Table.{Reached, RefusedFor, RefusedForContent, RefusedForValue, RefusedForLongestBelowShortest}
 use Rattle.sheet.specs.Rows.{rowAt}
 use Rattle.sheet.specs.Decided.{whole-at-not-cut}
 use Rattle.sheet.specs.Theorems.{at-field}
@@ -35,9 +38,12 @@ use Rattle.sheet.specs.Sections.{inFlight}
 use Rattle.sheet.specs.Checks.{endsSection}
 use Rattle.sheet.specs.Decode.{zeros, exactBlock, nextMembers}
 use Rattle.sheet.specs.Stores.{length-zeros}
-use Rattle.sheet.specs.Sound.{SheetSound}
+use Rattle.sheet.specs.Sound.{SheetSound, stripsInAll}
 use Rattle.sheet.specs.FlightPlaces.{FieldRead, HeadRead, head-read, order-read, blockAt, BlockRead, block-read}
 use Rattle.sheet.specs.MovedPlaces.{movedPlace, SameButPlaces}
+use Rattle.sheet.specs.AbsentWeight.{StripAt, withoutWeight, withWeightOne, absent-weight}
+use Rattle.sheet.specs.Weights.{WeightOut, weight-refused, MosaicWeightRead, SortingWeightRead, mosaic-weight-read, sorting-weight-read, Unweighted}
+use Rattle.sheet.specs.Weights.{unweighted-mosaic, unweighted-sorting}
 use Rattle.sheet.specs.WrittenZero.{withEmptyHead, withWrittenZero, written-zero}
 use Rattle.sheet.specs.OneValue.{withExactDelay, withOneValue, one-value}
 use Rattle.sheet.specs.SectionLaws.{BlockSound}
@@ -46,8 +52,8 @@ use Rattle.sheet.specs.declared.Reading.{Reading}
 use Rattle.sheet.specs.declared.FlightSection.{FlightSection}
 use Rattle.sheet.specs.declared.Sheet.{Sheet}
 use Rattle.sheet_lengths.specs.Lengths.{lengthsGiven, GivesLength}
-use Rattle.sheet_lengths.specs.Theorems.{row-length, length-row, sole-row-length, head-lengths-due, strip-length-due, no-length, other-tag-none}
-use Rattle.sheet_lengths.specs.Theorems.{other-count-none}
+use Rattle.sheet_lengths.specs.Theorems.{row-length, length-row, sole-row-length, head-lengths-due, strip-lengths-due, desk-strip-lengths-due, no-length}
+use Rattle.sheet_lengths.specs.Theorems.{other-tag-none, other-count-none}
 use Rattle.sheet_lengths.specs.declared.LengthDue.{LengthDue}
 use Rattle.sheet_lengths.specs.declared.LengthDue.the-variants.{Bytes, Either, None}
 use Rattle.order.specs.Order.{Proper}
@@ -61,8 +67,8 @@ use Rattle.rules.specs.Flight.{passesAt, secondDue, DelayKept, AllApart, Flight
 use Rattle.rules.specs.declared.Batch.{Batch}
 use Rattle.rules.specs.declared.Job.{Job}
 use Rattle.rules.specs.declared.Passes.{Passes}
-use Rattle.rules.specs.Plan.{Plan, mosaicFields, sortingFields, flightFields, planBytes, PlanUnder, AllowedFor}
-use Rattle.plan_format.specs.Format.{sizeOf, flightHeadForm}
+use Rattle.rules.specs.Plan.{Plan, membersBytes, batchBytes, jobBytes, mosaicBytes, sortingBytes, mosaicFields, sortingFields, flightFields, planBytes, PlanUnder, AllowedFor}
+use Rattle.plan_format.specs.Format.{sizeOf, mosaicHeadForm, sortingHeadForm, flightHeadForm, numbersBytes, formBytes}
 use Rattle.plan_format.specs.ByteLaws.{AreBytes}
 use Rattle.plan_read.specs.PlanRead.{batchFrom, passesFrom, blocksFrom}
 use Rattle.rules_laws.specs.FlightRunning.{all-apart}
@@ -70,10 +76,14 @@ use Rattle.rules_laws.specs.Turns.{NextApart, neighbours-apart, neighbours-enou
 use Rattle.rules_laws.specs.Delays.{withDelays, DelaysChosen, exact-delay, choice-kept, kept-choice, same-order, same-figure}
 use Rattle.rules_laws.specs.Mounts.{MountsWait, waiting-obeys, MountsMoved, moved-obeys, moved-figure}
 use Rattle.rules_laws.specs.Determined.{plan-most, plan-determined}
+use Rattle.rules_laws.specs.Fits.{mosaic-figure-most, sorting-figure-most}
+use Rattle.rules_laws.specs.Present.{present-some}
+use Rattle.rules_laws.specs.Unweighted.{completionSum, finishSum, mosaic-unweighted, sorting-unweighted}
 use Rattle.judge.specs.Judged.{partAt, turnedBack, found, judged}
 use Rattle.judge_members.specs.Members.{present, memberPlace}
 use Rattle.judge_members.specs.declared.Progress.{Progress}
-use Rattle.judge_laws.specs.Due.{LaidOut}
+use Rattle.judge_laws.specs.Due.{DueUpTo, LayoutFault, LaidOut}
+use Rattle.judge_laws.specs.HeadLength.{WideHead, wide-head-not-due}
 use Rattle.judge.specs.declared.Judged.{Judged}
 use Rattle.judge_laws.specs.Fault.{MemberFollows, HeadFollows, SectionFault, Fault}
 use Rattle.judge_laws.specs.Fault.{Reached as Judging}
@@ -86,7 +96,7 @@ use Rattle.sorting.specs.Theorems.{sorting-ceiling}
 use Rattle.flight.specs.Chosen.{LongestBelowTurn}
 use Rattle.flight.specs.Choice.{oneByOne, chosenOrder}
 use Rattle.flight.specs.Theorems.{flight-ceiling, flight-figure, flight-least, flight-unsearched}
-use Rattle.planner.specs.Call.{chosenPlan, clearedTo, tableAfter, Called}
+use Rattle.planner.specs.Call.{chosenPlan, sheetAnswer, answerOf, clearedTo, tableAfter, Called}
 use Rattle.planner.specs.Outcomes.{Large, Accepted, call-accepted, call-refused, call-small, call-cleared, ourBytes}
 use Rattle.planner.specs.TurnedBack.{TurnedBack, turned-back, turned-back-only, eleven-only, sheet-only, else-accepted}
 use Rattle.planner.specs.Theorems.{figureOfMosaic, figureOfSorting, figureOfFlight, Least, Impossible, plan-lawful, plan-least-mosaic, plan-least-sorting}
@@ -618,24 +628,27 @@ module _ (sheet plan page pageAfter : List ℕ) (r : Answer) (call : Paged sheet
 -- A call of `length_due`: a tag, the number of stations in the head of the mosaic, and the answer; `GivesLength` is its contract (sheet_lengths, Lengths.antt).
 module _ (tag stations : ℕ) (due : LengthDue) (call : GivesLength tag stations due) where
   -- "Show that the cases give the field table's length for each tag in it": the length of each row of the tag is among those that the answer means
-  -- (`lengthsGiven`), and each of those is a row's. Every tag but that of the flight head has one row at most, and its length; the flight head has two rows
-  -- since Req 06. The tag 33 has a row since Req 07.
+  -- (`lengthsGiven`), and each of those is a row's. The flight head has two rows since Req 06 and each strip since Req 09; every other tag has one row at
+  -- most, and its length. The tag 33 has a row since Req 07.
   pub length-by-list : (desks : ℕ) (r : TableRow) → Among r (fieldTable stations desks) → tag ≡ r .tag → Among (lengthOf (r .content)) (lengthsGiven due)
   length-by-list desks r a e = row-length tag stations due call desks r a (omega arith)
 
   pub no-other-length : (desks n : ℕ) → Among n (lengthsGiven due) → RowOfLength tag n (fieldTable stations desks)
   no-other-length desks n a = length-row tag stations due call desks n a
 
-  pub length-of-one-row : (desks : ℕ) (r : TableRow) → Among r (fieldTable stations desks) → tag ≡ r .tag → (tag ≡ flightHeadTag → ⊥)
-      → due ≡ Bytes (lengthOf (r .content))
-  length-of-one-row desks r a e other = sole-row-length tag stations due call desks r a e other
+  pub length-of-one-row : (desks : ℕ) (r : TableRow) → Among r (fieldTable stations desks) → tag ≡ r .tag → (tag ≡ mosaicStripTag → ⊥)
+      → (tag ≡ sortingStripTag → ⊥) → (tag ≡ flightHeadTag → ⊥) → due ≡ Bytes (lengthOf (r .content))
+  length-of-one-row desks r a e h₁ h₂ h₃ = sole-row-length tag stations due call desks r a e h₁ h₂ h₃
 
   pub lengths-of-a-flight-head : tag ≡ flightHeadTag → due ≡ Either 0 2
   lengths-of-a-flight-head e = head-lengths-due tag stations due call e
 
-  -- for 11 this is, with 1 to 4 stations, two bytes for each of them and two for the bench; with any other number there is none
-  pub length-of-a-strip : tag ≡ mosaicStripTag → 1 ≤ stations → stations ≤ mostStations → due ≡ Bytes (2 * stations + 2)
-  length-of-a-strip e lo hi = strip-length-due tag stations due call e lo hi ∙ ap Bytes (omega arith)
+  -- for 11 these are, with 1 to 4 stations, two bytes for each of them and two for the bench, and one more for a weight; with any other number there is none
+  pub lengths-of-a-strip : tag ≡ mosaicStripTag → 1 ≤ stations → stations ≤ mostStations → due ≡ Either (2 * stations + 2) (2 * stations + 3)
+  lengths-of-a-strip e lo hi = strip-lengths-due tag stations due call e lo hi ∙ ap (Either (2 * stations + 2)) (omega arith)
+
+  pub lengths-of-a-desk-strip : tag ≡ sortingStripTag → due ≡ Either 5 6
+  lengths-of-a-desk-strip e = desk-strip-lengths-due tag stations due call e
 
   pub no-length-of-a-strip : tag ≡ mosaicStripTag → (1 ≤ stations → stations ≤ mostStations → ⊥) → due ≡ None
   no-length-of-a-strip = other-count-none tag stations due call
@@ -1150,3 +1163,152 @@ module _ (sheet plan : List ℕ) (j : Judged) (call : j ≡ judged sheet plan) (
   mount-too-early-is-thirteen early =
       member-is-thirteen sheet plan j call sound laid 1 (omega arith) (omega arith) (λ i l m. absurd (omega arith)) there k st judging more
       (λ h. omega (arith, h .lawful .waits-batch))
+
+-- REQ 09. "Strips with a stranding or a tagged animal should not wait." The field table (sheet, FieldTable.antt) has a row for a strip without a weight and one
+-- for a strip with one (`withWeight`); `weightOf` (sheet, Decode.antt) is the weight that a field gives. "The figure becomes the sum of weight × completion": so
+-- it stands in Mosaic.antt and Sorting.antt of crate rules (`mosaicFigure`, `sortingFigure`). "best means least weighted figure throughout": all that is said
+-- above of figures, whether stated, judged or least, is said of these: that the judge gives the true ones (`allows-nothing-else`, `allows-what-obeys`), that
+-- no allowed plan has a smaller one (`no-smaller-figure`, `best-exactly-mosaic`, `best-exactly-sorting`), that the ceiling is enough (Req 01), and which of
+-- several best sortings is taken (Req 03).
+module _ (sheet : List ℕ) (sound : readSheet sheet .number ≡ 0) where
+  whole-sheet : SheetSound (readSheet sheet)
+  whole-sheet = read-sound sheet sound
+
+  -- "A mosaic or sorting strip may carry one last byte, its weight, 1 to 100; absent means 1": the weight of strip j of the mosaic, and of strip k of desk d,
+  -- all from 0, is the one that its field gives, and from 1 to 100.
+  pub weight-of-a-mosaic-strip : (j : ℕ) → j < readSheet sheet .mosaic .strips
+      → MosaicWeightRead sheet j (getD (readSheet sheet .mosaic .weight) j 0) × Between 1 (getD (readSheet sheet .mosaic .weight) j 0) mostWeight
+  weight-of-a-mosaic-strip j l = (
+    mosaic-weight-read sheet sound j l,
+    record { at-least = whole-sheet .mosaic .least-weight j l; at-most = whole-sheet .mosaic .most-weight j },
+  )
+
+  pub weight-of-a-desk-strip : (d k : ℕ) → k < getD (readSheet sheet .sorting .counts) d 0
+      → SortingWeightRead sheet d k (getD (readSheet sheet .sorting .weight) (6 * d + k) 0)
+      × Between 1 (getD (readSheet sheet .sorting .weight) (6 * d + k) 0) mostWeight
+  weight-of-a-desk-strip d k l = (
+    sorting-weight-read sheet sound d k l,
+    record { at-least = whole-sheet .sorting .least-weight d k l; at-most = whole-sheet .sorting .most-weight (6 * d + k) },
+  )
+
+  -- "A sheet of unweighted strips has the figures it had": where no strip carries a weight, the figure of a plan is the sum of completions, and the sum of
+  -- desk finishing times, without any weight.
+  pub unweighted-mosaic-figure : Unweighted sheet → (bs : List Batch) → mosaicFigure (readSheet sheet .mosaic) bs ≡ completionSum (readSheet sheet .mosaic) bs
+  unweighted-mosaic-figure u bs = mosaic-unweighted (readSheet sheet .mosaic) bs (unweighted-mosaic sheet sound u)
+
+  pub unweighted-sorting-figure : Unweighted sheet → (js : List Job) → SortingLawful (readSheet sheet .sorting) js
+      → sortingFigure (readSheet sheet .sorting) js ≡ finishSum (readSheet sheet .sorting) js
+  unweighted-sorting-figure u js law = sorting-unweighted (readSheet sheet .sorting) js law (unweighted-sorting sheet sound u)
+
+-- "any other value is 6": a weight that is not from 1 to 100, of a strip whose values before it are within their ranges, at the strip's field, whatever stands
+-- behind it; with buffers large enough for the planner, for every plan by the judge, and with a page buffer large enough for the page.
+pub another-weight-is-six : (sheet plan table planAfter tableEnd : List ℕ) (r : Answer) → Called sheet plan table planAfter tableEnd r → Large plan table
+    → (place : ℕ) → RefusedForContent sheet (WeightOut sheet) place → r ≡ answer outOfRange place 0
+another-weight-is-six sheet plan table planAfter tableEnd r call large place f =
+    six-for-a-count sheet plan table planAfter tableEnd r call .always large place (weight-refused sheet place f)
+
+pub another-weight-judged-six : (sheet plan : List ℕ) (j : Judged) → j ≡ judged sheet plan → (place : ℕ) → RefusedForContent sheet (WeightOut sheet) place
+    → j ≡ turnedBack outOfRange place
+another-weight-judged-six sheet plan j call place f = judged-six sheet plan j call .always place (weight-refused sheet place f)
+
+pub another-weight-paged-six : (sheet plan page pageAfter : List ℕ) (r : Answer) → Paged sheet plan page pageAfter r → pageLength ≤ length page → (place : ℕ)
+    → RefusedForContent sheet (WeightOut sheet) place → r ≡ answer outOfRange place 0
+another-weight-paged-six sheet plan page pageAfter r call large place f =
+    paged-six sheet plan page pageAfter r call .always large place (weight-refused sheet place f)
+
+-- "Mosaic and sorting figures take eight bytes in the plan": in every allowed plan of a sheet with a mosaic, and with a sorting, the head is its tag, the
+-- length 8 and the figure in eight bytes ..
+module _ (sheet plan : List ℕ) (a : AllowedFor sheet plan) where
+  pub mosaic-figure-in-eight-bytes : 0 < readSheet sheet .mosaic .strips
+      → plan
+      ≡ (planMosaicTag ∷ 8 ∷ 0 ∷ bytesOf 8 (figureOfMosaic (readSheet sheet) (a .allowed .plan)) ++ membersBytes batchBytes (a .allowed .plan .batches))
+      ++ sortingFields (readSheet sheet .sorting) (a .allowed .plan .jobs)
+      ++ flightFields (readSheet sheet .flight) (a .allowed .plan .order) (a .allowed .plan .passes)
+  unfolding planBytes figureOfMosaic mosaicBytes formBytes numbersBytes fieldBytes bytesOf
+  mosaic-figure-in-eight-bytes some =
+      a .allowed .layout
+      ∙ ap (λ (bytes : List ℕ). bytes ++ sortingFields (readSheet sheet .sorting) (a .allowed .plan .jobs) ++ flightFields (readSheet sheet .flight) (a .allowed .plan .order) (a .allowed .plan .passes))
+      (present-some (readSheet sheet .mosaic .strips) _ some)
+
+  pub sorting-figure-in-eight-bytes : 0 < stripsInAll (readSheet sheet .sorting)
+      → plan
+      ≡ mosaicFields (readSheet sheet .mosaic) (a .allowed .plan .batches)
+      ++ (planSortingTag ∷ 8 ∷ 0 ∷ bytesOf 8 (figureOfSorting (readSheet sheet) (a .allowed .plan)) ++ membersBytes jobBytes (a .allowed .plan .jobs))
+      ++ flightFields (readSheet sheet .flight) (a .allowed .plan .order) (a .allowed .plan .passes)
+  unfolding planBytes figureOfSorting sortingBytes formBytes numbersBytes fieldBytes bytesOf
+  sorting-figure-in-eight-bytes some =
+      a .allowed .layout
+      ∙ ap (λ (bytes : List ℕ). mosaicFields (readSheet sheet .mosaic) (a .allowed .plan .batches) ++ bytes ++ flightFields (readSheet sheet .flight) (a .allowed .plan .order) (a .allowed .plan .passes))
+      (present-some (stripsInAll (readSheet sheet .sorting)) _ some)
+
+  -- .. where it has room: 40 strips, and 18, of weight 100 that are complete at 10,000,000 at the latest.
+  pub figures-of-an-allowed-plan : (figureOfMosaic (readSheet sheet) (a .allowed .plan) ≤ mostStrips * (mostWeight * ceiling))
+      × (figureOfSorting (readSheet sheet) (a .allowed .plan) ≤ mostDesks * mostStripsOfDesk * (mostWeight * ceiling))
+  unfolding figureOfMosaic figureOfSorting
+  figures-of-an-allowed-plan = (
+    mosaic-figure-most (readSheet sheet .mosaic) (a .allowed .plan .batches) (read-sound sheet (a .sound) .mosaic) (a .allowed .lawful .mosaic),
+    sorting-figure-most (readSheet sheet .sorting) (a .allowed .plan .jobs) (read-sound sheet (a .sound) .sorting) (a .allowed .lawful .sorting),
+  )
+
+-- A head of tag 90 or A0 with any other length, as one of four bytes, is 12 at it, where every field before it is one that is due.
+pub another-head-length-is-twelve : (sheet plan : List ℕ) (j : Judged) → j ≡ judged sheet plan → readSheet sheet .number ≡ 0 → (n at k tag len : ℕ)
+    → DueUpTo (readSheet sheet) plan n at k → fieldAt plan at ≡ Whole tag len → WideHead tag → (len ≡ 8 → ⊥) → j ≡ turnedBack layoutWrong at
+another-head-length-is-twelve sheet plan j call sound n at k tag len due e wide other =
+    turns-back-for-its-fault sheet plan j call layoutWrong at
+    (Fault.in-layout sound
+    (LayoutFault.wrong-field n k due (omega (arith, whole-at plan at tag len e .within)) (wide-head-not-due (readSheet sheet) plan at k tag len e wide other)) refl)
+
+-- "and the plan buffer must have 1,103": with fewer bytes the call gives 2, and of a buffer with as many or more the length has no part in the answer.
+module _ (sheet plan table planAfter tableEnd : List ℕ) (r : Answer) (call : Called sheet plan table planAfter tableEnd r) (working : tableLength ≤ length table) where
+  pub buffer-of-1102-is-two : length plan < 1_103 → r ≡ answer bufferTooSmall 0 0
+  buffer-of-1102-is-two l = turned-back sheet plan table planAfter tableEnd r call bufferTooSmall 0 (TurnedBack.buffer-small working l refl refl)
+
+  pub buffer-of-1103-is-enough : 1_103 ≤ length plan → r ≡ sheetAnswer (readSheet sheet)
+  unfolding answerOf
+  buffer-of-1103-is-enough l = call .answer ∙ rw (le-ltb (length table) tableLength working, le-ltb (length plan) planLength l)
+
+-- Absent and 1 (02: "absent means 1"): with a strip that carries no weight behind some bytes, and with a last byte of 1 in it, wherever the reading comes to that
+-- strip, two calls with the same buffers give the same number, plan bytes and length, and places behind the strip are one higher; and the judge gives every plan
+-- the same number, place and figures where the sheet is sound, and else turns both back with the same number.
+module _ (before : List ℕ) (tag : ℕ) (content rest : List ℕ) (st : Reading) (reached : Reached (withoutWeight before tag content rest) st)
+    (here : st .at ≡ length before) (strip : StripAt st tag (length content)) where
+  module _ (plan table planAfter tableEnd otherAfter otherEnd : List ℕ) (r q : Answer)
+      (call : Called (withoutWeight before tag content rest) plan table planAfter tableEnd r)
+      (other : Called (withWeightOne before tag content rest) plan table otherAfter otherEnd q) where
+    pub absent-weight-planned : (q ≡ movedAnswer 1 (length before) r) × (otherAfter ≡ planAfter) × (otherEnd ≡ tableEnd)
+    absent-weight-planned =
+        planned-same _ _ plan table planAfter tableEnd otherAfter otherEnd r q _ _ (absent-weight before content rest st here tag reached strip) call other
+
+  pub absent-weight-judged : (plan : List ℕ) (j k : Judged) → j ≡ judged (withoutWeight before tag content rest) plan
+      → k ≡ judged (withWeightOne before tag content rest) plan
+      → (readSheet (withoutWeight before tag content rest) .number ≡ 0 → k ≡ j)
+      × ((readSheet (withoutWeight before tag content rest) .number ≡ 0 → ⊥) → k ≡ turnedBack (j .number) (movedPlace 1 (length before) (j .place)))
+  absent-weight-judged plan j k judging also = judged-same _ _ _ _ (absent-weight before content rest st here tag reached strip) plan j k judging also
+
+-- Sheets that differ only so, in however many strips: one strip after another gets a last byte of 1.
+pub data OnesWritten (sheet : List ℕ) : List ℕ → Type 0 where
+  none : OnesWritten sheet sheet
+  one-more : (before : List ℕ) (tag : ℕ) (content rest : List ℕ) (st : Reading) → OnesWritten sheet (withoutWeight before tag content rest)
+      → Reached (withoutWeight before tag content rest) st → st .at ≡ length before → StripAt st tag (length content)
+      → OnesWritten sheet (withWeightOne before tag content rest)
+
+-- "Absent and 1 give the same plan bytes": two calls with the same buffers give the same number and length, and leave the same in both buffers; where the one is
+-- accepted, the other is, with the same answer.
+pub ones-written-planned : (sheet other plan table planAfter tableEnd otherAfter otherEnd : List ℕ) (r q : Answer) → OnesWritten sheet other
+    → Called sheet plan table planAfter tableEnd r → Called other plan table otherAfter otherEnd q
+    → (q .number ≡ r .number) × (q .length ≡ r .length) × (otherAfter ≡ planAfter) × (otherEnd ≡ tableEnd)
+ones-written-planned sheet other plan table planAfter tableEnd otherAfter otherEnd r q none call next = (
+  ap (λ (x : Answer). x .number) (next .answer ∙ sym (call .answer)),
+  ap (λ (x : Answer). x .length) (next .answer ∙ sym (call .answer)),
+  next .buffer ∙ sym (call .buffer),
+  next .table ∙ sym (call .table),
+)
+ones-written-planned sheet other plan table planAfter tableEnd otherAfter otherEnd r q (one-more before tag content rest st w reached here strip) call next =
+    let middle : Called (withoutWeight before tag content rest) plan table _ _ _ = record { answer = refl; buffer = refl; table = refl } in
+    let first = ones-written-planned sheet (withoutWeight before tag content rest) plan table planAfter tableEnd _ _ r _ w call middle in
+    let second = absent-weight-planned before tag content rest st reached here strip plan table _ _ otherAfter otherEnd _ q middle next in (
+      ap (λ (x : Answer). x .number) (second .0) ∙ first .0,
+      ap (λ (x : Answer). x .length) (second .0) ∙ first .1,
+      second .1 ∙ first .2,
+      second .2 ∙ first .3,
+    )

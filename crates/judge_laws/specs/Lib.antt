@@ -14,3 +14,4 @@ pub mod Figures
 pub mod Faults
 pub mod Theorems
 pub mod OtherPlace
+pub mod HeadLength

@@ -13,18 +13,21 @@ pub extern "C" fn mosaic_best(
     strips: usize,
     station: &[u64; 160],
     bench: &[u64; 40],
+    weight: &[u64; 40],
 ) -> u64
-    requires { ⌜ MosaicSound (sectionOf stations mount strips (now station) (now bench)) ⌝ }
-    ensures { λ r. ⌜ r ≡ leastFigure (sectionOf stations mount strips (now (station .entry)) (now (bench .entry))) ⌝ }
+    requires { ⌜ MosaicSound (sectionOf stations mount strips (now station) (now bench) (now weight)) ⌝ }
+    ensures { λ r. ⌜ r ≡ leastFigure (sectionOf stations mount strips (now (station .entry)) (now (bench .entry)) (now (weight .entry))) ⌝ }
 {
     let times = *station;
     let benches = *bench;
+    let weights = *weight;
     let m = MosaicSection {
         stations: stations,
         mount: mount,
         strips: strips,
         station: times,
         bench: benches,
+        weight: weights,
     };
     let plan = mosaic::plan_mosaic(m);
     plan.figure

@@ -19,3 +19,4 @@ pub mod Determined
 pub mod Turns
 pub mod Delays
 pub mod Mounts
+pub mod Unweighted

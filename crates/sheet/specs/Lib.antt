@@ -31,4 +31,5 @@ pub mod SameContent
 pub mod MovedPlaces
 pub mod WrittenZero
 pub mod AbsentWeight
+pub mod Weights
 pub mod OneValue
