@@ -21,14 +21,7 @@ pub struct Choice {
 }
 
 // The figure of the batch of the strips after i up to q whose bench work starts at `begin`, with what the row has after it.
-fn closed_figure(
-    sums: &[u64],
-    weights: &[u64],
-    row: &[u64],
-    begin: u64,
-    i: usize,
-    q: usize,
-) -> u64
+fn closed_figure(sums: &[u64], weights: &[u64], row: &[u64], begin: u64, i: usize, q: usize) -> u64
     requires { ⌜ ClosedFigurePre (now sums) (now weights) (now row) begin i q ⌝ }
     ensures { λ r. ⌜ r ≡ closedFigure (now (sums .entry)) (now (weights .entry)) (now (row .entry)) begin i q ⌝ }
 {

@@ -222,13 +222,7 @@ fn next_mosaic(s: &[u8], c: usize, tag: u8, length: usize, m: MosaicSection) -> 
     m
 }
 
-fn next_sorting(
-    s: &[u8],
-    c: usize,
-    tag: u8,
-    length: usize,
-    t: SortingSection,
-) -> SortingSection
+fn next_sorting(s: &[u8], c: usize, tag: u8, length: usize, t: SortingSection) -> SortingSection
     requires { ⌜ NextSortingPre c tag (numberAt (now s) c 1) (stripsOfDesk (t .counts) (numberAt (now s) c 1)) ⌝ }
     ensures { λ r. ⌜ r ≡ nextSorting (now (s .entry)) c tag length t ⌝ }
 {
