@@ -165,12 +165,13 @@ pub record WeightTold (m : MosaicSection) (i q r : ℕ) : Type 0 where
   pub is : r ≡ batchWeight m i q
   pub fits : r ≤ (q - i) * mostWeight
 
-pub weight-pre : (m : MosaicSection) (before b : Batch) → BatchWeightPre m before b → SumAfterPre (m .weight) (before .last) (b .last - before .last)
-weight-pre m before b a = record {
-  long = omega (arith, a .rises, a .strips, a .sound .weight-length);
-  few = omega (arith, a .strips);
-  most = λ k. omega (arith, a .sound .most-weight k);
-}
+-- the bench times, and the weights, of so many known strips after the first i
+module _ (m : MosaicSection) (sound : MosaicSound m) (i count : ℕ) (known : i + count ≤ mostStrips) where
+  pub bench-pre : SumAfterPre (m .bench) i count
+  bench-pre = record { long = omega (arith, sound .bench-length); few = omega arith; most = sound .most-bench }
+
+  pub weight-pre : SumAfterPre (m .weight) i count
+  weight-pre = record { long = omega (arith, sound .weight-length); few = omega arith; most = λ k. omega (arith, sound .most-weight k) }
 
 pub weight-told : (m : MosaicSection) (before b : Batch) (sum : ℕ) → BatchWeightPre m before b
     → SumTold (sumAfter (m .weight) (before .last) (b .last - before .last)) sum → WeightTold m (before .last) (b .last) sum
@@ -180,13 +181,6 @@ weight-told m before b sum a t = record {
   fits = omega (arith, t .is, after-most (m .weight) mostWeight (a .sound .most-weight) (before .last) (b .last - before .last));
 }
 
--- the bench times of a batch of known strips
-pub bench-pre : (m : MosaicSection) (before b : Batch) → FinishDuePre m before b → SumAfterPre (m .bench) (before .last) (b .last - before .last)
-bench-pre m before b a = record {
-  long = omega (arith, a .rises, a .asked .strips, a .asked .sound .bench-length);
-  few = omega (arith, a .asked .strips);
-  most = a .asked .sound .most-bench;
-}
 
 pub work-start-told : (m : MosaicSection) (b : Batch) (r setup readyAt : ℕ) → BenchWorkStartPre m b → SetupTold m setup → SumTold (ready m (b .last)) readyAt
     → r ≡ max (b .start + setup) readyAt → BenchWorkStartTold m b r

@@ -14,13 +14,13 @@ slice-aggregate-prefix-sums : tie.Need-slice-aggregate-prefix-sums
 slice-aggregate-prefix-sums c = search needs
 
 prefix-sums-requires : tie.Need-prefix-sums-requires
-prefix-sums-requires c κs = search bench-pre
+prefix-sums-requires c κs = search (bench-pre, weight-pre)
 
 slice-aggregate-prefix-sums-2 : tie.Need-slice-aggregate-prefix-sums-2
 slice-aggregate-prefix-sums-2 c = search needs
 
 prefix-sums-requires-2 : tie.Need-prefix-sums-requires-2
-prefix-sums-requires-2 c κs = search weight-pre
+prefix-sums-requires-2 c κs = search (bench-pre, weight-pre)
 
 slice-aggregate-fill-late : tie.Need-slice-aggregate-fill-late
 slice-aggregate-fill-late c = search needs

@@ -1,6 +1,7 @@
 -- `finish_due` meets its contract: the start of a batch's bench work and its bench times are when it is due to finish, and their sum fits.
 use borrow.Author.Needs.{needs}
-use Rattle.running.specs.FunctionLaws.{bench-pre, finish-is}
+use native.Mathlib.Omega.{arith}
+use Rattle.running.specs.FunctionLaws.{bench-pre, weight-pre, finish-is}
 use Rattle.running.proofs.mosaic.finish_due.Statement.{statement}
 use Rattle.running.proofs.mosaic.finish_due.Tie as tie
 
@@ -14,7 +15,7 @@ slice-aggregate-sum-after : tie.Need-slice-aggregate-sum-after
 slice-aggregate-sum-after c = search needs
 
 sum-after-requires : tie.Need-sum-after-requires
-sum-after-requires c κs = search bench-pre
+sum-after-requires c κs = search (bench-pre, weight-pre, arith)
 
 add-result : tie.Need-add-result
 add-result c = search needs
