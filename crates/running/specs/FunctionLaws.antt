@@ -165,13 +165,9 @@ pub record WeightTold (m : MosaicSection) (i q r : ℕ) : Type 0 where
   pub is : r ≡ batchWeight m i q
   pub fits : r ≤ (q - i) * mostWeight
 
--- the bench times, and the weights, of so many known strips after the first i
-module _ (m : MosaicSection) (sound : MosaicSound m) (i count : ℕ) (known : i + count ≤ mostStrips) where
-  pub bench-pre : SumAfterPre (m .bench) i count
-  bench-pre = record { long = omega (arith, sound .bench-length); few = omega arith; most = sound .most-bench }
-
-  pub weight-pre : SumAfterPre (m .weight) i count
-  weight-pre = record { long = omega (arith, sound .weight-length); few = omega arith; most = λ k. omega (arith, sound .most-weight k) }
+-- no weight is above the greatest time
+pub weight-small : (m : MosaicSection) → MosaicSound m → (k : ℕ) → getD (m .weight) k 0 ≤ mostTime
+weight-small m sound k = omega (arith, sound .most-weight k)
 
 pub weight-told : (m : MosaicSection) (before b : Batch) (sum : ℕ) → BatchWeightPre m before b
     → SumTold (sumAfter (m .weight) (before .last) (b .last - before .last)) sum → WeightTold m (before .last) (b .last) sum

@@ -1,7 +1,6 @@
 -- `batch_weight` meets its contract: the weights of the batch's strips are added up.
-use Rattle.running.specs.FunctionLaws.{bench-pre, weight-pre, weight-told}
+use Rattle.running.specs.FunctionLaws.{weight-small, weight-told}
 use borrow.Author.Needs.{needs}
-use native.Mathlib.Omega.{arith}
 use Rattle.running.proofs.mosaic.batch_weight.Statement.{statement}
 use Rattle.running.proofs.mosaic.batch_weight.Tie as tie
 
@@ -12,7 +11,7 @@ slice-aggregate-sum-after : tie.Need-slice-aggregate-sum-after
 slice-aggregate-sum-after c = search needs
 
 sum-after-requires : tie.Need-sum-after-requires
-sum-after-requires c κs = search (bench-pre, weight-pre, arith)
+sum-after-requires c κs = search (weight-small, needs)
 
 returns : tie.Need-returns
 returns c = search weight-told

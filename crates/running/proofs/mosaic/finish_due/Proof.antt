@@ -1,7 +1,6 @@
 -- `finish_due` meets its contract: the start of a batch's bench work and its bench times are when it is due to finish, and their sum fits.
 use borrow.Author.Needs.{needs}
-use native.Mathlib.Omega.{arith}
-use Rattle.running.specs.FunctionLaws.{bench-pre, weight-pre, finish-is}
+use Rattle.running.specs.FunctionLaws.{finish-is}
 use Rattle.running.proofs.mosaic.finish_due.Statement.{statement}
 use Rattle.running.proofs.mosaic.finish_due.Tie as tie
 
@@ -15,7 +14,7 @@ slice-aggregate-sum-after : tie.Need-slice-aggregate-sum-after
 slice-aggregate-sum-after c = search needs
 
 sum-after-requires : tie.Need-sum-after-requires
-sum-after-requires c κs = search (bench-pre, weight-pre, arith)
+sum-after-requires c κs = search needs
 
 add-result : tie.Need-add-result
 add-result c = search needs
