@@ -7,10 +7,11 @@
  *
  *   tag  length  field            content, with the bytes of each number
  *   10   3       mosaic head      stations m (1), 1 to 4; mount time (2), 0 to 60,000
- *   11   2 m + 2 strip, up to 40  m station times (2 each), 0 to 60,000; bench time (2)
+ *   11   2 m + 2 strip, up to 40  m station times (2 each), 0 to 60,000; bench time (2);
+ *     or 2 m + 3                  weight (1), 1 to 100; absent means 1
  *   20   1       sorting head     desks m (1), 1 to 3
- *   21   5       strip, up to 6   desk (1), 1 to m; scan time (2); desk time (2)
- *                of each desk
+ *   21   5 or 6  strip, up to 6   desk (1), 1 to m; scan time (2); desk time (2); weight (1), 1 to
+ *                of each desk     100; absent means 1
  *   30   0 or 2  flight head      turn (2), 0 to 600: the least time between the end of a pass and
  *                                 the start of the next; an empty head means 0
  *   31   6       block            first pass (2); delay (2), 0 to 60,000; second pass (2)
@@ -20,15 +21,17 @@
  *
  * Blocks of both tags may be mixed; there may be up to 32 in all.
  *
+ * Strips with and without a weight may be mixed.
+ *
  * Tags are hexadecimal. A time without a range here is 1 to 60,000. Times are minutes in the first
  * two sections and seconds in the flight.
  *
  * The plan: the sections of the sheet, in its order.
  *
  *   tag  length  field            content, with the bytes of each number
- *   90   4       mosaic head      figure (4): the sum of the completions of the strips
+ *   90   8       mosaic head      figure (8): the sum of weight times completion of the strips
  *   91   9       batch            its last strip (1), from 1; mount start (4); finish (4)
- *   A0   4       sorting head     figure (4): the sum of the desks' finishing times
+ *   A0   8       sorting head     figure (8): the sum of weight times the desk's finishing time
  *   A1   10      strip, in the    desk (1); number at the desk (1), from 1; scan start (4);
  *                scanner's order  desk start (4)
  *   B0   12      flight head      figure (4): the end of the last pass; order number (8)
@@ -61,12 +64,12 @@
 
 /* The minor number rises with every change request that lands (docs/LANDINGS.md). */
 #define SEVULAMON_VERSION_MAJOR 1
-#define SEVULAMON_VERSION_MINOR 7
-#define SEVULAMON_VERSION "1.7"
+#define SEVULAMON_VERSION_MINOR 8
+#define SEVULAMON_VERSION "1.8"
 
 /* A plan buffer of this length is large enough for every sheet. A smaller one is refused with 2,
  * whatever the sheet. */
-#define SEVULAMON_PLAN_LENGTH 1095
+#define SEVULAMON_PLAN_LENGTH 1103
 
 /* A page buffer of this length is large enough for every plan: 93 lines of 33 bytes. A smaller one
  * is refused with 2, whatever the page would need. */
@@ -94,7 +97,7 @@ enum sevulamon_number {
     SEVULAMON_FIELD_CUT = 3,         /* under three bytes left, or content runs past the end */
     SEVULAMON_TAG_NOT_PERMITTED = 4, /* also an order field with no block before it */
     SEVULAMON_LENGTH_WRONG = 5,
-    SEVULAMON_OUT_OF_RANGE = 6,      /* a count: stations, desks or the desk of a strip */
+    SEVULAMON_OUT_OF_RANGE = 6,      /* a count: stations, desks, the desk or weight of a strip */
     SEVULAMON_TOO_MANY = 7,          /* 41st mosaic strip, 7th for one desk, 33rd block */
     SEVULAMON_NO_MEMBERS = 8,        /* at the section's head; 0 for the empty sheet */
     SEVULAMON_ORDER_NOT_PROPER = 9,
