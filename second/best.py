@@ -27,11 +27,12 @@ def best_mosaic(sheet):
     ready, n = timetable.ready_times(sheet), len(sheet.strips)
     pairs = [[(0, 0)]] + [[] for _ in range(n)]
     for done in range(n):
-        mounted, work = [(free + sheet.mount, figure) for free, figure in unbeaten(pairs[done])], 0
+        mounted, work, weights = [(free + sheet.mount, figure) for free, figure in unbeaten(pairs[done])], 0, 0
         for last in range(done, n):
-            work += sheet.strips[last][1]
+            _, bench, weight = sheet.strips[last]
+            work, weights = work + bench, weights + weight
             finishes = [(max(time, ready[last]) + work, figure) for time, figure in mounted]
-            pairs[last + 1] += [(finish, figure + (last + 1 - done) * finish) for finish, figure in finishes]
+            pairs[last + 1] += [(finish, figure + weights * finish) for finish, figure in finishes]
     return min(figure for _, figure in pairs[n])
 
 
@@ -46,16 +47,16 @@ def unbeaten_rows(rows):
 
 
 def scan_sums(queue):
-    return [0] + list(itertools.accumulate(scan for scan, _ in queue))
+    return [0] + list(itertools.accumulate(scan for scan, _, _ in queue))
 
 
-def rows_behind(rows, desk, scanned, time, soonest):
+def rows_behind(rows, desk, scanned, time, weight, soonest):
     """The rows once a strip of the desk (1 to 3) is scanned. A desk is not needed before its next strip's scan can end."""
     out = set()
     for figure, desks, *free in rows:
         finish = max(free[desk - 1], scanned) + time
         free[desk - 1] = finish
-        out.add((figure + finish, desks + bytes([desk]), *[max(at, need) if need else 0 for at, need in zip(free, soonest)]))
+        out.add((figure + weight * finish, desks + bytes([desk]), *[max(at, need) if need else 0 for at, need in zip(free, soonest)]))
     return out
 
 
@@ -71,7 +72,7 @@ def best_sorting(sheet):
         for d, k in enumerate(taken):
             if k:
                 before = taken[:d] + (k - 1,) + taken[d + 1:]
-                found |= rows_behind(rows[before], d + 1, scanned, queues[d][k - 1][1], soonest)
+                found |= rows_behind(rows[before], d + 1, scanned, *queues[d][k - 1][1:], soonest)
         rows[taken] = unbeaten_rows(found)
     return rows[tuple(map(len, queues))][0][:2]
 

@@ -51,7 +51,7 @@ def idle_batches(sheet, lasts, most):
 
 
 def least_mosaic(sheet, most):
-    return min(timetable.mosaic_figure(batches) for lasts in batchings(len(sheet.strips)) for batches in idle_batches(sheet, lasts, most))
+    return min(timetable.mosaic_figure(sheet, batches) for lasts in batchings(len(sheet.strips)) for batches in idle_batches(sheet, lasts, most))
 
 
 def finish_of(sheet, done, last, start):
@@ -80,7 +80,7 @@ def least_by_batching(sheet):
     for lasts in batchings(len(sheet.strips)):
         rows = list(every_mounts(sheet, lasts))
         least = [[last, min(row[k][1] for row in rows), min(row[k][2] for row in rows)] for k, last in enumerate(lasts)]
-        found[tuple(lasts)] = min(map(timetable.mosaic_figure, rows)), least
+        found[tuple(lasts)] = min(timetable.mosaic_figure(sheet, row) for row in rows), least
     return found
 
 
@@ -202,7 +202,8 @@ def best_plan(sheet):
     if not flights:
         return None
     order, starts = min(flights, key=lambda flight: distances.end(sheet.blocks, flight[1]) if sheet.blocks else 0)
-    return timetable.plan_of(sheet, min(batches, key=timetable.mosaic_figure), jobs, order, starts)
+    least = min(batches, key=lambda row: timetable.mosaic_figure(sheet, row))
+    return timetable.plan_of(sheet, least, jobs, order, starts)
 
 
 def of_timetables(sheet, found=None):

@@ -19,7 +19,7 @@ import page
 import reader
 import timetable
 
-ROOM = 1095
+ROOM = 1103
 BEHIND = 16
 FILL = b"\xA5"
 

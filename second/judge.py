@@ -4,7 +4,10 @@ import reader
 import timetable
 from timetable import CEILING
 
-SECTIONS = ((0x90, 4, 9), (0xA0, 4, 10), (0xB0, 12, 8))
+SECTIONS = ((0x90, 8, 9), (0xA0, 8, 10), (0xB0, 12, 8))
+
+# The bytes of the figure, with which a head begins.
+FIGURES = {0x90: 8, 0xA0: 8, 0xB0: 4}
 
 
 def number(data, at, width=4):
@@ -13,6 +16,11 @@ def number(data, at, width=4):
 
 def is_field(plan, at, tag, size):
     return len(plan) - at >= 3 and plan[at] == tag and reader.word(plan, at + 1) == size and len(plan) - at - 3 >= size
+
+
+def stated_figure(plan, tag, head):
+    """The figure that a head states."""
+    return number(plan, head + 3, FIGURES[tag])
 
 
 def parts_of(sheet, plan):
@@ -39,10 +47,10 @@ def judge_mosaic(sheet, plan, head, places):
         last, start, finish = plan[at + 3], number(plan, at + 4), number(plan, at + 8)
         if not done < last <= len(sheet.strips) or start < free or finish > CEILING:
             return at, 0
-        bench_start = finish - sum(bench for _, bench in sheet.strips[done:last])
+        bench_start = finish - sum(bench for _, bench, _ in sheet.strips[done:last])
         if bench_start != max(start + sheet.mount, ready[last - 1]):
             return at, 0
-        figure += (last - done) * finish
+        figure += sum(weight for _, _, weight in sheet.strips[done:last]) * finish
         done, free = last, finish
     return (None if done == len(sheet.strips) else head), figure
 
@@ -54,11 +62,11 @@ def judge_sorting(sheet, plan, head, places):
         desk, strip, start, begin = plan[at + 3], plan[at + 4], number(plan, at + 5), number(plan, at + 9)
         if desk not in queues or strip != done[desk] + 1 or strip > len(queues[desk]):
             return at, 0
-        scan, time = queues[desk][strip - 1]
+        scan, time, weight = queues[desk][strip - 1]
         if start < scanner or begin < start + scan or begin < free[desk] or begin + time > CEILING:
             return at, 0
         done[desk], free[desk], scanner = strip, begin + time, start + scan
-        figure += begin + time
+        figure += weight * (begin + time)
     return (None if all(done[desk] == len(queues[desk]) for desk in queues) else head), figure
 
 
@@ -103,7 +111,7 @@ def judge_plan(sheet, plan):
         fault, figures[tag] = JUDGES[tag](sheet, plan, head, places)
         if fault is not None:
             return (13, fault, 0, 0, 0)
-        if figures[tag] != number(plan, head + 3):
+        if figures[tag] != stated_figure(plan, tag, head):
             return (14, head, 0, 0, 0)
     return (0, 0, *figures.values())
 

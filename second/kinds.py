@@ -232,7 +232,7 @@ def of_every_mount(sheet):
     found = brute.least_by_batching(sheet)
     for lasts, (figure, least) in found.items():
         batches = timetable.batches_of(sheet, lasts)
-        assert (figure, least) == (timetable.mosaic_figure(batches), batches), "the second program's own methods differ on mounts: %s" % (least,)
+        assert (figure, least) == (timetable.mosaic_figure(sheet, batches), batches), "the second program's own methods differ on mounts: %s" % (least,)
     return agreed(sheet, ((min(figure for figure, _ in found.values()), 0, 0), b""))
 
 
@@ -241,16 +241,16 @@ def worked_mosaic():
     yield PlanCase(mounts.WORKED, least=lambda sheet: agreed(sheet, ((32, 0, 0), b"")))
     behind, planned = tiny.ONES["s"] + tiny.ONES["f"], tiny.HEADS["s"] + tiny.MEMBERS["s"] + tiny.HEADS["f"] + tiny.MEMBERS["f"]
     for figure, batches in mounts.WORKED_PLANS.items():
-        plan = mounts.worked_plan(figure, batches)
+        plan = mounts.stated_plan(figure, batches)
         yield from (AllowedCase(mounts.WORKED, plan), AllowedCase(mounts.WORKED + behind, plan + planned), PageCase(mounts.WORKED, plan))
         yield from (JudgeCase(mounts.WORKED + behind, plan + tail) for tail in (b"", planned[:-1], planned[:-1] + b"\xFF"))
-        yield from (JudgeCase(mounts.WORKED, mounts.worked_plan(other, batches)) for other in (*mounts.WORKED_PLANS, 0, figure - 1, figure + 1))
-    yield from (BrokenCase(mounts.WORKED, mounts.plan_of(batches), 0) for batches in mounts.missing())
+        yield from (JudgeCase(mounts.WORKED, mounts.stated_plan(other, batches)) for other in (*mounts.WORKED_PLANS, 0, figure - 1, figure + 1))
+    yield from (BrokenCase(mounts.WORKED, mounts.plan_of(mounts.WORKED, batches), 0) for batches in mounts.missing())
 
 
 def judged_batches(sheet, batches, broken):
     """What the plan must get is known: None, or the index of the batch that breaks a rule."""
-    plan = mounts.plan_of(batches)
+    plan = mounts.plan_of(sheet, batches)
     return AllowedCase(sheet, plan) if broken is None else BrokenCase(sheet, plan, mounts.place_of(broken))
 
 
@@ -260,7 +260,7 @@ def every_mount():
         broken = brute.first_wrong_batch(reader.read(sheet), batches)
         yield judged_batches(sheet, batches, broken)
         if broken is None:
-            yield from (JudgeCase(sheet, mounts.plan_of(batches, 1)), PageCase(sheet, mounts.plan_of(batches)))
+            yield from (JudgeCase(sheet, mounts.plan_of(sheet, batches, 1)), PageCase(sheet, mounts.plan_of(sheet, batches)))
 
 
 def judged_mounts():
@@ -268,11 +268,11 @@ def judged_mounts():
     for number, (sheet, batches, broken) in enumerate(itertools.chain(mounts.judged(), mounts.at_ceiling())):
         yield judged_batches(sheet, batches, broken)
         if broken is None and number % 4 == 0:
-            yield PageCase(sheet, mounts.plan_of(batches))
+            yield PageCase(sheet, mounts.plan_of(sheet, batches))
 
 
 def mounts_alone():
-    return (PagesCase(sheet, mounts.plan_of(one), mounts.plan_of(other)) for sheet, one, other in mounts.same_finish())
+    return (PagesCase(sheet, mounts.plan_of(sheet, one), mounts.plan_of(sheet, other)) for sheet, one, other in mounts.same_finish())
 
 
 def mounts_fixed():
@@ -284,7 +284,7 @@ def mounts_fixed():
     yield "every tiny plan of mounts", every_mount()
     yield "plans with a mount or a finish about the due ones, up to the ceiling", judged_mounts()
     yield "plans that differ in the start of a mount", mounts_alone()
-    yield "every change of one byte of a plan of mounts", (JudgeCase(mounts.WORKED, plan) for plan in tiny.changes(mounts.plan_of(mounts.CHANGED)))
+    yield "every change of one byte of a plan of mounts", (JudgeCase(mounts.WORKED, plan) for plan in tiny.changes(mounts.plan_of(mounts.WORKED, mounts.CHANGED)))
 
 
 def fixed():

@@ -3,12 +3,12 @@
 A field of another length has its content cut, or bytes behind it.
 
 Sheets that are planned, judged and printed, with a plan that is allowed for the sheet without the change:
-- every field of mosaics of one to four stations, of sortings of one to three desks and of flights with and without a turn, with 0 to 16 bytes, with 256 bytes
-  more than are due, and with as many as a length due says with its two bytes exchanged; the bytes behind the content are 0, 1 or FF.
+- every field of mosaics of one to four stations and of sortings of one to three desks, some strips with a weight, and of flights with and without a turn, with
+  0 to 16 bytes, with 256 bytes more than are due, and with as many as a length due says with its two bytes exchanged; the bytes behind the content are 0, 1 or FF.
 
 Sheets that are planned:
 - every field with a length of 0 to 300 that is stated only, so that the next field is read from another place;
-- strips of one to four stations behind heads of one to four, in the place of each of three strips;
+- strips of one to four stations, with a weight and without, behind heads of one to four, in the place of each of three strips;
 - each of the 256 tags at every place of a sheet, with contents of every length that some field has, and of one more;
 - a 41st strip, a 7th of a desk, a 33rd block of either kind, a window with its longest delay below the shortest and an order that is not proper, with 0 to
   12 bytes;
@@ -24,7 +24,7 @@ from reader import HEADS, field
 from sheets import block, flight, flight_head, mosaic_head, order, sorting_head, strip
 from values import fields_in, fields_of, full_sections, read_and_planned, replaced
 
-DUE = (0, 1, 2, 3, 4, 5, 6, 8, 10)
+DUE = (0, 1, 2, 3, 4, 5, 6, 7, 8, 9, 10, 11)
 
 
 def of_length(one, length, behind):
@@ -34,8 +34,11 @@ def of_length(one, length, behind):
 
 
 def lengths_due(one):
-    """The lengths due for the tag of a right field: its own, and for a flight head 0 and 2."""
-    return {0, 2} if one[0] == 0x30 else {len(one) - 3}
+    """The lengths due for the tag of a right field: its own, for a flight head 0 and 2, for a strip those without a weight and with it."""
+    length = len(one) - 3
+    if one[0] == 0x11:
+        return {length // 2 * 2, length // 2 * 2 + 1}
+    return {0x21: {5, 6}, 0x30: {0, 2}}.get(one[0], {length})
 
 
 def other_lengths(one):
@@ -45,16 +48,17 @@ def other_lengths(one):
 
 
 def one_short_or_long(one):
-    """A right field without its last byte, if it has one, and with a byte more."""
-    if len(one) > 3:
-        yield of_length(one, len(one) - 4, 0)
-    yield of_length(one, len(one) - 2, 1)
+    """A right field cut to the next length that is not due, if there is one, and with bytes behind it up to the next one."""
+    length, due = len(one) - 3, lengths_due(one)
+    yield from (of_length(one, shorter, 0) for shorter in itertools.islice((k for k in range(length - 1, -1, -1) if k not in due), 1))
+    yield of_length(one, next(k for k in itertools.count(length + 1) if k not in due), 1)
 
 
 def every_field():
-    """The fields of a sheet and the index of each. The sheets have every number of stations and every number of desks, and heads with and without a turn."""
-    for stations, desks, turn in ((1, 1, None), (2, 2, 1), (3, 3, 0), (4, 2, None)):
-        fields = fields_of(stations, desks, turn)
+    """The fields of a sheet and the index of each. The sheets have every number of stations and every number of desks, heads with and without a
+    turn, and strips with and without a weight."""
+    for stations, desks, turn, weight in ((1, 1, None, None), (2, 2, 1, 9), (3, 3, 0, None), (4, 2, None, 9)):
+        fields = fields_of(stations, desks, turn, weight)
         yield from ((fields, at) for at in range(len(fields)))
 
 
@@ -74,14 +78,14 @@ def stated_only():
 
 
 def strips_of_other_stations():
-    for stations, other, at in itertools.product((1, 2, 3, 4), (1, 2, 3, 4), (0, 1, 2)):
+    for stations, other, at, weight in itertools.product((1, 2, 3, 4), (1, 2, 3, 4), (0, 1, 2), (None, 2)):
         strips = [strip([2] * stations + [1])] * 3
-        yield replaced([mosaic_head(stations, 1), *strips], at + 1, strip([2] * other + [1]))
+        yield replaced([mosaic_head(stations, 1), *strips], at + 1, strip([2] * other + [1], weight))
 
 
 def every_tag():
     fields = fields_of(2, 2)
-    for at, tag, length in itertools.product(range(len(fields) + 1), range(256), (*DUE, 11)):
+    for at, tag, length in itertools.product(range(len(fields) + 1), range(256), (*DUE, 12)):
         yield b"".join([*fields[:at], field(tag, b"\x01" * length), *fields[at:]])
 
 

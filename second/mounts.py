@@ -44,13 +44,18 @@ def mosaic(mount, rows):
     return mosaic_head(len(rows[0]) - 1, mount) + b"".join(map(strip, rows))
 
 
-def plan_of(batches, more=0):
-    """The plan of a mosaic alone, and a figure that is so much more than the true one."""
-    return timetable.Plan([(0x90, [timetable.mosaic_figure(batches) + more], batches)], None).bytes()
+def stated_plan(figure, batches):
+    """The plan of a mosaic alone with this figure."""
+    return timetable.Plan([(0x90, [figure], batches)], None).bytes()
+
+
+def plan_of(sheet, batches, more=0):
+    """The plan of a sheet with a mosaic alone, and a figure that is so much more than the true one."""
+    return stated_plan(timetable.mosaic_figure(reader.read(sheet), batches) + more, batches)
 
 
 def place_of(batch):
-    return 7 + 12 * batch
+    return 11 + 12 * batch
 
 
 # The first worked sheet, and plans with the figures that are written down: the best one, its other two batchings, and the same three where each mount waits for
@@ -64,10 +69,6 @@ WORKED_PLANS = {
     45: [[1, 2, 4], [3, 7, 13], [4, 13, 15]],
     38: [[1, 2, 4], [2, 4, 8], [4, 9, 13]],
 }
-
-
-def worked_plan(figure, batches):
-    return timetable.Plan([(0x90, [figure], batches)], None).bytes()
 
 
 def every_mosaic():
@@ -149,7 +150,7 @@ class Batch:
         self.start, self.mount, self.mounted, self.done = start, sheet.mount, start + sheet.mount, done
         self.all_ready = timetable.ready_times(sheet)
         self.ready = self.all_ready[done:last]
-        self.benches = [bench for _, bench in sheet.strips[done:last]]
+        self.benches = [bench for _, bench, _ in sheet.strips[done:last]]
         self.first, self.last, self.bench = self.ready[0], self.ready[-1], sum(self.benches)
 
     def strip_by_strip(self):

@@ -22,7 +22,7 @@ def page_of(sheet, plan):
     """The page of an allowed plan."""
     lines = []
     for tag, head, places in judge.parts_of(sheet, plan)[0]:
-        lines.append(HEADS[tag] % judge.number(plan, head + 3))
+        lines.append(HEADS[tag] % judge.stated_figure(plan, tag, head))
         lines += [MEMBERS[tag] % columns(tag, plan, number, at) for number, at in enumerate(places, 1)]
     return "".join(lines).encode()
 

@@ -17,7 +17,7 @@ def random_lasts(rng, n):
 
 
 def random_list(rng, sheet):
-    desks = [desk for desk, _, _ in sheet.jobs]
+    desks = [desk for desk, *_ in sheet.jobs]
     rng.shuffle(desks)
     return desks
 
@@ -109,7 +109,7 @@ TIMES = {0x90: (1, 2), 0xA0: (2, 3), 0xB0: (0, 1)}
 
 def figure_of(sheet, tag, members):
     if tag == 0x90:
-        return timetable.mosaic_figure(members)
+        return timetable.mosaic_figure(sheet, members)
     if tag == 0xA0:
         return timetable.sorting_figure(sheet, members)
     return distances.end(sheet.blocks, members)
@@ -193,7 +193,7 @@ def bench_too_soon(rng, sheet, plan):
         (done, _, batch), ready = found, timetable.ready_times(sheet)
         mounted, times = batch[1] + sheet.mount, ready[done:batch[0]]
         batch[2] = rng.choice((mounted, max(batch[1], times[-1]), max(mounted, times[0]))) + timetable.bench_time(sheet, done, batch[0])
-        plan.sections[0][1][0] = timetable.mosaic_figure(plan.sections[0][2])
+        plan.sections[0][1][0] = timetable.mosaic_figure(sheet, plan.sections[0][2])
 
 
 def exchanged(rng, sheet, plan):
@@ -239,9 +239,40 @@ def renumbered(rng, sheet, plan):
 
 
 def untrue(rng, sheet, plan):
-    """A figure is off, or 0."""
+    """A figure is off, also in its upper bytes, or 0."""
     _, head, _ = rng.choice(plan.sections)
-    head[0] = rng.choice((head[0] - 1, head[0] + 1, head[0] + (1 << 24), 0))
+    head[0] = rng.choice((head[0] - 1, head[0] + 1, head[0] + (1 << 24), head[0] + (1 << 32), head[0] ^ 1 << rng.randrange(64), 0))
+
+
+def with_weights(sheet, change):
+    """The sheet with the weights of the strips of the mosaic, and of those of each desk, changed together."""
+    other = copy.copy(sheet)
+    if sheet.strips:
+        weights = change([weight for *_, weight in sheet.strips])
+        other.strips = [(*one[:-1], weight) for one, weight in zip(sheet.strips, weights)]
+    if sheet.jobs:
+        weights = {desk: iter(change([weight for *_, weight in sheet.queue(desk)])) for desk in (1, 2, 3)}
+        other.jobs = [(*one[:-1], next(weights[one[0]])) for one in sheet.jobs]
+    return other
+
+
+# Other weights of a row of strips: 1 for each, those of the neighbours, from the end, one more for one strip.
+OTHER_WEIGHTS = (
+    lambda weights: [1 for _ in weights],
+    lambda weights: weights[1:] + weights[:1],
+    lambda weights: weights[-1:] + weights[:-1],
+    lambda weights: weights[::-1],
+    lambda weights: [*weights[:-1], weights[-1] + 1] if weights else [],
+    lambda weights: [weights[0] - 1, *weights[1:]] if weights else [],
+    lambda weights: [max(weights, default=1) for _ in weights],
+)
+
+
+def other_weights(rng, sheet, plan):
+    """The figure of a mosaic or a sorting is that with other weights."""
+    tag, head, members = rng.choice(plan.sections)
+    if tag != 0xB0:
+        head[0] = figure_of(with_weights(sheet, rng.choice(OTHER_WEIGHTS)), tag, members)
 
 
 def other_number(rng, sheet, plan):
@@ -296,7 +327,7 @@ def section_displaced(rng, sheet, plan):
 
 FAULTS = (
     one_off, member_moved, tail_moved, exchanged, times_exchanged, one_more, one_less, last_missing, renumbered, untrue, other_number, other_flight,
-    turn_too_short, delay_at_an_end, near_the_top, section_displaced, mount_elsewhere, bench_too_soon,
+    turn_too_short, delay_at_an_end, near_the_top, section_displaced, mount_elsewhere, bench_too_soon, other_weights,
 )
 
 

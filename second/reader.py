@@ -1,7 +1,8 @@
 """The reader of sheets: the checks of each field in the order in which they are due, and what a sound sheet says."""
+import functools
 import struct
 
-MOST_TIME, MOST_TURN = 60_000, 600
+MOST_TIME, MOST_TURN, MOST_WEIGHT = 60_000, 600, 100
 HEADS = (0x10, 0x20, 0x30)
 MEMBER_OF = {0x11: 0x10, 0x21: 0x20, 0x31: 0x30, 0x33: 0x30}
 
@@ -17,9 +18,9 @@ class Refused(Exception):
 class Sheet:
     """What a sound sheet says. The members of an absent section are None.
 
-    strips: (station times, bench time); jobs: (desk, scan time, desk time); blocks: (first pass, delay, second pass) or, with a window, (first
-    pass, shortest delay, longest delay, second pass). `turn` is 0 where the flight head is empty; `flight_at` and `order_at` are the places of the flight head
-    and of the order field.
+    strips: (station times, bench time, weight); jobs: (desk, scan time, desk time, weight); a weight that is absent is 1. blocks: (first pass, delay, second
+    pass) or, with a window, (first pass, shortest delay, longest delay, second pass). `turn` is 0 where the flight head is empty; `flight_at` and `order_at`
+    are the places of the flight head and of the order field.
     """
 
     def __init__(self):
@@ -29,8 +30,8 @@ class Sheet:
         self.order = self.order_at = None
 
     def queue(self, desk):
-        """Scan and desk times of the strips of one desk, in order."""
-        return [(scan, time) for d, scan, time in self.jobs if d == desk]
+        """Scan time, desk time and weight of the strips of one desk, in order."""
+        return [job[1:] for job in self.jobs if job[0] == desk]
 
 
 def word(data, at):
@@ -38,7 +39,13 @@ def word(data, at):
 
 
 def words(content, first):
-    return [word(content, at) for at in range(first, len(content), 2)]
+    """The numbers of two bytes from `first` on. A byte that is left is none of them."""
+    return [word(content, at) for at in range(first, len(content) - 1, 2)]
+
+
+def weight_of(content, times):
+    """The weight behind so many bytes of a strip, 1 where the strip ends there."""
+    return content[times] if len(content) > times else 1
 
 
 def field(tag, content=b""):
@@ -123,8 +130,8 @@ class Reader:
 
     def lengths_due(self, tag):
         if tag == 0x11:
-            return (2 * self.sheet.stations + 2,)
-        return {0x10: (3,), 0x20: (1,), 0x21: (5,), 0x30: (0, 2), 0x31: (6,), 0x32: (8,), 0x33: (8,)}[tag]
+            return 2 * self.sheet.stations + 2, 2 * self.sheet.stations + 3
+        return {0x10: (3,), 0x20: (1,), 0x21: (5, 6), 0x30: (0, 2), 0x31: (6,), 0x32: (8,), 0x33: (8,)}[tag]
 
     def members_of(self, tag):
         return {0x10: self.sheet.strips, 0x20: self.sheet.jobs, 0x30: self.sheet.blocks}[tag]
@@ -134,11 +141,11 @@ class Reader:
         if tag == 0x10:
             return self.take_mosaic(content)
         if tag == 0x11:
-            return self.take_strip(words(content, 0))
+            return self.take_strip(words(content, 0), weight_of(content, 2 * self.sheet.stations + 2))
         if tag == 0x20:
             return self.take_sorting(content[0])
         if tag == 0x21:
-            return self.take_job(content[0], *words(content, 1))
+            return self.take_job(content[0], *words(content, 1), weight_of(content, 5))
         if tag in (0x31, 0x33):
             return self.take_block(words(content, 0))
         if tag == 0x32:
@@ -153,14 +160,14 @@ class Reader:
         self.sheet.stations, self.sheet.mount, self.sheet.strips = stations, mount, []
         return 0
 
-    def take_strip(self, times):
+    def take_strip(self, times, weight):
         *stations, bench = times
-        number = first_fault(*[time_fault(time, 0) for time in stations], time_fault(bench, 1))
+        number = first_fault(*[time_fault(time, 0) for time in stations], time_fault(bench, 1), count_fault(weight, MOST_WEIGHT))
         if number:
             return number
         if len(self.members) == 40:
             return 7
-        self.members.append((stations, bench))
+        self.members.append((stations, bench, weight))
         return 0
 
     def take_sorting(self, desks):
@@ -170,13 +177,13 @@ class Reader:
         self.sheet.desks, self.sheet.jobs = desks, []
         return 0
 
-    def take_job(self, desk, scan, time):
-        number = first_fault(count_fault(desk, self.sheet.desks), time_fault(scan, 1), time_fault(time, 1))
+    def take_job(self, desk, scan, time, weight):
+        number = first_fault(count_fault(desk, self.sheet.desks), time_fault(scan, 1), time_fault(time, 1), count_fault(weight, MOST_WEIGHT))
         if number:
             return number
         if len(self.sheet.queue(desk)) == 6:
             return 7
-        self.members.append((desk, scan, time))
+        self.members.append((desk, scan, time, weight))
         return 0
 
     def take_flight(self, content, at):
@@ -206,8 +213,9 @@ class Reader:
         return 0
 
 
+@functools.lru_cache(maxsize=256)
 def read(data):
-    """What a sheet says, or Refused."""
+    """What a sheet says, or Refused. A sheet that is judged and printed with many plans is read once; what it says is never changed."""
     reader, at = Reader(), 0
     while at < len(data):
         at = reader.read_field(data, at)

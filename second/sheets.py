@@ -1,30 +1,36 @@
 """Sheets: their fields, random small ones, and full sections of several families.
 
 A family is a row of functions, each of which draws a time. A family of TIES, of sortings that have many best scanner lists, draws the strips of all desks
-together. Flights that are drawn have blocks with one delay, with a window, or of both kinds.
+together. Mosaics and sortings that are drawn have strips without weights, with weights of a family of WEIGHTS, or of both kinds. Flights that are drawn have
+blocks with one delay, with a window, or of both kinds.
 """
 import struct
 
 import distances
 import plans
-from reader import MOST_TIME, MOST_TURN, field
+from reader import MOST_TIME, MOST_TURN, MOST_WEIGHT, field
 
 
 def mosaic_head(stations, mount):
     return field(0x10, struct.pack("<BH", stations, mount))
 
 
-def strip(times):
-    """Station times, then the bench time."""
-    return field(0x11, struct.pack("<%dH" % len(times), *times))
+def weight_byte(weight):
+    """Nothing where the strip carries no weight."""
+    return b"" if weight is None else bytes([weight])
+
+
+def strip(times, weight=None):
+    """Station times, then the bench time, then the weight."""
+    return field(0x11, struct.pack("<%dH" % len(times), *times) + weight_byte(weight))
 
 
 def sorting_head(desks):
     return field(0x20, bytes([desks]))
 
 
-def job(desk, scan, time):
-    return field(0x21, struct.pack("<BHH", desk, scan, time))
+def job(desk, scan, time, weight=None):
+    return field(0x21, struct.pack("<BHH", desk, scan, time) + weight_byte(weight))
 
 
 def block(*times):
@@ -89,6 +95,13 @@ SORTINGS = {
     "three desks busy": (span(1, MOST_TIME // 3), span(1, MOST_TIME)),
     "1 or 60,000": (either(1, MOST_TIME), either(1, MOST_TIME)),
 }
+
+
+# Weights of the strips of a section, None for a strip that carries none. In three of eight sections no strip does.
+WEIGHTS = (
+    either(None), either(None), either(None), either(None, 1, 2, 3), span(1, 9), span(1, MOST_WEIGHT), either(None, None, None, MOST_WEIGHT),
+    either(1, MOST_WEIGHT),
+)
 
 
 def strips_of(scan, time):
@@ -169,9 +182,9 @@ FLIGHTS = {
 
 def mosaic(rng, family, strips):
     mount, station, bench = MOSAICS[family]
-    stations = rng.randint(1, 4)
+    stations, weight = rng.randint(1, 4), rng.choice(WEIGHTS)
     rows = [[station(rng) for _ in range(stations)] + [bench(rng)] for _ in range(strips)]
-    return mosaic_head(stations, mount(rng)) + b"".join(map(strip, rows))
+    return mosaic_head(stations, mount(rng)) + b"".join(strip(row, weight(rng)) for row in rows)
 
 
 def mixed_desks(rng, counts):
@@ -183,14 +196,17 @@ def mixed_desks(rng, counts):
 
 def sorting(rng, family, counts):
     """So many strips of each desk, the desks mixed in the sheet."""
-    scan, time = SORTINGS[family]
-    return sorting_head(len(counts)) + b"".join(job(desk, scan(rng), time(rng)) for desk in mixed_desks(rng, counts))
+    (scan, time), weight = SORTINGS[family], rng.choice(WEIGHTS)
+    return sorting_head(len(counts)) + b"".join(job(desk, scan(rng), time(rng), weight(rng)) for desk in mixed_desks(rng, counts))
 
 
 def tied_sorting(rng, family, counts):
-    """The same, of a family of TIES."""
-    queues = [iter(strips) for strips in TIES[family](rng, max(counts))]
-    return sorting_head(len(counts)) + b"".join(job(desk, *next(queues[desk - 1])) for desk in mixed_desks(rng, counts))
+    """The same, of a family of TIES. The weights are few, or by their numbers the same for all desks."""
+    n, weight = max(counts), rng.choice((either(None), either(None), either(MOST_WEIGHT), either(None, 1, 2)))
+    shared, own = [weight(rng) for _ in range(n)], rng.random() < 0.3
+    queues = [zip(strips, (weight(rng) for _ in strips) if own else shared) for strips in TIES[family](rng, n)]
+    strips = ((desk, *next(queues[desk - 1])) for desk in mixed_desks(rng, counts))
+    return sorting_head(len(counts)) + b"".join(job(desk, *times, weight) for desk, times, weight in strips)
 
 
 def with_window(rng, first, delay, second):
@@ -296,6 +312,6 @@ def sheet_around(rng, middle):
 
 
 def longest_planned():
-    """A sheet whose plan takes 1,095 bytes: 40 batches, 18 strips, 32 blocks."""
+    """A sheet whose plan takes 1,103 bytes: 40 batches, 18 strips, 32 blocks."""
     strips, jobs = strip([9, 1]) * 40, b"".join(job(desk, 1, 1) for desk in (1, 2, 3)) * 6
     return mosaic_head(1, 0) + strips + sorting_head(3) + jobs + flight([(1, 0, 1)] * 32, int("10" * 32, 2))

@@ -12,7 +12,7 @@ def no_wait():
 
 def ready_times(sheet):
     sums, out = [0] * sheet.stations, []
-    for stations, _ in sheet.strips:
+    for stations, _, _ in sheet.strips:
         sums = [x + y for x, y in zip(sums, stations)]
         out.append(max(sums))
     return out
@@ -20,7 +20,7 @@ def ready_times(sheet):
 
 def bench_time(sheet, done, last):
     """The time of the bench for the strips behind `done`, up to `last`."""
-    return sum(bench for _, bench in sheet.strips[done:last])
+    return sum(bench for _, bench, _ in sheet.strips[done:last])
 
 
 def batches_of(sheet, lasts, wait=no_wait, before=()):
@@ -47,7 +47,7 @@ def jobs_of(sheet, desks, wait=no_wait):
     queues = {desk: sheet.queue(desk) for desk in (1, 2, 3)}
     scanner, free, done, out = 0, [0] * 4, [0] * 4, []
     for desk in desks:
-        scan, time = queues[desk][done[desk]]
+        scan, time, _ = queues[desk][done[desk]]
         done[desk] += 1
         start = scanner + wait()
         scanner = start + scan
@@ -62,19 +62,21 @@ def passes_of(blocks, firsts):
     return [[first, first + block[0] + distances.shortest(block)] for first, block in zip(firsts, blocks)]
 
 
-def mosaic_figure(batches):
+def mosaic_figure(sheet, batches):
+    """Every strip is complete when its batch finishes."""
     lasts = [0] + [last for last, _, _ in batches]
-    return sum((last - before) * finish for before, (last, _, finish) in zip(lasts, batches))
+    return sum(weight * finish for done, (last, _, finish) in zip(lasts, batches) for _, _, weight in sheet.strips[done:last])
 
 
 def sorting_figure(sheet, jobs):
-    return sum(begin + sheet.queue(desk)[number - 1][1] for desk, number, _, begin in jobs)
+    strips = ((sheet.queue(desk)[number - 1], begin) for desk, number, _, begin in jobs)
+    return sum(weight * (begin + time) for (_, time, weight), begin in strips)
 
 
 class Plan:
     """The numbers of a plan: of each section its tag, its head's numbers and its members' numbers. `order` is None where there is no flight."""
 
-    FORMATS = {0x90: ("I", "BII"), 0xA0: ("I", "BBII"), 0xB0: ("IQ", "II")}
+    FORMATS = {0x90: ("Q", "BII"), 0xA0: ("Q", "BBII"), 0xB0: ("IQ", "II")}
     GREATEST = {"B": 0xFF, "I": 0xFFFFFFFF, "Q": 0xFFFFFFFFFFFFFFFF}
 
     def __init__(self, sections, order):
@@ -98,7 +100,7 @@ def plan_of(sheet, batches, jobs, order, starts):
     """The plan of a sheet with these timetables and their true figures. `starts` are the first and the second start of each block."""
     sections = []
     if sheet.strips:
-        sections.append((0x90, [mosaic_figure(batches)], batches))
+        sections.append((0x90, [mosaic_figure(sheet, batches)], batches))
     if sheet.jobs:
         sections.append((0xA0, [sorting_figure(sheet, jobs)], jobs))
     if sheet.blocks:

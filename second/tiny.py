@@ -23,7 +23,7 @@ Sheets whose refusals, where they have one, are compared:
 - every change of one byte of a sheet with all three sections, and every beginning of it;
 - 0, 1, 9,999, 10,000, 10,001, 59,999, 60,000, 60,001 and 65,535 at every place of that sheet, and of a mosaic of four stations;
 - every number of members up to two past its limit, the last one good and bad, with and without an order;
-- that sheet, an empty one and a cut one with every plan buffer of 0 to 1,100 bytes.
+- that sheet, an empty one and a cut one with every plan buffer of 0 to 1,110 bytes.
 
 Plans that are judged:
 - every row of none to four plan fields of a list, for sheets with one member a section and every set of sections;
@@ -161,7 +161,7 @@ def bounds():
 
 def buffers():
     """A sheet and a length of the plan buffer."""
-    return itertools.product((SMALL, b"", SMALL[:2]), range(1101))
+    return itertools.product((SMALL, b"", SMALL[:2]), range(1111))
 
 
 def strip_counts():
@@ -196,13 +196,13 @@ def counts():
 # Sheets with one member a section, and plan fields for them, right and wrong.
 ONES = {"m": mosaic_head(1, 0) + strip([1, 1]), "s": sorting_head(1) + job(1, 1, 1), "f": flight([(1, 1, 1)])}
 SETS = ("m", "s", "f", "ms", "mf", "sf", "msf")
-HEADS = {"m": field(0x90, struct.pack("<I", 2)), "s": field(0xA0, struct.pack("<I", 2)), "f": field(0xB0, struct.pack("<IQ", 3, 2))}
+HEADS = {"m": field(0x90, struct.pack("<Q", 2)), "s": field(0xA0, struct.pack("<Q", 2)), "f": field(0xB0, struct.pack("<IQ", 3, 2))}
 MEMBERS = {"m": field(0x91, struct.pack("<BII", 1, 1, 2)), "s": field(0xA1, struct.pack("<BBII", 1, 1, 0, 1)), "f": field(0xB1, struct.pack("<II", 0, 2))}
 REFUSAL = field(0xE0, bytes(6))
 
 
 def plan_rows():
     """A sheet and a row of up to four plan fields."""
-    fields = [*HEADS.values(), *MEMBERS.values(), field(0x90, struct.pack("<I", 3)), REFUSAL]
+    fields = [*HEADS.values(), *MEMBERS.values(), field(0x90, struct.pack("<Q", 3)), REFUSAL]
     for sections, row in itertools.product(SETS, rows(fields, 0, 4)):
         yield b"".join(ONES[section] for section in sections), b"".join(row)

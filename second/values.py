@@ -3,11 +3,11 @@
 Each is a sound sheet in which something is changed. The plan that comes with it is allowed for the sound sheet.
 
 Sheets that are planned, judged and printed:
-- every field with values, of mosaics of one to four stations and of sortings of one to three desks: values as they were, 0, 1, the upper end, one more or
-  the greatest number of their bytes, in every row of up to three values, and any two of more; and every row of values that are as they were or next to their
-  range;
-- a 41st strip, a 7th of a desk and a 33rd block, of either kind behind either and with and without a turn, with every row of values that are right or next to
-  their range.
+- every field with values, of mosaics of one to four stations and of sortings of one to three desks, strips with a weight and without: values as they were, 0,
+  1, the upper end, one more or the greatest number of their bytes, in every row of up to three values, and any two of more; and every row of values that are
+  as they were or next to their range;
+- a 41st strip and a 7th of a desk, with a weight and without, and a 33rd block, of either kind behind either and with and without a turn, with every row of
+  values that are right or next to their range.
 
 Sheets with one value out of its range, one for each field and number, and with a window whose longest delay is below the shortest:
 - planned and printed into buffers one byte too small, and judged and printed with an empty plan and one that is cut short.
@@ -26,7 +26,7 @@ import distances
 import judge
 import reader
 import timetable
-from reader import HEADS, MEMBER_OF, MOST_TIME, MOST_TURN, field
+from reader import HEADS, MEMBER_OF, MOST_TIME, MOST_TURN, MOST_WEIGHT, field
 from sheets import block, flight_head, job, mosaic_head, order, sorting_head, strip
 
 OVER = MOST_TIME + 1
@@ -35,13 +35,13 @@ GREATEST = {"B": 0xFF, "H": 0xFFFF}
 
 def ranges_of(one, sheet):
     """Of each value of a field, from left to right: its width (B one byte, H two), the least and the greatest number of its range."""
-    from_0, from_1, tag = ("H", 0, MOST_TIME), ("H", 1, MOST_TIME), one[0]
+    from_0, from_1, weight, tag = ("H", 0, MOST_TIME), ("H", 1, MOST_TIME), ("B", 1, MOST_WEIGHT), one[0]
     if tag == 0x30:
         return [("H", 0, MOST_TURN)] if len(one) > 3 else []
     if tag == 0x11:
-        return [from_0] * sheet.stations + [from_1]
+        return [from_0] * sheet.stations + [from_1] + [weight] * (len(one) % 2 == 0)
     if tag == 0x21:
-        return [("B", 1, sheet.desks), from_1, from_1]
+        return [("B", 1, sheet.desks), from_1, from_1] + [weight] * (len(one) % 2)
     return {0x10: [("B", 1, 4), from_0], 0x20: [("B", 1, 3)], 0x31: [from_1, from_0, from_1], 0x33: [from_1, from_0, from_0, from_1]}.get(tag, [])
 
 
@@ -84,10 +84,10 @@ def with_rows(one, sheet, *rows_of):
     return [field(one[0], struct.pack(form_of(ranges), *other)) for other in rows]
 
 
-def fields_of(stations, desks, turn=1):
-    """The fields of a sound sheet with all three sections and both kinds of blocks."""
-    strips = [strip([2, 1, 4, 3][:stations] + [bench]) for bench in (1, 3)]
-    jobs, blocks = [job(1, 2, 5), job(desks, 1, 1)], [block(1, 4, 1), block(2, 2, 4, 1)]
+def fields_of(stations, desks, turn=1, weight=None):
+    """The fields of a sound sheet with all three sections and both kinds of blocks. The last strip of the mosaic and of the sorting carries the weight."""
+    strips = [strip([2, 1, 4, 3][:stations] + [bench], heavy) for bench, heavy in ((1, None), (3, weight))]
+    jobs, blocks = [job(1, 2, 5), job(desks, 1, 1, weight)], [block(1, 4, 1), block(2, 2, 4, 1)]
     return [mosaic_head(stations, 1), *strips, sorting_head(desks), *jobs, flight_head(turn), *blocks, order(0b1100)]
 
 
@@ -104,7 +104,7 @@ def read_and_planned(fields):
     """What a sound sheet says, and a plan: each strip its own batch, the strips of the desks as they stand, the passes in the sheet's order."""
     sheet = reader.read(b"".join(fields))
     batches = timetable.batches_of(sheet, range(1, len(sheet.strips) + 1)) if sheet.strips else []
-    jobs = timetable.jobs_of(sheet, [desk for desk, _, _ in sheet.jobs]) if sheet.jobs else []
+    jobs = timetable.jobs_of(sheet, [desk for desk, *_ in sheet.jobs]) if sheet.jobs else []
     starts = distances.least(distances.in_order(sheet.blocks, sheet.order, sheet.turn)) if sheet.blocks else []
     plan = timetable.plan_of(sheet, batches, jobs, sheet.order, starts).bytes()
     assert judge.judge_plan(sheet, plan)[0] == 0, "the second program turns its own plan back"
@@ -115,6 +115,8 @@ def places():
     """The fields of a sheet and the index of one with values."""
     yield from ((fields_of(stations, 2), LAST[tag]) for stations in (1, 2, 3, 4) for tag in (0x10, 0x11))
     yield from ((fields_of(2, desks), LAST[tag]) for desks in (1, 2, 3) for tag in (0x20, 0x21))
+    yield from ((fields_of(stations, 2, weight=2), LAST[0x11]) for stations in (1, 2, 3, 4))
+    yield from ((fields_of(2, desks, weight=2), LAST[0x21]) for desks in (1, 2, 3))
     yield from ((fields_of(2, 2), LAST[tag]) for tag in (0x30, 0x31, 0x33))
 
 
@@ -132,10 +134,10 @@ def full_sections():
     for turn in (None, 1):
         yield from (([flight_head(turn), *blocks, number], 33) for blocks in ([one] * 32, [window] * 32))
     yield from (([flight_head(), *blocks, number], 33) for blocks in ([window] * 31 + [one], [one] * 31 + [window]))
-    for desks in (1, 2, 3):
-        yield [sorting_head(desks)] + [job(desk, 1, 1) for desk in range(1, desks + 1)] * 6, 6 * desks + 1
-    for stations in (1, 2, 3, 4):
-        yield [mosaic_head(stations, 1)] + [strip([1] * stations + [1])] * 40, 41
+    for desks, weight in ((1, None), (2, None), (3, None), (1, 3), (3, 3)):
+        yield [sorting_head(desks)] + [job(desk, 1, 1, weight) for desk in range(1, desks + 1)] * 6, 6 * desks + 1
+    for stations, weight in ((1, None), (2, None), (3, None), (4, None), (1, 3), (4, 3)):
+        yield [mosaic_head(stations, 1)] + [strip([1] * stations + [1], weight)] * 40, 41
 
 
 def one_too_many():
@@ -148,22 +150,22 @@ def one_too_many():
 
 def wrong_twice():
     """A field with values next to their ranges that is also cut short, of a wrong length or not permitted."""
-    fields = fields_of(2, 2)
-    sheet, _ = read_and_planned(fields)
-    for tag, at in LAST.items():
+    for fields, (tag, at) in itertools.product((fields_of(2, 2), fields_of(2, 2, weight=2)), LAST.items()):
+        sheet, _ = read_and_planned(fields)
         for one in with_rows(fields[at], sheet, next_to_ranges):
             content = one[3:]
             yield b"".join([*fields[:at], one[:-1]])
-            for other in (field(tag, content[:-1]), field(tag, content + b"\x01"), field(0x99, content)):
+            for other in (field(tag, content[:-1]), field(tag, content + b"\x01"), field(tag, content + b"\x01\x01"), field(0x99, content)):
                 yield replaced(fields, at, other)
 
 
-# Fields of fields_of(2, 2) with one value out of its range, one for each number, and the window with its longest delay below the shortest.
+# Fields of fields_of(2, 2) with one value out of its range, one for each number, strips also with a weight out of its range, and the window with its longest
+# delay below the shortest.
 OUT_OF_RANGE = {
     0x10: [mosaic_head(5, 1), mosaic_head(2, OVER)],
-    0x11: [strip([2, OVER, 1]), strip([2, 1, 0])],
+    0x11: [strip([2, OVER, 1]), strip([2, 1, 0]), strip([2, 1, 3], 0), strip([2, 1, 3], 101)],
     0x20: [sorting_head(4)],
-    0x21: [job(3, 1, 1), job(2, OVER, 1), job(2, 1, 0)],
+    0x21: [job(3, 1, 1), job(2, OVER, 1), job(2, 1, 0), job(2, 1, 1, 0), job(2, 1, 1, 101)],
     0x30: [flight_head(MOST_TURN + 1)],
     0x31: [block(1, OVER, 1), block(1, 4, 0)],
     0x33: [block(2, 2, OVER, 1), block(2, 2, 4, 0), block(2, 4, 3, 1)],
@@ -188,7 +190,7 @@ def put_in():
 def wrong_otherwise(one):
     """What has another number in the place of a field: 3, 4 and 5, and each of 7 to 10 where it can be given."""
     tag, content = one[0], one[3:]
-    yield from (bytes([tag, 0xFF, 0xFF]) + content, field(0x99, content), field(tag, content + b"\x01"))
+    yield from (bytes([tag, 0xFF, 0xFF]) + content, field(0x99, content), field(tag, content + b"\x01\x01"))
     if tag in HEADS:
         yield one + one
     if tag in MEMBER_OF:

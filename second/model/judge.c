@@ -3,13 +3,13 @@
 
 enum { CEILING = 10000000 };
 
-/* What the plan's fields look like: the tag of a head (a member's is one more), the lengths of both. */
+/* What the plan's fields look like: the tag of a head (a member's is one more), the lengths of both, and of the figure, which begins the head. */
 struct layout {
     uint8_t tag;
-    size_t head, member;
+    size_t head, member, figure;
 };
 
-static const struct layout layouts[3] = {{0x90, 4, 9}, {0xA0, 4, 10}, {0xB0, 12, 8}};
+static const struct layout layouts[3] = {{0x90, 8, 9, 8}, {0xA0, 8, 10, 8}, {0xB0, 12, 8, 4}};
 
 /* A section of the plan: where its head stands, and its members. */
 struct part {
@@ -59,7 +59,7 @@ static struct verdict judge_mosaic(const struct mosaic *m, const uint8_t *plan, 
     size_t done = 0;
     ready_times(m, ready);
     for (size_t k = 0; k < p.members; k++) {
-        size_t at = p.head + 7 + 12 * k, last = plan[at + 3];
+        size_t at = p.head + 11 + 12 * k, last = plan[at + 3];
         u64 start = number_at(plan + at + 4, 4), finish = number_at(plan + at + 8, 4);
         if (last <= done || last > m->strips)
             return broken(at);
@@ -69,7 +69,7 @@ static struct verdict judge_mosaic(const struct mosaic *m, const uint8_t *plan, 
         u64 due = later(mounted, last_ready) + bench_times(m, done, last);
         if (finish != due || finish > CEILING)
             return broken(at);
-        figure += (last - done) * finish;
+        figure += weights(m, done, last) * finish;
         done = last;
         before = finish;
     }
@@ -80,7 +80,7 @@ static struct verdict judge_sorting(const struct sorting *s, const uint8_t *plan
     size_t done[MOST_DESKS] = {0}, all = 0;
     u64 scanner = 0, free[MOST_DESKS] = {0}, figure = 0;
     for (size_t k = 0; k < p.members; k++) {
-        size_t at = p.head + 7 + 13 * k, desk = plan[at + 3], d = desk - 1, number = plan[at + 4];
+        size_t at = p.head + 11 + 13 * k, desk = plan[at + 3], d = desk - 1, number = plan[at + 4];
         u64 scan = number_at(plan + at + 5, 4), start = number_at(plan + at + 9, 4);
         if (desk < 1 || desk > s->desks)
             return broken(at);
@@ -93,7 +93,7 @@ static struct verdict judge_sorting(const struct sorting *s, const uint8_t *plan
             return broken(at);
         scanner = scanned;
         free[d] = finish;
-        figure += finish;
+        figure += s->weight[d][done[d]] * finish;
         done[d]++;
         all++;
     }
@@ -139,7 +139,8 @@ static struct verdict judge_section(const struct sheet *s, int section, const ui
     struct verdict v = section == 0 ? judge_mosaic(&s->mosaic, plan, p)
                      : section == 1 ? judge_sorting(&s->sorting, plan, p)
                      : judge_flight(&s->flight, plan, p);
-    if (v.fault.number == 0 && v.figure != number_at(plan + p.head + 3, 4))
+    u64 stated = number_at(plan + p.head + 3, layouts[section].figure);
+    if (v.fault.number == 0 && v.figure != stated)
         v.fault = (struct refusal){SEVULAMON_FIGURE_UNTRUE, p.head};
     return v;
 }

@@ -52,7 +52,7 @@ static void extend(const struct mosaic *m, const u64 *ready, size_t i, size_t in
     const struct beginning from = behind[i].item[index];
     for (size_t q = i + 1; q <= m->strips; q++) {
         u64 finish = finish_of(m, ready, from.free, i, q);
-        add_beginning(&behind[q], (struct beginning){finish, from.figure + (q - i) * finish, i, index});
+        add_beginning(&behind[q], (struct beginning){finish, from.figure + weights(m, i, q) * finish, i, index});
     }
 }
 
@@ -96,7 +96,7 @@ struct mosaic_plan plan_mosaic(const struct mosaic *m) {
     for (size_t k = 0, i = 0; k < plan.batches; i = plan.last[k++]) {
         plan.start[k] = free;
         plan.finish[k] = free = finish_of(m, ready, free, i, plan.last[k]);
-        plan.figure += (plan.last[k] - i) * free;
+        plan.figure += weights(m, i, plan.last[k]) * free;
     }
     return plan;
 }

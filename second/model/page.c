@@ -32,9 +32,9 @@ static void put_starts(struct writer *w, const uint8_t *starts) {
     put_number(w, 12, number_at(starts + 4, 4));
 }
 
-static void put_head(struct writer *w, char letter, const uint8_t *content) {
+static void put_head(struct writer *w, char letter, const uint8_t *figure, size_t width) {
     put_letter(w, letter);
-    put_number(w, 31, number_at(content, 4));
+    put_number(w, 31, number_at(figure, width));
 }
 
 static void put_batch(struct writer *w, size_t number, const uint8_t *content) {
@@ -61,11 +61,11 @@ static void put_block(struct writer *w, size_t number, const uint8_t *content) {
 /* The columns of a field; a member is the `number`-th of its section. */
 static void put_field(struct writer *w, uint8_t tag, size_t number, const uint8_t *content) {
     switch (tag) {
-    case 0x90: put_head(w, 'm', content); break;
+    case 0x90: put_head(w, 'm', content, 8); break;
     case 0x91: put_batch(w, number, content); break;
-    case 0xA0: put_head(w, 's', content); break;
+    case 0xA0: put_head(w, 's', content, 8); break;
     case 0xA1: put_strip(w, content); break;
-    case 0xB0: put_head(w, 'f', content); break;
+    case 0xB0: put_head(w, 'f', content, 4); break;
     case 0xB1: put_block(w, number, content); break;
     }
 }

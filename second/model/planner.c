@@ -16,14 +16,14 @@ static void put_tag(struct writer *w, uint8_t tag, size_t length) {
     put(w, 2, length);
 }
 
-/* The tag, the length and the figure of a head. */
-static void put_head(struct writer *w, uint8_t tag, size_t length, u64 figure) {
+/* The tag and the length of a head, and its figure of `width` bytes. */
+static void put_head(struct writer *w, uint8_t tag, size_t length, size_t width, u64 figure) {
     put_tag(w, tag, length);
-    put(w, 4, figure);
+    put(w, width, figure);
 }
 
 static void put_mosaic(struct writer *w, const struct mosaic_plan *p) {
-    put_head(w, 0x90, 4, p->figure);
+    put_head(w, 0x90, 8, 8, p->figure);
     for (size_t i = 0; i < p->batches; i++) {
         put_tag(w, 0x91, 9);
         put(w, 1, p->last[i]);
@@ -33,7 +33,7 @@ static void put_mosaic(struct writer *w, const struct mosaic_plan *p) {
 }
 
 static void put_sorting(struct writer *w, const struct sorting_plan *p) {
-    put_head(w, 0xA0, 4, p->figure);
+    put_head(w, 0xA0, 8, 8, p->figure);
     for (size_t i = 0; i < p->strips; i++) {
         put_tag(w, 0xA1, 10);
         put(w, 1, p->desk[i]);
@@ -44,7 +44,7 @@ static void put_sorting(struct writer *w, const struct sorting_plan *p) {
 }
 
 static void put_flight(struct writer *w, const struct flight_plan *p, size_t blocks) {
-    put_head(w, 0xB0, 12, p->figure);
+    put_head(w, 0xB0, 12, 4, p->figure);
     put(w, 8, p->order);
     for (size_t i = 0; i < blocks; i++) {
         put_tag(w, 0xB1, 8);
@@ -76,7 +76,7 @@ static struct sevulamon_answer refused(u64 number, size_t place) {
 struct sevulamon_answer sevulamon_plan(const uint8_t *sheet, size_t sheet_length, uint8_t *plan, size_t plan_length) {
     struct sheet s = {0};
     struct flight_plan flight = {.possible = true};
-    if (plan_length < SEVULAMON_PLAN_LENGTH)
+    if (plan_length < PLAN_LENGTH)
         return refused(SEVULAMON_BUFFER_TOO_SMALL, 0);
     struct refusal r = read_sheet(sheet, sheet_length, &s);
     if (r.number != 0)

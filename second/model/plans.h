@@ -4,7 +4,8 @@
 
 #include "sheet.h"
 
-enum { MOST_JOBS = MOST_DESKS * MOST_OF_DESK };
+/* The plan buffer must have this length. */
+enum { MOST_JOBS = MOST_DESKS * MOST_OF_DESK, PLAN_LENGTH = 1103 };
 
 /* The last strip of each batch, counted from 1, its mount's start and its finish. */
 struct mosaic_plan {

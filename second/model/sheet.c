@@ -27,6 +27,13 @@ u64 bench_times(const struct mosaic *m, size_t from, size_t to) {
     return sum;
 }
 
+u64 weights(const struct mosaic *m, size_t from, size_t to) {
+    u64 total = 0;
+    for (size_t j = from; j < to; j++)
+        total += m->weight[j];
+    return total;
+}
+
 bool proper(size_t blocks, u64 order) {
     size_t firsts = 0, seconds = 0;
     for (size_t k = 0; k < 2 * blocks; k++) {
@@ -56,7 +63,7 @@ static bool permitted(uint8_t tag, const struct reading *r, const struct sheet *
     return (tag == MOSAIC_STRIP || tag == SORTING_STRIP) && tag == r->open + 1;
 }
 
-/* Of a flight head the length without a turn. */
+/* Of a flight head the length without a turn, of a strip that without a weight. */
 static size_t length_due(uint8_t tag, size_t stations) {
     switch (tag) {
     case MOSAIC_HEAD: return 3;
@@ -70,10 +77,15 @@ static size_t length_due(uint8_t tag, size_t stations) {
     }
 }
 
-/* A flight head may carry the two bytes of a turn. */
+/* Whether a field of this length is a strip, of a mosaic or of a desk, with the byte of a weight behind its times. */
+static bool has_weight(uint8_t tag, size_t length, size_t stations) {
+    return (tag == MOSAIC_STRIP || tag == SORTING_STRIP) && length == length_due(tag, stations) + 1;
+}
+
+/* A flight head may carry the two bytes of a turn, a strip its weight. */
 static bool length_wrong(uint8_t tag, size_t length, size_t stations) {
     bool turn = tag == FLIGHT_HEAD && length == 2;
-    return !turn && length != length_due(tag, stations);
+    return !turn && !has_weight(tag, length, stations) && length != length_due(tag, stations);
 }
 
 /* 6 for a count that is not 1 to `most`, or 0. */
@@ -109,7 +121,7 @@ static u64 window_fault(const uint8_t *c) {
     return first_fault(before, time_fault(c + 6, 1, MOST_TIME), 0);
 }
 
-/* 6, 15 or 16 of the first value of a field, from left to right, that is out of its range, or 0. */
+/* 6, 15 or 16 of the first value of a field before its weight, from left to right, that is out of its range, or 0. */
 static u64 value_fault(uint8_t tag, const uint8_t *c, size_t length, const struct sheet *s) {
     switch (tag) {
     case MOSAIC_HEAD: return first_fault(count_fault(c[0], MOST_STATIONS), time_fault(c + 1, 0, MOST_TIME), 0);
@@ -121,6 +133,11 @@ static u64 value_fault(uint8_t tag, const uint8_t *c, size_t length, const struc
     case WINDOW: return window_fault(c);
     default: return 0;
     }
+}
+
+/* 6 for a weight that is not 1 to 100, or 0. */
+static u64 weight_fault(uint8_t tag, const uint8_t *c, size_t length, size_t stations) {
+    return has_weight(tag, length, stations) ? count_fault(c[length - 1], MOST_WEIGHT) : 0;
 }
 
 /* Whether the longest delay of a window is below the shortest. */
@@ -147,13 +164,15 @@ static struct refusal check_end(const struct reading *r, const struct sheet *s) 
     return (struct refusal){0, 0};
 }
 
-/* 4, 5, then 6, 15 or 16 by its values, 17, 7 or 9 of a field, or 0. */
+/* 4, 5, then 6, 15 or 16 by its values, the weight last, 17, 7 or 9 of a field, or 0. */
 static u64 check_field(uint8_t tag, const uint8_t *c, size_t length, const struct reading *r, const struct sheet *s) {
     if (!permitted(tag, r, s))
         return SEVULAMON_TAG_NOT_PERMITTED;
     if (length_wrong(tag, length, s->mosaic.stations))
         return SEVULAMON_LENGTH_WRONG;
     u64 fault = value_fault(tag, c, length, s);
+    if (fault == 0)
+        fault = weight_fault(tag, c, length, s->mosaic.stations);
     if (fault != 0)
         return fault;
     if (window_empty(tag, c))
@@ -165,16 +184,18 @@ static u64 check_field(uint8_t tag, const uint8_t *c, size_t length, const struc
     return 0;
 }
 
-static void add_strip(struct mosaic *m, const uint8_t *c) {
+static void add_strip(struct mosaic *m, const uint8_t *c, size_t length) {
     for (size_t k = 0; k < m->stations; k++)
         m->station[m->strips][k] = number_at(c + 2 * k, 2);
+    m->weight[m->strips] = has_weight(MOSAIC_STRIP, length, m->stations) ? c[length - 1] : 1;
     m->bench[m->strips++] = number_at(c + 2 * m->stations, 2);
 }
 
-static void add_job(struct sorting *s, const uint8_t *c) {
+static void add_job(struct sorting *s, const uint8_t *c, size_t length) {
     size_t d = c[0] - 1u, k = s->counts[d]++;
     s->scan[d][k] = number_at(c + 1, 2);
     s->desk[d][k] = number_at(c + 3, 2);
+    s->weight[d][k] = has_weight(SORTING_STRIP, length, 0) ? c[length - 1] : 1;
     s->strips++;
 }
 
@@ -200,9 +221,9 @@ static void add_field(struct sheet *s, uint8_t tag, const uint8_t *c, size_t len
         s->mosaic.stations = c[0];
         s->mosaic.mount = number_at(c + 1, 2);
         break;
-    case MOSAIC_STRIP: add_strip(&s->mosaic, c); break;
+    case MOSAIC_STRIP: add_strip(&s->mosaic, c, length); break;
     case SORTING_HEAD: s->sorting.desks = c[0]; break;
-    case SORTING_STRIP: add_job(&s->sorting, c); break;
+    case SORTING_STRIP: add_job(&s->sorting, c, length); break;
     case FLIGHT_HEAD:
         s->flight.turn = length == 0 ? 0 : number_at(c, 2);
         s->flight.head_place = at;

@@ -8,16 +8,18 @@
 
 typedef uint64_t u64;
 
-enum { MOST_TIME = 60000, MOST_TURN = 600, MOST_STRIPS = 40, MOST_DESKS = 3, MOST_OF_DESK = 6, MOST_BLOCKS = 32, FREE_BLOCKS = 8, MOST_STATIONS = 4 };
+enum { MOST_TIME = 60000, MOST_TURN = 600, MOST_WEIGHT = 100, MOST_STATIONS = 4, MOST_STRIPS = 40, MOST_DESKS = 3, MOST_OF_DESK = 6, MOST_BLOCKS = 32,
+       FREE_BLOCKS = 8 };
 
+/* A strip that carries no weight has the weight 1, here and in a sorting. */
 struct mosaic {
     size_t stations, strips;
-    u64 mount, station[MOST_STRIPS][MOST_STATIONS], bench[MOST_STRIPS];
+    u64 mount, station[MOST_STRIPS][MOST_STATIONS], bench[MOST_STRIPS], weight[MOST_STRIPS];
 };
 
 struct sorting {
     size_t desks, strips, counts[MOST_DESKS];
-    u64 scan[MOST_DESKS][MOST_OF_DESK], desk[MOST_DESKS][MOST_OF_DESK];
+    u64 scan[MOST_DESKS][MOST_OF_DESK], desk[MOST_DESKS][MOST_OF_DESK], weight[MOST_DESKS][MOST_OF_DESK];
 };
 
 /* The turn is 0 where the head is empty. A block with one delay has that as the shortest and as the longest. */
@@ -57,6 +59,9 @@ void ready_times(const struct mosaic *m, u64 *ready);
 
 /* The time of the bench for strips `from` up to, not including, `to`, counted from 0. */
 u64 bench_times(const struct mosaic *m, size_t from, size_t to);
+
+/* The sum of the weights of the same strips. */
+u64 weights(const struct mosaic *m, size_t from, size_t to);
 
 bool proper(size_t blocks, u64 order);
 

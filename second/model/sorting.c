@@ -19,7 +19,7 @@ static struct state scanned(const struct sorting *s, struct state x, size_t d) {
     size_t k = x.taken[d]++;
     x.time += s->scan[d][k];
     x.free[d] = later(x.free[d], x.time) + s->desk[d][k];
-    x.figure += x.free[d];
+    x.figure += s->weight[d][k] * x.free[d];
     x.list[x.placed++] = (struct strip){(uint8_t)d, (uint8_t)k};
     return x;
 }
@@ -30,26 +30,40 @@ static u64 least_rest(const struct sorting *s, const struct state *x, size_t d) 
     for (size_t k = x->taken[d]; k < s->counts[d]; k++) {
         time += s->scan[d][k];
         free = later(free, time) + s->desk[d][k];
-        sum += free;
+        sum += s->weight[d][k] * free;
     }
     return sum;
 }
 
-/* What the rest of all desks adds at least: as if the desks were free and the scans could stand in any order, the shortest first. */
+/* A scan and the weight of its strip. */
+struct scan {
+    u64 time, weight;
+};
+
+/* Whether of two scans the first should stand first where only the scanner counts: it has the shorter time for its weight. */
+static bool stands_first(struct scan a, struct scan b) {
+    return a.time * b.weight < b.time * a.weight;
+}
+
+/* What the rest of all desks adds at least: as if the desks were free and the scans could stand in any order, the shortest for their weights first. */
 static u64 least_scans(const struct sorting *s, const struct state *x) {
-    u64 scans[MOST_JOBS], sum = 0;
+    struct scan scans[MOST_JOBS];
+    u64 time = x->time, sum = 0;
     size_t left = 0;
     for (size_t d = 0; d < s->desks; d++)
         for (size_t k = x->taken[d]; k < s->counts[d]; k++) {
+            struct scan next = {s->scan[d][k], s->weight[d][k]};
             size_t i = left++;
-            for (; i > 0 && scans[i - 1] > s->scan[d][k]; i--)
+            for (; i > 0 && stands_first(next, scans[i - 1]); i--)
                 scans[i] = scans[i - 1];
-            scans[i] = s->scan[d][k];
-            sum += s->desk[d][k];
+            scans[i] = next;
+            sum += s->weight[d][k] * s->desk[d][k];
         }
-    for (size_t i = 0; i < left; i++)
-        sum += (left - i) * scans[i];
-    return left * x->time + sum;
+    for (size_t i = 0; i < left; i++) {
+        time += scans[i].time;
+        sum += scans[i].weight * time;
+    }
+    return sum;
 }
 
 static u64 least_figure(const struct sorting *s, const struct state *x) {
