@@ -3,8 +3,8 @@
 A planning call is compared by value: number, place, length, every byte of the plan, and every other byte of the buffer and of the bytes behind it. Which of
 several best batchings and which of several best free pass orders the plan takes is left to the program; the scanner list is not. A judging call is compared
 by its five numbers. A page call is compared by number, place, length and every byte of the buffer and behind it; of two pages of one sheet it is also asked
-whether they are equal exactly where the plans are. Of a call for a sheet with a turn of 0, or with windows of one value, it is asked whether it answers as
-with an empty flight head, or with blocks of one delay.
+whether they are equal exactly where the plans are. Of a call for a sheet with a turn of 0, with windows of one value or with weights of 1 it is asked whether
+it answers as with an empty flight head, with blocks of one delay or without these weights.
 """
 import functools
 import itertools
@@ -143,16 +143,16 @@ class AllowedCase(JudgeCase):
 
 
 class BrokenCase(JudgeCase):
-    """A plan that must be turned back with 13 at this place."""
+    """A plan that must be turned back at this place with this number: 12, 13 or 14."""
 
-    def __init__(self, sheet, plan, place):
+    def __init__(self, sheet, plan, place, number=13):
         super().__init__(sheet, plan)
-        self.place = place
+        self.number, self.place = number, place
 
     @functools.cached_property
     def due(self):
         verdict = judge.judge(self.sheet, self.plan)
-        assert verdict[:2] == (13, self.place), "the second program judges its own plan otherwise: %s\n%s" % (verdict, self.shown())
+        assert verdict[:2] == (self.number, self.place), "the second program judges its own plan otherwise: %s\n%s" % (verdict, self.shown())
         return verdict
 
 
@@ -216,14 +216,14 @@ class PagesCase:
 
 
 class SameCase:
-    """One call for two sheets that mean the same. The fields at these places of the first are two bytes longer in the other: a flight head with a turn of 0 for
-    an empty one, a window of one value for a delay. The answers must be the same but for places in the sheet, which are two higher for each such field before
-    them."""
+    """One call for two sheets that mean the same. The fields at these places of the first are so many bytes longer in the other: a flight head with a turn of 0
+    for an empty one, a window of one value for a delay, a strip with the weight 1 for one without a weight. The answers must be the same but for places in the
+    sheet, which are so much higher for each such field before them."""
 
     calls = 2
 
-    def __init__(self, one, other, longer):
-        self.both, self.longer = (one, other), longer
+    def __init__(self, one, other, longer, by):
+        self.both, self.longer, self.by = (one, other), longer, by
 
     def request(self):
         return b"".join(one.request() for one in self.both)
@@ -235,7 +235,7 @@ class SameCase:
         first, second = self.both
         one, other = answer[:first.answer_length()], answer[first.answer_length():]
         number, place = struct.unpack_from("<2Q", one)
-        higher = 0 if number in PLAN_NUMBERS else 2 * sum(place > longer for longer in self.longer)
+        higher = 0 if number in PLAN_NUMBERS else self.by * sum(place > longer for longer in self.longer)
         if other != struct.pack("<2Q", number, place + higher) + one[16:]:
             return "two sheets that mean the same give different answers"
         return first.fault(one) or second.fault(other)

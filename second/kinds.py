@@ -27,6 +27,7 @@ import timetable
 import tiny
 import turns
 import values
+import weights
 import windows
 from compare import AllowedCase, BrokenCase, JudgeCase, PageCase, PagesCase, PlanCase, ROOM, SameCase
 from reader import field
@@ -145,10 +146,10 @@ def one_gap_short():
             yield from map(PlanCase, (kept, broken, sheets.flight(blocks[:8], turn=turn), sheets.flight(blocks[:8], turn=turn + 1)))
 
 
-def same_cases(sheet, other, longer, plan):
-    """A sheet planned, judged and printed, each beside one that means the same and has longer fields at these places."""
-    yield SameCase(PlanCase(sheet), PlanCase(other), longer)
-    yield from (SameCase(case(sheet, plan), case(other, plan), longer) for case in (JudgeCase, PageCase))
+def same_cases(sheet, other, longer, plan, by=2):
+    """A sheet planned, judged and printed, each beside one that means the same and has fields at these places that are so many bytes longer."""
+    yield SameCase(PlanCase(sheet), PlanCase(other), longer, by)
+    yield from (SameCase(case(sheet, plan), case(other, plan), longer, by) for case in (JudgeCase, PageCase))
 
 
 def zero_cases(sheet, head, plan):
@@ -284,7 +285,86 @@ def mounts_fixed():
     yield "every tiny plan of mounts", every_mount()
     yield "plans with a mount or a finish about the due ones, up to the ceiling", judged_mounts()
     yield "plans that differ in the start of a mount", mounts_alone()
-    yield "every change of one byte of a plan of mounts", (JudgeCase(mounts.WORKED, plan) for plan in tiny.changes(mounts.plan_of(mounts.WORKED, mounts.CHANGED)))
+    changed = mounts.plan_of(mounts.WORKED, mounts.CHANGED)
+    yield "every change of one byte of a plan of mounts", (JudgeCase(mounts.WORKED, plan) for plan in tiny.changes(changed))
+
+
+def of_minutes(sheet):
+    """Also by the other way of trying everything."""
+    found = weights.least_by_minutes(sheet)
+    assert found == brute.of_choices(sheet), "the second program's own methods differ on weights: %s" % (found,)
+    return agreed(sheet, found)
+
+
+def known(sheet, figures, desks):
+    return PlanCase(sheet, least=lambda parsed: agreed(parsed, ((*figures, 0)[:3], desks)))
+
+
+def heavy_first(desk, number):
+    """The figures and the list of a sheet whose list must begin with so many strips of the desk."""
+    def least(sheet):
+        figures, desks = best.best(sheet)
+        assert desks[:number] == bytes([desk] * number), "the second program's own list lets a strip of weight 100 wait: %s" % desks.hex(" ")
+        return figures, desks
+    return least
+
+
+def known_weights():
+    yield from itertools.starmap(known, itertools.chain(weights.KNOWN, weights.as_scan_times()))
+    yield from (PlanCase(sheet, least=heavy_first(desk, number)) for sheet, desk, number in weights.heavy_sortings())
+
+
+def mosaics_cut():
+    """Of the smaller ones every batching is tried."""
+    yield from (PlanCase(sheet, least=of_choices) for sheet in weights.heavy_mosaics(7))
+    yield from map(PlanCase, weights.heavy_mosaics(40))
+
+
+def untrue_weights():
+    """Plans with their true figures, and with figures of other weights or of other bytes. All are printed."""
+    for sheet, plan in weights.with_plans():
+        yield from (AllowedCase(sheet, plan.bytes()), PageCase(sheet, plan.bytes()))
+        for other, place in weights.untrue(sheet, plan):
+            yield from (BrokenCase(sheet, other, place, 14), PageCase(sheet, other))
+
+
+def weights_to_ceiling():
+    """Those that are allowed are also printed, and judged with other figures."""
+    for sheet, plan, place in weights.to_ceiling():
+        if place is None:
+            yield from (AllowedCase(sheet, plan.bytes()), PageCase(sheet, plan.bytes()))
+            yield from (BrokenCase(sheet, other, 0, 14) for other, _ in weights.untrue(sheet, plan))
+        else:
+            yield BrokenCase(sheet, plan.bytes(), place)
+
+
+def other_heads():
+    for sheet, plan, place in itertools.chain(weights.other_heads(), weights.four_byte_heads()):
+        yield from (BrokenCase(sheet, plan, place, 12), PageCase(sheet, plan))
+
+
+def weights_of_one():
+    return itertools.chain.from_iterable(same_cases(*one, by=1) for one in weights.ones())
+
+
+def weights_fixed():
+    """Name and cases of those of strips with weights, which are the same for every seed too."""
+    yield "every tiny mosaic with weights", (PlanCase(sheet, least=of_minutes) for sheet in weights.every_mosaic())
+    yield "every tiny sorting with weights", (PlanCase(sheet, least=of_minutes) for sheet in weights.every_sorting())
+    yield "sheets with weights whose figure or scanner list is known", known_weights()
+    yield "mosaics with one strip of weight 100", mosaics_cut()
+    yield "every choice of strips that carry a weight", (PlanCase(sheet, least=of_choices) for sheet in weights.some_weights())
+    yield "the longest sections with weights", map(PlanCase, weights.longest_weights())
+    yield "every row of up to three fields with weights", map(PlanCase, weights.field_rows())
+    yield "plan buffers about 1,095 and 1,103 bytes", itertools.starmap(PlanCase, weights.buffers())
+    yield "every weight", all_calls(weights.every_weight())
+    yield "every change of the length or the weight of a strip", (PlanCase(sheet) for sheet, _ in weights.changes())
+    yield "plans with figures of other weights", untrue_weights()
+    yield "plans of the longest sections with weights, up to the ceiling", weights_to_ceiling()
+    yield "figures about powers of ten and 2 to the 32", (case(*one) for one in weights.digits() for case in (AllowedCase, PageCase))
+    yield "plans with a head of another length", other_heads()
+    yield "every change of one byte of a head with weights", itertools.starmap(JudgeCase, weights.changed_heads())
+    yield "weights of 1 beside none", weights_of_one()
 
 
 def fixed():
@@ -531,6 +611,24 @@ def mounts_for_large(rng, count):
         yield from itertools.starmap(judged_batches, ((sheet, *one) for one in mounts.drawn_judged(rng, sheet)))
 
 
+def small_sections_with_weights(rng, count):
+    """Every batching or interleaving tried; some with a plan that is judged with figures of other weights."""
+    for number in range(share(count, 4)):
+        sheet = weights.drawn_section(rng)
+        yield PlanCase(sheet, least=of_choices)
+        if number % 8 == 0:
+            plan = plans.idle_plan(rng, reader.read(sheet))
+            yield from (AllowedCase(sheet, plan.bytes()), PageCase(sheet, plan.bytes()))
+            yield from (BrokenCase(sheet, other, 0, 14) for other, _ in weights.untrue(sheet, plan))
+
+
+def drawn_weights_of_one(rng, count):
+    """Sheets with strips that carry no weight beside the same with weights of 1, with a plan for both."""
+    for draw, part in ((sheets.small_sheet, 16), (sheets.large_sheet, 160)):
+        found = filter(None, (weights.with_ones(rng, draw(rng)) for _ in range(share(count, part))))
+        yield from itertools.chain.from_iterable(same_cases(*one, plans.idle_plan(rng, reader.read(one[0])).bytes(), by=1) for one in found)
+
+
 DRAWN = {
     "small sheets": small_sheets, "sheets with values out of range": out_of_range, "sheets with fields of other lengths": of_other_lengths,
     "plans for small sheets": plans_for_small, "mosaics of 40 strips": mosaics,
@@ -543,6 +641,7 @@ DRAWN = {
     "small flights with windows": small_flights_with_windows, "flights of 8 free blocks with windows": free_flights_with_windows,
     "flights of 32 blocks in order with windows": large_flights_with_windows, "sheets with windows of one value": drawn_windows_of_one_value,
     "small mosaics": small_mosaics, "plans of large mosaics about their mounts": mounts_for_large,
+    "small sections with weights": small_sections_with_weights, "sheets with weights of 1 beside none": drawn_weights_of_one,
 }
 
 
@@ -562,7 +661,7 @@ def rows_of(name, cases):
 
 def chunks(count, seed):
     """All cases, a row of each kind in turn, so that every kind is met early."""
-    waiting = [rows_of(name, cases) for name, cases in itertools.chain(fixed(), mounts_fixed(), turns_fixed(), windows_fixed(), drawn(count, seed))]
+    waiting = [rows_of(name, cases) for name, cases in itertools.chain(fixed(), weights_fixed(), mounts_fixed(), turns_fixed(), windows_fixed(), drawn(count, seed))]
     while waiting:
         kind = waiting.pop(0)
         row = next(kind, None)
