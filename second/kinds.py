@@ -310,13 +310,15 @@ def heavy_first(desk, number):
 
 
 def known_weights():
+    """Also the sheets whose plan buffers are about the limits."""
     yield from itertools.starmap(known, itertools.chain(weights.KNOWN, weights.as_scan_times()))
     yield from (PlanCase(sheet, least=heavy_first(desk, number)) for sheet, desk, number in weights.heavy_sortings())
+    yield from itertools.starmap(PlanCase, weights.buffers())
 
 
-def mosaics_cut():
-    """Of the smaller ones every batching is tried."""
-    yield from (PlanCase(sheet, least=of_choices) for sheet in weights.heavy_mosaics(7))
+def few_weights():
+    """Of the smaller ones every batching or interleaving is tried."""
+    yield from (PlanCase(sheet, least=of_choices) for sheet in itertools.chain(weights.some_weights(), weights.heavy_mosaics(7)))
     yield from map(PlanCase, weights.heavy_mosaics(40))
 
 
@@ -338,6 +340,10 @@ def weights_to_ceiling():
             yield BrokenCase(sheet, plan.bytes(), place)
 
 
+def large_figures():
+    return (case(*one) for one in weights.digits() for case in (AllowedCase, PageCase))
+
+
 def other_heads():
     for sheet, plan, place in itertools.chain(weights.other_heads(), weights.four_byte_heads()):
         yield from (BrokenCase(sheet, plan, place, 12), PageCase(sheet, plan))
@@ -351,19 +357,14 @@ def weights_fixed():
     """Name and cases of those of strips with weights, which are the same for every seed too."""
     yield "every tiny mosaic with weights", (PlanCase(sheet, least=of_minutes) for sheet in weights.every_mosaic())
     yield "every tiny sorting with weights", (PlanCase(sheet, least=of_minutes) for sheet in weights.every_sorting())
-    yield "sheets with weights whose figure or scanner list is known", known_weights()
-    yield "mosaics with one strip of weight 100", mosaics_cut()
-    yield "every choice of strips that carry a weight", (PlanCase(sheet, least=of_choices) for sheet in weights.some_weights())
+    yield "sheets with weights whose figure, scanner list or refusal is known", known_weights()
+    yield "sections of which some strips or one carry a weight", few_weights()
     yield "the longest sections with weights", map(PlanCase, weights.longest_weights())
-    yield "every row of up to three fields with weights", map(PlanCase, weights.field_rows())
-    yield "plan buffers about 1,095 and 1,103 bytes", itertools.starmap(PlanCase, weights.buffers())
     yield "every weight", all_calls(weights.every_weight())
-    yield "every change of the length or the weight of a strip", (PlanCase(sheet) for sheet, _ in weights.changes())
-    yield "plans with figures of other weights", untrue_weights()
+    yield "every row of up to three fields with weights, every other length and weight of a strip", map(PlanCase, weights.rows_and_changes())
     yield "plans of the longest sections with weights, up to the ceiling", weights_to_ceiling()
-    yield "figures about powers of ten and 2 to the 32", (case(*one) for one in weights.digits() for case in (AllowedCase, PageCase))
-    yield "plans with a head of another length", other_heads()
-    yield "every change of one byte of a head with weights", itertools.starmap(JudgeCase, weights.changed_heads())
+    yield "plans with figures of other weights, and of eight bytes", itertools.chain(untrue_weights(), large_figures())
+    yield "plans with a head of another length or another byte", itertools.chain(other_heads(), itertools.starmap(JudgeCase, weights.changed_heads()))
     yield "weights of 1 beside none", weights_of_one()
 
 

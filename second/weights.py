@@ -13,13 +13,13 @@ Sheets whose figure or list is known in another way:
 Sheets that are planned:
 - strips in which one, at each place in turn, has the weight 100, so that a batch is cut for it, with several mount times;
 - every choice of the strips that carry a weight, among three;
-- full sections of the longest times and weights, and with one weight one less at every place in turn;
+- full sections of the longest times and weights, and with one weight one less at several places in turn;
 - every row of none to three fields of a list with strips of good and bad weights;
+- every change of the bytes of a strip's length and of its weight;
 - the sheet of the longest plan, and one with weights, with plan buffers about 1,095 and 1,103 bytes.
 
 Sheets that are planned, judged and printed:
-- every weight of 0 to 255, of strips of one to four stations and of a desk's;
-- every change of the bytes of a strip's length and of its weight.
+- every weight of 0 to 255, of strips of one to four stations and of a desk's.
 
 Plans that are judged, most of them also printed:
 - with the figures of other weights, and with figures that are right in their lower or upper four bytes alone;
@@ -171,30 +171,32 @@ def some_weights():
         yield sorting([[(1, 2, weights[0]), (2, 1, weights[1])], [(1, 1, weights[2])]])
 
 
-def longest_weights():
-    """The full sections of longest.py with the weight 100 for each strip, and the same with one weight one less."""
-    for stations in (1, 4):
-        weights = [MOST_WEIGHT] * 40
-        for row in [weights, *(weights[:k] + [MOST_WEIGHT - 1] + weights[k + 1:] for k in range(40))]:
-            yield mosaic(MOST_TIME, [(*times, weight) for times, weight in zip(longest.longest(40, stations + 1), row)])
-    for desks in longest.QUEUES:
-        weights = [MOST_WEIGHT] * len(desks)
-        for row in [weights, *(weights[:k] + [MOST_WEIGHT - 1] + weights[k + 1:] for k in range(len(desks)))]:
-            yield longest_sorting(desks, row)
+def longest_mosaic(stations, weights):
+    return mosaic(MOST_TIME, [(*times, weight) for times, weight in zip(longest.longest(40, stations + 1), weights)])
 
 
 def longest_sorting(desks, weights):
     return longest.sorting(desks, [(MOST_TIME, MOST_TIME, weight) for weight in weights])
 
 
+def greatest(n, one_less):
+    """Rows of n weights: all the greatest, and one at these places in turn one less."""
+    yield [MOST_WEIGHT] * n
+    yield from ([MOST_WEIGHT - (k == at) for k in range(n)] for at in one_less)
+
+
+def longest_weights():
+    """The full sections of longest.py with these weights."""
+    for stations, places in ((1, range(40)), (4, (0, 20, 39))):
+        yield from (longest_mosaic(stations, row) for row in greatest(40, places))
+    for desks in longest.QUEUES:
+        yield from (longest_sorting(desks, row) for row in greatest(len(desks), range(len(desks))))
+
+
 FIELDS = [
     mosaic_head(1, 0), strip([0, 1]), strip([0, 1], 2), strip([0, 1], 0), strip([0, 1], 101), strip([0, 0], 0), sorting_head(2), job(1, 1, 1), job(2, 1, 1, 100),
     job(2, 1, 1, 0), job(2, 1, 1, 101), job(3, 1, 1, 101), job(1, 0, 1, 255), flight([(1, 0, 1)]),
 ]
-
-
-def field_rows():
-    return map(b"".join, tiny.rows(FIELDS, 0, 3))
 
 
 # A sheet with all three sections, all weights different and one strip of each section without one.
@@ -225,12 +227,12 @@ def every_weight():
         yield values.replaced(fields, at, fields[at][:-1] + bytes([weight])), values.read_and_planned(sound)[1]
 
 
-def changes():
-    """A sheet with one byte of a strip's length or its weight changed, and a plan for the sheet without that."""
-    plan = small_plan().bytes()
+def rows_and_changes():
+    """Rows of fields, and the sheet above with one byte of a strip's length or its weight changed."""
+    yield from map(b"".join, tiny.rows(FIELDS, 0, 3))
     for at, one in enumerate(SMALL):
-        for byte in {1, 2, len(one) - 1} if one[0] in (0x11, 0x21) else ():
-            yield from ((values.replaced(SMALL, at, one[:byte] + bytes([value]) + one[byte + 1:]), plan) for value in range(256) if value != one[byte])
+        for byte in (1, 2, len(one) - 1) if one[0] in (0x11, 0x21) else ():
+            yield from (values.replaced(SMALL, at, one[:byte] + bytes([value]) + one[byte + 1:]) for value in range(256) if value != one[byte])
 
 
 def other_figures(figure):
@@ -277,7 +279,7 @@ def with_plans():
 
 def to_ceiling():
     """A sheet, a plan, and None or the place of 13: the longest sections with the weight 100, at the ceiling and behind it."""
-    full = mosaic(MOST_TIME, [(*times, MOST_WEIGHT) for times in longest.longest(40, 2)])
+    full = longest_mosaic(1, [MOST_WEIGHT] * 40)
     parsed = reader.read(full)
     for lasts in ([40], [1, 40], list(range(1, 41))):
         plan = timetable.plan_of(parsed, timetable.batches_of(parsed, lasts), [], None, [])

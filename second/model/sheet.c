@@ -135,9 +135,9 @@ static u64 value_fault(uint8_t tag, const uint8_t *c, size_t length, const struc
     }
 }
 
-/* 6 for a weight that is not 1 to 100, or 0. */
-static u64 weight_fault(uint8_t tag, const uint8_t *c, size_t length, size_t stations) {
-    return has_weight(tag, length, stations) ? count_fault(c[length - 1], MOST_WEIGHT) : 0;
+/* The weight of a strip, and 1 for every field that carries none. */
+static u64 weight_of(uint8_t tag, const uint8_t *c, size_t length, size_t stations) {
+    return has_weight(tag, length, stations) ? c[length - 1] : 1;
 }
 
 /* Whether the longest delay of a window is below the shortest. */
@@ -172,7 +172,7 @@ static u64 check_field(uint8_t tag, const uint8_t *c, size_t length, const struc
         return SEVULAMON_LENGTH_WRONG;
     u64 fault = value_fault(tag, c, length, s);
     if (fault == 0)
-        fault = weight_fault(tag, c, length, s->mosaic.stations);
+        fault = count_fault(weight_of(tag, c, length, s->mosaic.stations), MOST_WEIGHT);
     if (fault != 0)
         return fault;
     if (window_empty(tag, c))
@@ -187,7 +187,7 @@ static u64 check_field(uint8_t tag, const uint8_t *c, size_t length, const struc
 static void add_strip(struct mosaic *m, const uint8_t *c, size_t length) {
     for (size_t k = 0; k < m->stations; k++)
         m->station[m->strips][k] = number_at(c + 2 * k, 2);
-    m->weight[m->strips] = has_weight(MOSAIC_STRIP, length, m->stations) ? c[length - 1] : 1;
+    m->weight[m->strips] = weight_of(MOSAIC_STRIP, c, length, m->stations);
     m->bench[m->strips++] = number_at(c + 2 * m->stations, 2);
 }
 
@@ -195,7 +195,7 @@ static void add_job(struct sorting *s, const uint8_t *c, size_t length) {
     size_t d = c[0] - 1u, k = s->counts[d]++;
     s->scan[d][k] = number_at(c + 1, 2);
     s->desk[d][k] = number_at(c + 3, 2);
-    s->weight[d][k] = has_weight(SORTING_STRIP, length, 0) ? c[length - 1] : 1;
+    s->weight[d][k] = weight_of(SORTING_STRIP, c, length, 0);
     s->strips++;
 }
 

@@ -35,39 +35,51 @@ static u64 least_rest(const struct sorting *s, const struct state *x, size_t d) 
     return sum;
 }
 
-/* A scan and the weight of its strip. */
-struct scan {
+/* Scans of one desk that stand together: the desk, their number, their time and the weight of their strips. */
+struct run {
+    size_t desk, strips;
     u64 time, weight;
 };
 
-/* Whether of two scans the first should stand first where only the scanner counts: it has the shorter time for its weight. */
-static bool stands_first(struct scan a, struct scan b) {
+/* Whether of two runs the first should stand first where only the scanner counts: it has the shorter time for its weight. */
+static bool stands_first(struct run a, struct run b) {
     return a.time * b.weight < b.time * a.weight;
 }
 
-/* What the rest of all desks adds at least: as if the desks were free and the scans could stand in any order, the shortest for their weights first. */
-static u64 least_scans(const struct sorting *s, const struct state *x) {
-    struct scan scans[MOST_JOBS];
-    u64 time = x->time, sum = 0;
-    size_t left = 0;
-    for (size_t d = 0; d < s->desks; d++)
-        for (size_t k = x->taken[d]; k < s->counts[d]; k++) {
-            struct scan next = {s->scan[d][k], s->weight[d][k]};
-            size_t i = left++;
-            for (; i > 0 && stands_first(next, scans[i - 1]); i--)
-                scans[i] = scans[i - 1];
-            scans[i] = next;
-            sum += s->weight[d][k] * s->desk[d][k];
+/* Of the runs that begin with strip k of desk d, the one that should stand first. */
+static struct run first_run(const struct sorting *s, size_t d, size_t k) {
+    struct run first = {d, 1, s->scan[d][k], s->weight[d][k]}, longer = first;
+    for (size_t j = k + 1; j < s->counts[d]; j++) {
+        longer = (struct run){d, longer.strips + 1, longer.time + s->scan[d][j], longer.weight + s->weight[d][j]};
+        if (stands_first(longer, first))
+            first = longer;
+    }
+    return first;
+}
+
+/* What the rest of all desks adds at least: as if the desks were free. Then, run after run, the one that should stand first is best. */
+static u64 least_scans(const struct sorting *s, struct state x) {
+    u64 scanner = x.time, sum = 0;
+    while (x.placed < s->strips) {
+        struct run first = {0};
+        for (size_t d = 0; d < s->desks; d++) {
+            if (x.taken[d] == s->counts[d])
+                continue;
+            struct run own = first_run(s, d, x.taken[d]);
+            if (first.strips == 0 || stands_first(own, first))
+                first = own;
         }
-    for (size_t i = 0; i < left; i++) {
-        time += scans[i].time;
-        sum += scans[i].weight * time;
+        for (x.placed += first.strips; first.strips > 0; first.strips--) {
+            size_t d = first.desk, k = x.taken[d]++;
+            scanner += s->scan[d][k];
+            sum += s->weight[d][k] * (scanner + s->desk[d][k]);
+        }
     }
     return sum;
 }
 
 static u64 least_figure(const struct sorting *s, const struct state *x) {
-    return x->figure + later(least_rest(s, x, 0) + least_rest(s, x, 1) + least_rest(s, x, 2), least_scans(s, x));
+    return x->figure + later(least_rest(s, x, 0) + least_rest(s, x, 1) + least_rest(s, x, 2), least_scans(s, *x));
 }
 
 /* Whether a list that begins with x can be better than the best so far, or is the same. */
