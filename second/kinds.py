@@ -6,6 +6,9 @@ times 1, scans so long that no desk is waited for, and desks so long that the sc
 the middle one or the first, and up to 3 strips of each, where every interleaving is tried, or all 6; some stand beside a mosaic, a flight or both. Of the
 small ones plans with any of the best lists are judged and printed.
 
+Strips that are drawn, in every kind, have no weight in three of eight sections; in the others all have one, or some. The weights of sortings with ties are few
+or the same at all desks.
+
 Flights have an empty head or a turn: of those that are drawn, in every kind, three of eight an empty head, the others 0, any turn, one up to the shortest
 of the blocks' longest delays or one next to it. Their blocks have one delay, a window, or are of both kinds.
 """
@@ -310,7 +313,7 @@ def heavy_first(desk, number):
 
 
 def known_weights():
-    """Also the sheets whose plan buffers are about the limits."""
+    """Also two sheets with plan buffers about their least length."""
     yield from itertools.starmap(known, itertools.chain(weights.KNOWN, weights.as_scan_times()))
     yield from (PlanCase(sheet, least=heavy_first(desk, number)) for sheet, desk, number in weights.heavy_sortings())
     yield from itertools.starmap(PlanCase, weights.buffers())
@@ -662,7 +665,8 @@ def rows_of(name, cases):
 
 def chunks(count, seed):
     """All cases, a row of each kind in turn, so that every kind is met early."""
-    waiting = [rows_of(name, cases) for name, cases in itertools.chain(fixed(), weights_fixed(), mounts_fixed(), turns_fixed(), windows_fixed(), drawn(count, seed))]
+    every = itertools.chain(fixed(), weights_fixed(), mounts_fixed(), turns_fixed(), windows_fixed(), drawn(count, seed))
+    waiting = [rows_of(name, cases) for name, cases in every]
     while waiting:
         kind = waiting.pop(0)
         row = next(kind, None)

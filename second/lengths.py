@@ -4,7 +4,8 @@ A field of another length has its content cut, or bytes behind it.
 
 Sheets that are planned, judged and printed, with a plan that is allowed for the sheet without the change:
 - every field of mosaics of one to four stations and of sortings of one to three desks, some strips with a weight, and of flights with and without a turn, with
-  0 to 16 bytes, with 256 bytes more than are due, and with as many as a length due says with its two bytes exchanged; the bytes behind the content are 0, 1 or FF.
+  0 to 16 bytes, with 256 bytes more than are due, and with as many as a length due says with its two bytes exchanged; the bytes behind the content are 0, 1
+  or FF.
 
 Sheets that are planned:
 - every field with a length of 0 to 300 that is stated only, so that the next field is read from another place;

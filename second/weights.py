@@ -6,7 +6,7 @@ that are not complete:
 - sortings of two desks with none to two strips at each, of three with none or one, and of equal times with three strips at two desks or two at three.
 
 Sheets whose figure or list is known in another way:
-- two strips or three whose best plan is written down, with weights and without;
+- two strips or three whose figure is written down, with weights and without;
 - sortings whose weights are as their scan times, with every desk free in time: every scanner list has the same figure, so the desks come one after another;
 - full sortings of equal strips of which one, at each place in turn, has the weight 100: its desk comes first until it is scanned.
 
@@ -97,6 +97,7 @@ def least_by_minutes(sheet):
 
 
 def with_weights(times, weights):
+    """Strips of these times, each with each of these weights."""
     return [(*one, weight) for one, weight in itertools.product(times, weights)]
 
 
@@ -118,9 +119,9 @@ def every_sorting():
         yield from (sorting(queues) for queues in itertools.product(tiny.rows(with_weights([times], (None, 2)), n, n), repeat=desks))
 
 
-# Sheets, their least figures and their scanner lists. The strips of the first mosaic are all ready at 0; a mount takes 10 minutes. In one batch they are complete
-# at 13. With the weight 100 for the first one, it is worth a mount of its own: 100 * 11 + 2 * 23. The mosaic with the weight 100 for the last strip is one batch.
-# The sortings are the two worked ones. With the weight 100 the strip with the longer scan goes first: 100 * 7 + 4. With equal strips the heavier one goes first.
+# Sheets, their least figures and their scanner lists. The strips of the mosaics are all ready at 0, and a mount takes 10 minutes. In one batch they are
+# complete at 13. A first strip of weight 100 is worth a mount of its own: 100 * 11 + 2 * 23. With a last strip of weight 100 one batch stays best.
+# The sortings are two worked ones. A strip of weight 100 goes first although its scan is longer: 100 * 7 + 4. Of equal strips the one with more weight does.
 KNOWN = [
     (mosaic(10, [(0, 1, None)] * 3), (39, 0), b""),
     (mosaic(10, [(0, 1, 100), (0, 1, None), (0, 1, None)]), (1146, 0), b""),
@@ -134,8 +135,8 @@ KNOWN = [
 
 
 def as_scan_times():
-    """A sheet with a sorting, its figure and its scanner list. Each weight is its scan time, or some times it; no scan is shorter than a desk time. Of any two
-    strips of such a list the later one's weight times the other's scan time is in the figure, whichever comes first."""
+    """A sheet with a sorting, its figure and its scanner list. Each weight is the scan time, or some times it, and no scan is shorter than a desk time. Any two
+    strips add the later one's weight times the other's scan time to the figure, which is the same number whichever of them is the later one."""
     for counts, least, times in itertools.product([(6, 6, 6), (6, 0, 6), (6, 6), (2, 3, 4), (1, 1, 1)], (1, 4), (1, 9)):
         queues = [[(scan, least, times * scan) for scan in range(least + desk, least + desk + count)] for desk, count in enumerate(counts)]
         scans = [scan for queue in queues for scan, _, _ in queue]
@@ -159,7 +160,7 @@ def heavy_sortings():
 
 
 def heavy_mosaics(most):
-    """Up to so many strips, one of them with the weight 100."""
+    """Three or so many strips, one of them with the weight 100."""
     for n, (time, bench), mount in itertools.product((3, most), ((0, 1), (1, 1), (5, 3), (0, 40)), (0, 3, 20, 300)):
         yield from (mosaic(mount, one_heavy([(time, bench)] * n, at)) for at in range(0, n, max(1, n // 8)))
 
@@ -194,21 +195,20 @@ def longest_weights():
 
 
 FIELDS = [
-    mosaic_head(1, 0), strip([0, 1]), strip([0, 1], 2), strip([0, 1], 0), strip([0, 1], 101), strip([0, 0], 0), sorting_head(2), job(1, 1, 1), job(2, 1, 1, 100),
-    job(2, 1, 1, 0), job(2, 1, 1, 101), job(3, 1, 1, 101), job(1, 0, 1, 255), flight([(1, 0, 1)]),
+    mosaic_head(1, 0), strip([0, 1]), strip([0, 1], 2), strip([0, 1], 0), strip([0, 1], 101), strip([0, 0], 0), sorting_head(2), job(1, 1, 1),
+    job(2, 1, 1, 100), job(2, 1, 1, 0), job(2, 1, 1, 101), job(3, 1, 1, 101), job(1, 0, 1, 255), flight([(1, 0, 1)]),
 ]
 
-
-# A sheet with all three sections, all weights different and one strip of each section without one.
+# The fields of a sheet with all three sections. All weights are different, and one strip of the mosaic and one of the sorting carry none.
 SMALL = [
     mosaic_head(2, 1), strip([2, 1, 1], 7), strip([0, 3, 3]), strip([1, 1, 1], 100), sorting_head(2), job(1, 2, 5, 3), job(2, 1, 1, 90), job(1, 1, 1),
     flight([(1, 2, 1), (2, 3, 1)], 0xC),
 ]
 
 
-def small_plan(lasts=(1, 2, 3), desks=(2, 1, 1), sheet=b"".join(SMALL)):
-    """A plan of such a sheet."""
-    parsed = reader.read(sheet)
+def small_plan(lasts=(1, 2, 3), desks=(2, 1, 1)):
+    """A plan of that sheet."""
+    parsed = reader.read(b"".join(SMALL))
     starts = timetable.passes_of(parsed.blocks, [0, 1])
     return timetable.plan_of(parsed, timetable.batches_of(parsed, lasts), timetable.jobs_of(parsed, desks), 0xC, starts)
 
@@ -263,7 +263,7 @@ def untrue(sheet, plan):
 
 
 def with_plans():
-    """Sheets and plans."""
+    """Sheets with weights, and their plans."""
     small = b"".join(SMALL)
     for lasts, desks in itertools.product(brute.batchings(3), brute.interleavings((2, 1, 0))):
         yield small, small_plan(lasts, desks)
@@ -315,7 +315,7 @@ def other_heads():
 
 
 def four_byte_heads():
-    """A sheet and a plan whose heads have figures of four bytes, as all heads had, of the sections of each choice."""
+    """A sheet, a plan in which the heads of some mosaics and sortings have figures of four bytes, and the place of the first of these."""
     for sections, short in itertools.product(tiny.SETS, tiny.SETS):
         if set(short) & set(sections) & {"m", "s"}:
             heads = {one: field(tiny.HEADS[one][0], struct.pack("<I", 2)) if one in short and one != "f" else tiny.HEADS[one] for one in sections}
@@ -357,7 +357,7 @@ BEHIND = [
 def ones():
     """Two sheets that mean the same, the places of the longer fields, and a plan."""
     small = values.fields_of(2, 2)
-    for fields, behind in itertools.product(([*small[:3]], [*small[3:6]], small[:6], SMALL[:4], SMALL[4:8]), BEHIND):
+    for fields, behind in itertools.product((small[:3], small[3:6], small[:6], SMALL[:4], SMALL[4:8]), BEHIND):
         free = without_weights(fields)
         for size in {1, len(free)}:
             yield from ((*beside(fields + behind, which), tiny.small_plan()) for which in itertools.combinations(free, size))
