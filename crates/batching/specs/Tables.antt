@@ -1,5 +1,6 @@
 -- What the functions ask and do: the tables hold the values of the recursion, said of the lists behind the slices.
--- rs: ready times, strip q at q - 1. sums: bench times added up, those of the first q strips at q. weights: the strips' weights added up alike. row: one row of least figures, after strip p at p.
+-- rs: ready times, strip q at q - 1. sums: bench times added up, those of the first q strips at q. weights: the strips' weights added up alike. row: one row of
+-- least figures, after strip p at p.
 -- late: figures of the batches that wait for their last strip, batch i, q at width i + q.
 use mathlib.Core.Path.{_≡_}
 use mathlib.Core.List.{List, _∷_}

@@ -1,6 +1,7 @@
 // Batches of neighbouring strips at one bench: the tables of least figures (in the literature: batching on one machine with release dates and an anticipatory
-// setup for each batch, for the least sum of weighted completion times). A block is a run of batches with no pause: the bench work of its first batch waits for its last
-// strip, and that of the others waits for none. `row` holds the least figures after each strip for one block; `late` those that begin with a batch that waits.
+// setup for each batch, for the least sum of weighted completion times). A block is a run of batches with no pause: the bench work of its first batch waits for
+// its last strip, and that of the others waits for none. `row` holds the least figures after each strip for one block; `late` those that begin with a batch
+// that waits.
 ghost use mathlib.Core.Path.{_≡_};
 ghost use Prim.Native.Nat.{_-_};
 ghost use lib.ListN.{getD};

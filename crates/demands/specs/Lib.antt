@@ -83,7 +83,7 @@ use Rattle.judge.specs.Judged.{partAt, turnedBack, found, judged}
 use Rattle.judge_members.specs.Members.{present, memberPlace}
 use Rattle.judge_members.specs.declared.Progress.{Progress}
 use Rattle.judge_laws.specs.Due.{DueUpTo, LayoutFault, LaidOut}
-use Rattle.judge_laws.specs.HeadLength.{WideHead, wide-head-not-due}
+use Rattle.judge_laws.specs.HeadLength.{EightByteHead, another-length-not-due}
 use Rattle.judge.specs.declared.Judged.{Judged}
 use Rattle.judge_laws.specs.Fault.{MemberFollows, HeadFollows, SectionFault, Fault}
 use Rattle.judge_laws.specs.Fault.{Reached as Judging}
@@ -1175,7 +1175,7 @@ module _ (sheet : List ℕ) (sound : readSheet sheet .number ≡ 0) where
   whole-sheet = read-sound sheet sound
 
   -- "A mosaic or sorting strip may carry one last byte, its weight, 1 to 100; absent means 1": the weight of strip j of the mosaic, and of strip k of desk d,
-  -- all from 0, is the one that its field gives, and from 1 to 100.
+  -- all from 0, is the one that its own field gives, and from 1 to 100. So strips with and without a weight may be mixed.
   pub weight-of-a-mosaic-strip : (j : ℕ) → j < readSheet sheet .mosaic .strips
       → MosaicWeightRead sheet j (getD (readSheet sheet .mosaic .weight) j 0) × Between 1 (getD (readSheet sheet .mosaic .weight) j 0) mostWeight
   weight-of-a-mosaic-strip j l = (
@@ -1191,17 +1191,23 @@ module _ (sheet : List ℕ) (sound : readSheet sheet .number ≡ 0) where
     record { at-least = whole-sheet .sorting .least-weight d k l; at-most = whole-sheet .sorting .most-weight (6 * d + k) },
   )
 
-  -- "A sheet of unweighted strips has the figures it had": where no strip carries a weight, the figure of a plan is the sum of completions, and the sum of
-  -- desk finishing times, without any weight.
-  pub unweighted-mosaic-figure : Unweighted sheet → (bs : List Batch) → mosaicFigure (readSheet sheet .mosaic) bs ≡ completionSum (readSheet sheet .mosaic) bs
-  unweighted-mosaic-figure u bs = mosaic-unweighted (readSheet sheet .mosaic) bs (unweighted-mosaic sheet sound u)
+  -- "A sheet of unweighted strips has the figures it had": where no strip of the mosaic carries a weight, the figure of every allowed plan, ours among them, is
+  -- the sum of completions as 01 has it, and where none of the sorting does, the sum of desk finishing times.
+  module _ (plan : List ℕ) (a : AllowedFor sheet plan) where
+    pub unweighted-mosaic-figure : Unweighted mosaicStripTag sheet
+        → figureOfMosaic (readSheet sheet) (a .allowed .plan) ≡ completionSum (readSheet sheet .mosaic) (a .allowed .plan .batches)
+    unfolding figureOfMosaic
+    unweighted-mosaic-figure u = mosaic-unweighted (readSheet sheet .mosaic) (a .allowed .plan .batches) (unweighted-mosaic sheet sound u)
 
-  pub unweighted-sorting-figure : Unweighted sheet → (js : List Job) → SortingLawful (readSheet sheet .sorting) js
-      → sortingFigure (readSheet sheet .sorting) js ≡ finishSum (readSheet sheet .sorting) js
-  unweighted-sorting-figure u js law = sorting-unweighted (readSheet sheet .sorting) js law (unweighted-sorting sheet sound u)
+    pub unweighted-sorting-figure : Unweighted sortingStripTag sheet
+        → figureOfSorting (readSheet sheet) (a .allowed .plan) ≡ finishSum (readSheet sheet .sorting) (a .allowed .plan .jobs)
+    unfolding figureOfSorting
+    unweighted-sorting-figure u =
+        sorting-unweighted (readSheet sheet .sorting) (a .allowed .plan .jobs) (a .allowed .lawful .sorting) (unweighted-sorting sheet sound u)
 
--- "any other value is 6": a weight that is not from 1 to 100, of a strip whose values before it are within their ranges, at the strip's field, whatever stands
--- behind it; with buffers large enough for the planner, for every plan by the judge, and with a page buffer large enough for the page.
+-- "any other value is 6": 0 is 6 as well, and not 16. A weight that is not from 1 to 100, of a strip whose values before it are within their ranges (else the
+-- first of those that is not decides), is refused at the strip's field, also where the strip is one too many, and whatever stands behind it: with buffers large
+-- enough by the planner, for every plan by the judge, and with a page buffer large enough by the page.
 pub another-weight-is-six : (sheet plan table planAfter tableEnd : List ℕ) (r : Answer) → Called sheet plan table planAfter tableEnd r → Large plan table
     → (place : ℕ) → RefusedForContent sheet (WeightOut sheet) place → r ≡ answer outOfRange place 0
 another-weight-is-six sheet plan table planAfter tableEnd r call large place f =
@@ -1217,7 +1223,7 @@ another-weight-paged-six sheet plan page pageAfter r call large place f =
     paged-six sheet plan page pageAfter r call .always large place (weight-refused sheet place f)
 
 -- "Mosaic and sorting figures take eight bytes in the plan": in every allowed plan of a sheet with a mosaic, and with a sorting, the head is its tag, the
--- length 8 and the figure in eight bytes ..
+-- length 8 and the figure in eight bytes. All other fields of a plan are as they were (plan_format, Format.antt).
 module _ (sheet plan : List ℕ) (a : AllowedFor sheet plan) where
   pub mosaic-figure-in-eight-bytes : 0 < readSheet sheet .mosaic .strips
       → plan
@@ -1241,7 +1247,7 @@ module _ (sheet plan : List ℕ) (a : AllowedFor sheet plan) where
       ∙ ap (λ (bytes : List ℕ). mosaicFields (readSheet sheet .mosaic) (a .allowed .plan .batches) ++ bytes ++ flightFields (readSheet sheet .flight) (a .allowed .plan .order) (a .allowed .plan .passes))
       (present-some (stripsInAll (readSheet sheet .sorting)) _ some)
 
-  -- .. where it has room: 40 strips, and 18, of weight 100 that are complete at 10,000,000 at the latest.
+  -- The figure has room there: it is at most that of 40 strips, in the sorting 18, of weight 100 that are all complete at 10,000,000.
   pub figures-of-an-allowed-plan : (figureOfMosaic (readSheet sheet) (a .allowed .plan) ≤ mostStrips * (mostWeight * ceiling))
       × (figureOfSorting (readSheet sheet) (a .allowed .plan) ≤ mostDesks * mostStripsOfDesk * (mostWeight * ceiling))
   unfolding figureOfMosaic figureOfSorting
@@ -1252,16 +1258,16 @@ module _ (sheet plan : List ℕ) (a : AllowedFor sheet plan) where
 
 -- A head of tag 90 or A0 with any other length, as one of four bytes, is 12 at it, where every field before it is one that is due.
 pub another-head-length-is-twelve : (sheet plan : List ℕ) (j : Judged) → j ≡ judged sheet plan → readSheet sheet .number ≡ 0 → (n at k tag len : ℕ)
-    → DueUpTo (readSheet sheet) plan n at k → fieldAt plan at ≡ Whole tag len → WideHead tag → (len ≡ 8 → ⊥) → j ≡ turnedBack layoutWrong at
+    → DueUpTo (readSheet sheet) plan n at k → fieldAt plan at ≡ Whole tag len → EightByteHead tag → (len ≡ 8 → ⊥) → j ≡ turnedBack layoutWrong at
 another-head-length-is-twelve sheet plan j call sound n at k tag len due e wide other =
     turns-back-for-its-fault sheet plan j call layoutWrong at
     (Fault.in-layout sound
-    (LayoutFault.wrong-field n k due (omega (arith, whole-at plan at tag len e .within)) (wide-head-not-due (readSheet sheet) plan at k tag len e wide other)) refl)
+    (LayoutFault.wrong-field n k due (omega (arith, whole-at plan at tag len e .within)) (another-length-not-due (readSheet sheet) plan at k tag len e wide other)) refl)
 
 -- "and the plan buffer must have 1,103": with fewer bytes the call gives 2, and of a buffer with as many or more the length has no part in the answer.
 module _ (sheet plan table planAfter tableEnd : List ℕ) (r : Answer) (call : Called sheet plan table planAfter tableEnd r) (working : tableLength ≤ length table) where
-  pub buffer-of-1102-is-two : length plan < 1_103 → r ≡ answer bufferTooSmall 0 0
-  buffer-of-1102-is-two l = turned-back sheet plan table planAfter tableEnd r call bufferTooSmall 0 (TurnedBack.buffer-small working l refl refl)
+  pub below-1103-is-two : length plan < 1_103 → r ≡ answer bufferTooSmall 0 0
+  below-1103-is-two l = turned-back sheet plan table planAfter tableEnd r call bufferTooSmall 0 (TurnedBack.buffer-small working l refl refl)
 
   pub buffer-of-1103-is-enough : 1_103 ≤ length plan → r ≡ sheetAnswer (readSheet sheet)
   unfolding answerOf
@@ -1292,23 +1298,50 @@ pub data OnesWritten (sheet : List ℕ) : List ℕ → Type 0 where
       → Reached (withoutWeight before tag content rest) st → st .at ≡ length before → StripAt st tag (length content)
       → OnesWritten sheet (withWeightOne before tag content rest)
 
--- "Absent and 1 give the same plan bytes": two calls with the same buffers give the same number and length, and leave the same in both buffers; where the one is
--- accepted, the other is, with the same answer.
-pub ones-written-planned : (sheet other plan table planAfter tableEnd otherAfter otherEnd : List ℕ) (r q : Answer) → OnesWritten sheet other
+-- "Absent and 1 give the same plan bytes" (reading 30): two calls with the same buffers give the same number and length, and leave the same in both buffers.
+ones-planned : (sheet other plan table planAfter tableEnd otherAfter otherEnd : List ℕ) (r q : Answer) → OnesWritten sheet other
     → Called sheet plan table planAfter tableEnd r → Called other plan table otherAfter otherEnd q
     → (q .number ≡ r .number) × (q .length ≡ r .length) × (otherAfter ≡ planAfter) × (otherEnd ≡ tableEnd)
-ones-written-planned sheet other plan table planAfter tableEnd otherAfter otherEnd r q none call next = (
+ones-planned sheet other plan table planAfter tableEnd otherAfter otherEnd r q none call next = (
   ap (λ (x : Answer). x .number) (next .answer ∙ sym (call .answer)),
   ap (λ (x : Answer). x .length) (next .answer ∙ sym (call .answer)),
   next .buffer ∙ sym (call .buffer),
   next .table ∙ sym (call .table),
 )
-ones-written-planned sheet other plan table planAfter tableEnd otherAfter otherEnd r q (one-more before tag content rest st w reached here strip) call next =
+ones-planned sheet other plan table planAfter tableEnd otherAfter otherEnd r q (one-more before tag content rest st w reached here strip) call next =
     let middle : Called (withoutWeight before tag content rest) plan table _ _ _ = record { answer = refl; buffer = refl; table = refl } in
-    let first = ones-written-planned sheet (withoutWeight before tag content rest) plan table planAfter tableEnd _ _ r _ w call middle in
+    let first = ones-planned sheet (withoutWeight before tag content rest) plan table planAfter tableEnd _ _ r _ w call middle in
     let second = absent-weight-planned before tag content rest st reached here strip plan table _ _ otherAfter otherEnd _ q middle next in (
       ap (λ (x : Answer). x .number) (second .0) ∙ first .0,
       ap (λ (x : Answer). x .length) (second .0) ∙ first .1,
       second .1 ∙ first .2,
       second .2 ∙ first .3,
     )
+
+-- So it is for any two sheets that differ only so: each has last bytes of 1 in some strips where a third sheet has none.
+pub ones-written-planned : (base sheet other plan table planAfter tableEnd otherAfter otherEnd : List ℕ) (r q : Answer) → OnesWritten base sheet
+    → OnesWritten base other → Called sheet plan table planAfter tableEnd r → Called other plan table otherAfter otherEnd q
+    → (q .number ≡ r .number) × (q .length ≡ r .length) × (otherAfter ≡ planAfter) × (otherEnd ≡ tableEnd)
+ones-written-planned base sheet other plan table planAfter tableEnd otherAfter otherEnd r q v w call next =
+    let third : Called base plan table _ _ _ = record { answer = refl; buffer = refl; table = refl } in
+    let here = ones-planned base sheet plan table _ _ planAfter tableEnd _ r v third call in
+    let there = ones-planned base other plan table _ _ otherAfter otherEnd _ q w third next in
+    (there .0 ∙ sym (here .0), there .1 ∙ sym (here .1), there .2 ∙ sym (here .2), there .3 ∙ sym (here .3))
+
+-- Where the one call is accepted, the other gives the same answer.
+pub ones-written-accepted : (base sheet other plan table planAfter tableEnd otherAfter otherEnd : List ℕ) (r q : Answer) → OnesWritten base sheet
+    → OnesWritten base other → Called sheet plan table planAfter tableEnd r → Called other plan table otherAfter otherEnd q → r .number ≡ 0 → q ≡ r
+ones-written-accepted base sheet other plan table planAfter tableEnd otherAfter otherEnd r q v w call next z =
+    let same = ones-written-planned base sheet other plan table planAfter tableEnd otherAfter otherEnd r q v w call next in
+    let place : q .place ≡ r .place =
+    accepted-writes-the-plan other plan table otherAfter otherEnd q next (same .0 ∙ z) .place ∙ sym (accepted-writes-the-plan sheet plan table planAfter tableEnd r call z .place) in
+    λ i. record { number = same .0 i; place = place i; length = same .1 i }
+
+-- The judge gives every plan the same number, place and figures with them as without them, where the sheet is sound.
+pub ones-written-judged : (sheet other plan : List ℕ) → OnesWritten sheet other → readSheet sheet .number ≡ 0
+    → (readSheet other .number ≡ 0) × (judged other plan ≡ judged sheet plan)
+ones-written-judged sheet other plan none z = (z, refl)
+ones-written-judged sheet other plan (one-more before tag content rest st w reached here strip) z =
+    let first = ones-written-judged sheet (withoutWeight before tag content rest) plan w z in
+    let same = absent-weight before content rest st here tag reached strip in
+    (same .number ∙ first .0, same-judged _ _ _ _ same plan (first .0) ∙ first .1)

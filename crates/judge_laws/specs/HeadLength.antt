@@ -15,29 +15,29 @@ use Rattle.judge_members.specs.Members.{headForm, memberForm}
 use Rattle.judge_laws.specs.Due.{headTag, headLength, memberTag, Due, NoneDue}
 
 -- the tag of a head whose figure has eight bytes: 90 and A0
-pub data WideHead (tag : ℕ) : Type 0 where
-  of-mosaic : tag ≡ planMosaicTag → WideHead tag
-  of-sorting : tag ≡ planSortingTag → WideHead tag
+pub data EightByteHead (tag : ℕ) : Type 0 where
+  of-mosaic : tag ≡ planMosaicTag → EightByteHead tag
+  of-sorting : tag ≡ planSortingTag → EightByteHead tag
 
 -- a section whose head has that tag has a head of eight bytes, and no section's members have it
-head-of-eight : (tag j : ℕ) → WideHead tag → tag ≡ headTag j → headLength j ≡ 8
+head-of-eight : (tag j : ℕ) → EightByteHead tag → tag ≡ headTag j → headLength j ≡ 8
 unfolding headForm
 head-of-eight tag j w e = by-section (eqb j 1) (eqb j 2) w e
   where
     form : Bool → Bool → Form
     form a b = cond a mosaicHeadForm (cond b sortingHeadForm flightHeadForm)
 
-    by-section : (a b : Bool) → WideHead tag → tag ≡ form a b .tag → contentLength (form a b) ≡ 8
+    by-section : (a b : Bool) → EightByteHead tag → tag ≡ form a b .tag → contentLength (form a b) ≡ 8
     by-section true b w e = refl
     by-section false true w e = refl
     by-section false false (of-mosaic h) e = absurd (omega arith)
     by-section false false (of-sorting h) e = absurd (omega arith)
 
-no-member : (tag k : ℕ) → WideHead tag → tag ≡ memberTag k → ⊥
+no-member : (tag k : ℕ) → EightByteHead tag → tag ≡ memberTag k → ⊥
 unfolding memberForm
 no-member tag k w e = by-section (eqb k 1) (eqb k 2) w e
   where
-    by-section : (a b : Bool) → WideHead tag → tag ≡ (cond a batchForm (cond b jobForm passesForm)) .tag → ⊥
+    by-section : (a b : Bool) → EightByteHead tag → tag ≡ (cond a batchForm (cond b jobForm passesForm)) .tag → ⊥
     by-section true b (of-mosaic h) e = omega arith
     by-section true b (of-sorting h) e = omega arith
     by-section false true (of-mosaic h) e = omega arith
@@ -45,9 +45,9 @@ no-member tag k w e = by-section (eqb k 1) (eqb k 2) w e
     by-section false false (of-mosaic h) e = omega arith
     by-section false false (of-sorting h) e = omega arith
 
-pub wide-head-not-due : (s : Sheet) (plan : List ℕ) (at k tag len : ℕ) → fieldAt plan at ≡ Whole tag len → WideHead tag → (len ≡ 8 → ⊥) → NoneDue s plan at k
+pub another-length-not-due : (s : Sheet) (plan : List ℕ) (at k tag len : ℕ) → fieldAt plan at ≡ Whole tag len → EightByteHead tag → (len ≡ 8 → ⊥) → NoneDue s plan at k
 unfolding NoneDue
-wide-head-not-due s plan at k tag len e w other tag′ len′ j e′ due = go due
+another-length-not-due s plan at k tag len e w other tag′ len′ j e′ due = go due
   where
     same-tag : tag ≡ tag′
     same-tag = whole-at plan at tag len e .tag-is ∙ sym (whole-at plan at tag′ len′ e′ .tag-is)

@@ -9,7 +9,6 @@ use lib.ListN.{length, getD, set, length-set}
 use lib.Dec.{ltb, leb, eqb}
 use borrow.Author.Tests.{eq-eqb, ne-eqb, eqb-true, ltb-true, leb-true, not-true, not-false}
 use Rattle.base.specs.Branch.{both, check}
-use Rattle.base.specs.SumLaws.{after-most}
 use Rattle.sheet.specs.Limits.{mostWeight, mostStrips, mostDesks, mostStripsOfDesk, mostBlocks, ceiling}
 use Rattle.sheet.specs.Refusals.{ruleBroken, figureUntrue}
 use Rattle.sheet.specs.Sound.{MosaicSound, SortingSound, SheetSound, stripsInAll}
@@ -21,7 +20,7 @@ use Rattle.rules.specs.Flight.{flightFigure}
 use Rattle.plan_format.specs.Format.{sizeOf, mosaicHeadForm, batchForm, sortingHeadForm, jobForm, flightHeadForm, passesForm}
 use Rattle.plan_read.specs.PlanRead.{figureFrom, orderFrom, batchFrom, jobFrom, passesFrom, blocksFrom, BatchRead, JobRead, PassesRead}
 use Rattle.running.specs.Running.{batchWeight, freeDesks, afterJob}
-use Rattle.running.specs.FunctionLaws.{TimeTold, WeightTold, JobWeightTold}
+use Rattle.running.specs.FunctionLaws.{TimeTold, WeightTold, JobWeightTold, batch-weight-most}
 use Rattle.rules.specs.declared.Batch.{Batch}
 use Rattle.rules.specs.declared.Job.{Job}
 use Rattle.rules.specs.declared.Passes.{Passes}
@@ -261,15 +260,15 @@ module _ (s : Sheet) (p : Progress) (b : Batch) (a : AfterBatchPre s p b) where
 
     pub after-batch-is : _≡_ {A = Progress} (record { before = b; desks = p .desks; figure = p .figure + weight * b .finish }) (afterBatch s p b)
     unfolding afterBatch
-    after-batch-is = rw (t .is)
+    after-batch-is = ap (λ (w : ℕ). record { before = b; desks = p .desks; figure = p .figure + w * b .finish }) (t .is)
 
   pub batch-kept : Kept (afterBatch s p b)
-  unfolding afterBatch batchWeight
+  unfolding afterBatch
   batch-kept =
       let k = a .kept .most-figure in
       let l = a .most-last in
       let r = a .rises in
-      let w = after-most (s .mosaic .weight) mostWeight (a .sound .most-weight) (p .before .last) (b .last - p .before .last) in
+      let w = batch-weight-most (s .mosaic) (a .sound) (p .before .last) (b .last) in
       let added = most (batchWeight (s .mosaic) (p .before .last) (b .last)) (record { is = refl; fits = w }) in
       record { desks = a .kept .desks; most-last = a .most-last; most-figure = omega (arith, added) }
 
@@ -288,7 +287,13 @@ module _ (s : Sheet) (p : Progress) (j : Job) (a : AfterStripPre s p j) where
     pub after-strip-is : (d : Desks) → d ≡ afterJob (s .sorting) (p .desks) j
         → _≡_ {A = Progress} (record { before = p .before; desks = d; figure = p .figure + weight * (j .start + time) }) (afterStrip s p j)
     unfolding afterStrip deskFinish
-    after-strip-is d e = rw (e, t .is, w .is)
+    after-strip-is d e =
+        rw (e, t .is)
+        (ap (λ (n : ℕ). record {
+          before = p .before;
+          desks = afterJob (s .sorting) (p .desks) j;
+          figure = p .figure + n * (j .start + deskTime (s .sorting) j);
+        }) (w .is))
 
 -- one strip more is done
 one-more : (l : List ℕ) (d n : ℕ) → length l ≡ 3 → d < 3 → n ≡ getD l d 0 + 1

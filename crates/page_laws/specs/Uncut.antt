@@ -1,6 +1,6 @@
 -- No number on the page of a lawful plan of a sound sheet is cut: each has no more digits than its field has columns, so that the columns say the number.
 -- The bounds are those of lawful timetables (crate rules_laws, specs/Fits.antt): at most 40 members of a kind, times up to the
--- ceiling, figures up to 40 times the ceiling.
+-- ceiling, figures up to 40 × 100 times the ceiling.
 use Prim.Native.Nat.{ℕ, _+_, _-_, _^_, _≤_, _<_}
 use mathlib.Core.Path.{_≡_}
 use mathlib.Core.List.{_++_}

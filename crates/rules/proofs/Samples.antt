@@ -114,6 +114,17 @@ weightedStrips weight = record {
 abbrev fourStrips : MosaicSection
 fourStrips = weightedStrips (1 ∷ 1 ∷ 1 ∷ 1 ∷ [])
 
+-- five strips of weight 100, each with a bench time of 1, and no station or mount time
+abbrev fiveHeavyStrips : MosaicSection
+fiveHeavyStrips = record {
+  stations = 1;
+  mount = 0;
+  strips = 5;
+  station = replicate 160 0;
+  bench = 1 ∷ 1 ∷ 1 ∷ 1 ∷ 1 ∷ [] ++ replicate 35 0;
+  weight = 100 ∷ 100 ∷ 100 ∷ 100 ∷ 100 ∷ [] ++ replicate 35 0;
+}
+
 abbrev batch : ℕ → ℕ → ℕ → Batch
 batch last start finish = record { last = last; start = start; finish = finish }
 
@@ -187,7 +198,8 @@ samples =
     ∷ row (ofMosaic fourStrips (batch 4 9_999_993 10_000_001 ∷ [])) (passes 10_000_001)
     -- weights: each strip's own, times the finish of its batch
     ∷ row (ofMosaic (weightedStrips (5 ∷ 1 ∷ 2 ∷ 20 ∷ [])) (batch 1 0 3 ∷ batch 3 3 12 ∷ batch 4 12 14 ∷ [])) (lawful 331)
-    ∷ row (ofMosaic (weightedStrips (100 ∷ 100 ∷ 100 ∷ 100 ∷ [])) (batch 4 9_999_992 10_000_000 ∷ [])) (lawful 4_000_000_000)
+    -- a figure that four bytes do not hold
+    ∷ row (ofMosaic fiveHeavyStrips (batch 5 9_999_995 10_000_000 ∷ [])) (lawful 5_000_000_000)
     -- a scanner that begins late, and a desk that waits
     ∷ row (ofSorting (twoDesks 2 5 1 1) (strip 1 1 4 ∷ strip 2 3 9 ∷ [])) (lawful 19)
     -- a desk job before its scan has ended, two scans at once, and a strip without its job

@@ -1,5 +1,5 @@
--- The rules of the mosaic (01, "The three sets of rules"; 02, Req 08, for when a mount and the bench work start, and Req 09, for weights). Strips are numbered from 1. In the
--- literature: batching on one machine with release dates, and a setup time for each batch that needs none of its strips (an anticipatory setup).
+-- The rules of the mosaic (01, "The three sets of rules"; 02, Req 08, for when a mount and the bench work start, and Req 09, for weights). Strips are
+-- numbered from 1. In the literature: batching on one machine with release dates, and a setup time for each batch that needs none of its strips (an anticipatory setup).
 use Prim.Native.Nat.{ℕ, zero, suc, _+_, _-_, _*_, _≤_, _<_, max}
 use mathlib.Core.Path.{_≡_}
 use mathlib.Core.Bool.{cond}
@@ -75,7 +75,7 @@ unfoldable pub completion : List Batch → ℕ → ℕ
 completion [] j = 0
 completion (b ∷ bs) j = cond (leb j (b .last)) (b .finish) (completion bs j)
 
--- the weight of strip j
+-- the weight of strip j (02, Req 09)
 unfoldable pub stripWeight : MosaicSection → ℕ → ℕ
 stripWeight m j = getD (m .weight) (j - 1) 0
 

@@ -1,4 +1,4 @@
--- The rules of the sorting (01, "The three sets of rules"). Desks, and strips within a desk, are numbered from 1; jobs are listed in scanner order. In the
+-- The rules of the sorting (01, "The three sets of rules"; 02, Req 09, for weights). Desks, and strips within a desk, are numbered from 1; jobs are listed in scanner order. In the
 -- literature: a differentiation flowshop, one machine and then a machine for each kind of job.
 use Prim.Native.Nat.{ℕ, _+_, _-_, _*_, _≤_, _<_}
 use mathlib.Core.Path.{_≡_}
@@ -72,7 +72,7 @@ JobLawful s j = JobUnder ceiling s j
 abbrev pub SortingLawful : SortingSection → List Job → Type 0
 SortingLawful s js = SortingUnder ceiling s js
 
--- "Figure: the sum of desk finishing times over strips." 02, Req 09: "The figure becomes the sum of weight × completion." (in the literature: the sum of weighted
--- completion times)
+-- "Figure: the sum of desk finishing times over strips." 02, Req 09: "The figure becomes the sum of weight × completion." (in the literature: the sum of
+-- weighted completion times)
 unfoldable pub sortingFigure : SortingSection → List Job → ℕ
 sortingFigure s js = sumOver (length js) (λ i. jobWeight s (jobAt js i) * deskFinish s (jobAt js i))

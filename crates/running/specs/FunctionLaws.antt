@@ -31,7 +31,7 @@ pub record ReadyTimePre (m : MosaicSection) (j : ℕ) : Type 0 where
   pub sound : MosaicSound m
   pub strips : j ≤ mostStrips
 
--- values of which none is above the greatest time, as many as there are strips at most
+-- values, times or weights, of which none is above the greatest time, as many as there are strips at most
 pub record SumAfterPre (values : List ℕ) (i count : ℕ) : Type 0 where
   pub long : i + count ≤ length values
   pub few : count ≤ mostStrips
@@ -65,7 +65,7 @@ pub record BenchWorkStartTold (m : MosaicSection) (b : Batch) (r : ℕ) : Type 0
   pub is : r ≡ benchWorkStart m b
   pub fits : r ≤ 2 ^ 32 + mostStrips * mostTime
 
--- a sum of at most 40 times
+-- a sum of at most 40 values, times or weights
 pub record SumTold (value r : ℕ) : Type 0 where
   pub is : r ≡ value
   pub fits : r ≤ mostStrips * mostTime
@@ -169,12 +169,16 @@ pub record WeightTold (m : MosaicSection) (i q r : ℕ) : Type 0 where
 pub weight-small : (m : MosaicSection) → MosaicSound m → (k : ℕ) → getD (m .weight) k 0 ≤ mostTime
 weight-small m sound k = omega (arith, sound .most-weight k)
 
+pub batch-weight-most : (m : MosaicSection) → MosaicSound m → (i q : ℕ) → batchWeight m i q ≤ (q - i) * mostWeight
+unfolding batchWeight
+batch-weight-most m sound i q = after-most (m .weight) mostWeight (sound .most-weight) i (q - i)
+
 pub weight-told : (m : MosaicSection) (before b : Batch) (sum : ℕ) → BatchWeightPre m before b
     → SumTold (sumAfter (m .weight) (before .last) (b .last - before .last)) sum → WeightTold m (before .last) (b .last) sum
 unfolding batchWeight
 weight-told m before b sum a t = record {
   is = t .is;
-  fits = omega (arith, t .is, after-most (m .weight) mostWeight (a .sound .most-weight) (before .last) (b .last - before .last));
+  fits = omega (arith, t .is, batch-weight-most m (a .sound) (before .last) (b .last));
 }
 
 

@@ -50,18 +50,18 @@ abbrev pub withWeightOne : List ℕ → ℕ → List ℕ → List ℕ → List �
 withWeightOne before tag content rest = withField before tag (content ++ (1 ∷ [])) rest
 
 -- The contents that the table has for a strip where a reading stands: none, or one without a weight, of so many bytes, and the same with one.
-data Contents (st : Reading) (tag others : ℕ) : Type 0 where
-  none : contentsOf tag (tableOf st) ≡ [] → Contents st tag others
-  two : (content : List Item) → lengthOf content ≡ others → contentsOf tag (tableOf st) ≡ content ∷ withWeight content ∷ [] → Contents st tag others
+data StripContents (st : Reading) (tag others : ℕ) : Type 0 where
+  none : contentsOf tag (tableOf st) ≡ [] → StripContents st tag others
+  two : (content : List Item) → lengthOf content ≡ others → contentsOf tag (tableOf st) ≡ content ∷ withWeight content ∷ [] → StripContents st tag others
 
-contents-of : (st : Reading) (tag others : ℕ) → StripAt st tag others → Contents st tag others
+contents-of : (st : Reading) (tag others : ℕ) → StripAt st tag others → StripContents st tag others
 unfolding sortingStrip lengthOf
 contents-of st tag others (of-mosaic e h) = go (decLt 0 (st .mosaic .stations)) (decLt mostStations (st .mosaic .stations))
   where
     at-tag : {l : List (List Item)} → contentsOf mosaicStripTag (tableOf st) ≡ l → contentsOf tag (tableOf st) ≡ l
     at-tag q = ap (λ x. contentsOf x (tableOf st)) e ∙ q
 
-    go : Dec (0 < st .mosaic .stations) → Dec (mostStations < st .mosaic .stations) → Contents st tag others
+    go : Dec (0 < st .mosaic .stations) → Dec (mostStations < st .mosaic .stations) → StripContents st tag others
     go (no n) d = none (at-tag (no-strip-content _ _ (λ lo hi. n (omega arith))))
     go (yes p) (yes q) = none (at-tag (no-strip-content _ _ (λ lo hi. omega arith)))
     go (yes p) (no q) =
@@ -79,6 +79,11 @@ one-passes : (values : List Value) → rangeNumber (values ++ (value (count 1 mo
 unfolding rangeNumber valueNumbers valueNumber countNumber check firstFailure
 one-passes [] = refl
 one-passes (v ∷ values) = first-same (valueNumber v) (valueNumbers (values ++ (value (count 1 mostWeight) 1 ∷ []))) (valueNumbers values) (one-passes values)
+
+-- an absent weight
+pub absent-is-one : (s : List ℕ) (c len others : ℕ) → len ≡ others → weightOf s c len others ≡ 1
+unfolding weightOf
+absent-is-one s c len others e = rw (eq-eqb len others e)
 
 -- The two strips, where a reading stands.
 module _ (before : List ℕ) (tag : ℕ) (content rest : List ℕ) (st : Reading) (e : st .at ≡ length before) where
@@ -130,8 +135,7 @@ module _ (before : List ℕ) (tag : ℕ) (content rest : List ℕ) (st : Reading
 
   -- both are stored with the weight 1
   absent : weightOf s (st .at + 3) others others ≡ 1
-  unfolding weightOf
-  absent = rw (eq-eqb others others refl)
+  absent = absent-is-one s (st .at + 3) others others refl
 
   written : weightOf t (st .at + 3) (length (content ++ (1 ∷ []))) others ≡ 1
   unfolding weightOf
@@ -193,7 +197,7 @@ module _ (before : List ℕ) (tag : ℕ) (content rest : List ℕ) (st : Reading
     same-desk : numberAt s (st .at + 3) 1 ≡ numberAt t (st .at + 3) 1
     same-desk = first-number bytes 1 (some-bytes strip)
 
-    number-same : Contents st tag others → fieldNumber s st tag others ≡ fieldNumber t st tag (length (content ++ (1 ∷ [])))
+    number-same : StripContents st tag others → fieldNumber s st tag others ≡ fieldNumber t st tag (length (content ++ (1 ∷ [])))
     unfolding fieldNumber fieldChecks contentChecks isAmong check
     number-same (none q) = rw (no-lengths tag (tableOf st) q) (length-decides _ _ _ _ _)
     number-same (two items h q) =

@@ -193,7 +193,7 @@ module _ {s : List ℕ} {c : ℕ} {t : List ℕ} {d len : ℕ} (b : SameBytes s 
     same-weight : (others : ℕ) → (len ≡ others) ⊎ (len ≡ others + 1) → weightOf s c len others ≡ weightOf t d len others
     unfolding weightOf
     same-weight others (inl e) = rw (eq-eqb len others e)
-    same-weight others (inr e) = ap (cond (eqb len others) 1) (same-number 1 others (omega arith))
+    same-weight others (inr e) = rw (ne-eqb len others (λ h. omega arith)) (same-number 1 others (omega arith))
 
     same-mosaic-strip : (m : MosaicSection) → m .stations ≡ stations → tag ≡ mosaicStripTag → withMosaicStrip s c len m ≡ withMosaicStrip t d len m
     unfolding withMosaicStrip

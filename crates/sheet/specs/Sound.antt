@@ -1,4 +1,4 @@
--- What holds of each section of a sheet that was read with number 0 (01, the table of "The sheet"). An absent section has no member.
+-- What holds of each section of a sheet that was read with number 0 (01, the table of "The sheet"; weights: 02, Req 09). An absent section has no member.
 use Prim.Native.Nat.{ℕ, _+_, _*_, _≤_, _<_}
 use mathlib.Core.Path.{_≡_}
 use mathlib.Core.Bool.{true, false}

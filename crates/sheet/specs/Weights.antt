@@ -1,5 +1,5 @@
--- The weights of a sheet's strips (02, Req 09): "any other value is 6"; each weight is the one that its strip's field gives, "its weight, 1 to 100; absent means
--- 1"; and where no strip carries one, each is 1.
+-- The weights of a sheet's strips (02, Req 09): "any other value is 6"; each weight is the one that its strip's field gives; and where no strip carries one,
+-- each is 1.
 -- The idea: the values before a weight decide before it does; a strip is stored behind those before it, which keep their weights.
 use Prim.Native.Nat.{ℕ, _+_, _-_, _*_, _≤_, _<_}
 use mathlib.Core.Path.{_≡_, refl, sym, ap, subst, _∙_}
@@ -8,7 +8,7 @@ use mathlib.Core.Logic.{_⊎_, inl, inr}
 use native.Mathlib.Decide.{ℕ-discrete}
 use native.Mathlib.Omega.{arith}
 use lib.ListN.{getD}
-use borrow.Author.Tests.{eq-eqb, ne-eqb}
+use borrow.Author.Tests.{ne-eqb}
 use Rattle.field.specs.Bytes.{numberAt}
 use Rattle.field.specs.Field.{fieldAt}
 use Rattle.field.specs.declared.Field.the-variants.{Whole}
@@ -16,10 +16,10 @@ use Rattle.sheet.specs.Limits.{mostWeight, mostDesks, mostStrips, mostSt
 use Rattle.sheet.specs.Tags.{mosaicHeadTag, mosaicStripTag, sortingHeadTag, sortingStripTag}
 use Rattle.sheet.specs.Sections.{stripsOfDesk}
 use Rattle.sheet.specs.Among.{Among}
-use Rattle.sheet.specs.FieldTable.{tableOf, lengthsDue, mosaicStrip, sortingStrip, valuesOf, contentValues, fieldValues, Value, Within, InRange}
+use Rattle.sheet.specs.FieldTable.{tableOf, lengthOf, lengthsDue, mosaicStrip, sortingStrip, valuesOf, contentValues, fieldValues, Value, Within, InRange}
 use Rattle.sheet.specs.FieldTable.Range.{count}
 use Rattle.sheet.specs.FieldTable.Value.{value}
-use Rattle.sheet.specs.Contents.{weightValues, mosaic-strip-values, sorting-strip-values}
+use Rattle.sheet.specs.Contents.{sorting-strip-contents, weightValues, either-values, mosaic-strip-values, sorting-strip-values}
 use Rattle.sheet.specs.Rows.{NoCause}
 use Rattle.sheet.specs.Causes.{CountOutOfRange, FirstOut, fieldRows}
 use Rattle.sheet.specs.Table.{Reached, RefusedForContent, RefusedForValue}
@@ -31,7 +31,7 @@ use Rattle.sheet.specs.Stores.{zeros-at, set-here, set-there}
 use Rattle.sheet.specs.Passed.{Passed, passed-rows, within-by, first-within}
 use Rattle.sheet.specs.Theorems.{Outcome, is-accepted, is-refused, read-outcome, refused-some, reached-progress}
 use Rattle.sheet.specs.FlightPlaces.{FieldRead}
-use Rattle.sheet.specs.AbsentWeight.{StripAt}
+use Rattle.sheet.specs.AbsentWeight.{StripAt, absent-is-one}
 use Rattle.sheet.specs.AbsentWeight.StripAt.{of-mosaic, of-sorting}
 use Rattle.sheet.specs.declared.MosaicSection.{MosaicSection}
 use Rattle.sheet.specs.declared.SortingSection.{SortingSection}
@@ -44,10 +44,10 @@ pub data WeightOut (s : List ℕ) (st : Reading) (tag len : ℕ) : Type 0 where
       → (numberAt s (st .at + 3 + (2 * st .mosaic .stations + 2)) 1 < 1) ⊎ (mostWeight < numberAt s (st .at + 3 + (2 * st .mosaic .stations + 2)) 1)
       → WeightOut s st tag len
   sorting : tag ≡ sortingStripTag → len ≡ 5 + 1
-      → InRange (valuesOf (sortingStrip (st .sorting .desks)) (numberAt s (st .at + 3) 1 ∷ numberAt s (st .at + 3 + 1) 2 ∷ numberAt s (st .at + 3 + 3) 2 ∷ []))
+      → InRange (contentValues s (st .at + 3) (sortingStrip (st .sorting .desks)))
       → (numberAt s (st .at + 3 + 5) 1 < 1) ⊎ (mostWeight < numberAt s (st .at + 3 + 5) 1) → WeightOut s st tag len
 
--- behind values within their ranges the first that is out of its range is the next
+-- where some values are within their ranges and the next is not, the next is the first that is out
 out-behind : (values : List Value) (v : Value) → InRange values → CountOutOfRange v → FirstOut CountOutOfRange (values ++ (v ∷ []))
 unfolding InRange FirstOut
 out-behind [] v r c = inl c
@@ -57,6 +57,12 @@ weight-there : (s : List ℕ) (c len others : ℕ) → len ≡ others + 1 → we
 unfolding weightValues
 weight-there s c len others e = rw (ne-eqb len others (λ h. omega arith))
 
+desk-values : (s : List ℕ) (st : Reading) (len : ℕ) → Among len (lengthsDue sortingStripTag (tableOf st))
+    → fieldValues s (st .at + 3) sortingStripTag len (tableOf st) ≡ contentValues s (st .at + 3) (sortingStrip (st .sorting .desks)) ++ weightValues s (st .at + 3) len 5
+unfolding sortingStrip lengthOf
+desk-values s st len due = either-values sortingStripTag len (tableOf st) (sortingStrip (st .sorting .desks)) (sorting-strip-contents _ _) due s (st .at + 3)
+
+-- Such a weight is a count out of its range, and the first value that is: the sheet is refused for it.
 pub weight-refused : (s : List ℕ) (place : ℕ) → RefusedForContent s (WeightOut s) place → RefusedForValue s CountOutOfRange place
 unfolding CountOutOfRange
 weight-refused s place f = record {
@@ -73,9 +79,6 @@ weight-refused s place f = record {
   place-is = f .place-is;
 }
   where
-    beforeWeight : Reading → List Value
-    beforeWeight st = valuesOf (sortingStrip (st .sorting .desks)) (numberAt s (st .at + 3) 1 ∷ numberAt s (st .at + 3 + 1) 2 ∷ numberAt s (st .at + 3 + 3) 2 ∷ [])
-
     due : (t : ℕ) → f .tag ≡ t → Among (f .len) (lengthsDue t (tableOf (f .reading)))
     due t q = subst (λ x. Among (f .len) (lengthsDue x (tableOf (f .reading)))) q (f .length-due)
 
@@ -98,9 +101,10 @@ weight-refused s place f = record {
         (out-behind (contentValues s (f .reading .at + 3) (mosaicStrip (f .reading .mosaic .stations)))
         (value (count 1 mostWeight) (numberAt s (f .reading .at + 3 + (2 * f .reading .mosaic .stations + 2)) 1)) r w)
     go (WeightOut.sorting q h r w) =
-        found sortingStripTag (beforeWeight (f .reading)) 5 q h
-        (sorting-strip-values s (f .reading .at + 3) (f .len) (f .reading .mosaic .stations) (f .reading .sorting .desks) (due sortingStripTag q))
-        (out-behind (beforeWeight (f .reading)) (value (count 1 mostWeight) (numberAt s (f .reading .at + 3 + 5) 1)) r w)
+        found sortingStripTag (contentValues s (f .reading .at + 3) (sortingStrip (f .reading .sorting .desks))) 5 q h
+        (desk-values s (f .reading) (f .len) (due sortingStripTag q))
+        (out-behind (contentValues s (f .reading .at + 3) (sortingStrip (f .reading .sorting .desks)))
+        (value (count 1 mostWeight) (numberAt s (f .reading .at + 3 + 5) 1)) r w)
 
 -- The field that strip j, from 0, of a mosaic was read from, j strips having been read before it, and its weight.
 pub record MosaicWeightRead (s : List ℕ) (j weight : ℕ) : Type 0 where
@@ -257,24 +261,20 @@ module _ (s : List ℕ) where
         go x (is-accepted st r c e) z = rw e (all-sorting-read st r)
         go x (is-refused st number place r c e) z = absurd (refused-some s st _ number place c (sym (ap (λ y. y .number) e) ∙ z))
 
--- "A sheet of unweighted strips": each field of a strip has the length of one without a weight
-unfoldable pub Unweighted : List ℕ → Type 0
-Unweighted s = (tag len at others : ℕ) (f : FieldRead s tag len at) → StripAt (f .reading) tag others → len ≡ others
+-- "unweighted strips", those of the mosaic or those of the sorting, by their tag: each of their fields has the length of one without a weight
+unfoldable pub Unweighted : ℕ → List ℕ → Type 0
+Unweighted tag s = (len at others : ℕ) (f : FieldRead s tag len at) → StripAt (f .reading) tag others → len ≡ others
 
--- Each of its weights is 1.
-absent-is-one : (s : List ℕ) (c len others : ℕ) → len ≡ others → weightOf s c len others ≡ 1
-unfolding weightOf
-absent-is-one s c len others e = rw (eq-eqb len others e)
-
-module _ (s : List ℕ) (z : readSheet s .number ≡ 0) (u : Unweighted s) where
-  pub unweighted-mosaic : (j : ℕ) → j < readSheet s .mosaic .strips → getD (readSheet s .mosaic .weight) j 0 ≡ 1
+-- Each of their weights is 1.
+module _ (s : List ℕ) (z : readSheet s .number ≡ 0) where
+  pub unweighted-mosaic : Unweighted mosaicStripTag s → (j : ℕ) → j < readSheet s .mosaic .strips → getD (readSheet s .mosaic .weight) j 0 ≡ 1
   unfolding Unweighted
-  unweighted-mosaic j l =
+  unweighted-mosaic u j l =
       let w = mosaic-weight-read s z j l in
-      w .weight-is ∙ absent-is-one s (w .at + 3) (w .len) _ (u mosaicStripTag (w .len) (w .at) _ (w .field) (of-mosaic refl refl))
+      w .weight-is ∙ absent-is-one s (w .at + 3) (w .len) _ (u (w .len) (w .at) _ (w .field) (of-mosaic refl refl))
 
-  pub unweighted-sorting : (d k : ℕ) → k < getD (readSheet s .sorting .counts) d 0 → getD (readSheet s .sorting .weight) (6 * d + k) 0 ≡ 1
+  pub unweighted-sorting : Unweighted sortingStripTag s → (d k : ℕ) → k < getD (readSheet s .sorting .counts) d 0 → getD (readSheet s .sorting .weight) (6 * d + k) 0 ≡ 1
   unfolding Unweighted
-  unweighted-sorting d k l =
+  unweighted-sorting u d k l =
       let w = sorting-weight-read s z d k l in
-      w .weight-is ∙ absent-is-one s (w .at + 3) (w .len) 5 (u sortingStripTag (w .len) (w .at) 5 (w .field) (of-sorting refl refl))
+      w .weight-is ∙ absent-is-one s (w .at + 3) (w .len) 5 (u (w .len) (w .at) 5 (w .field) (of-sorting refl refl))

@@ -1,4 +1,5 @@
-// The refusal number that the values of a field give by their ranges (01, the table of tags; 02, Req 04), 0 where each is in its range: one function a tag.
+// The refusal number that the values of a field give by their ranges (01, the table of tags; 02, Req 04), 0 where each is in its range: one function a tag, and
+// one for the weight of a strip (02, Req 09).
 // Values are examined from left to right, and the first one out of its range decides.
 use field::byte;
 use field::number;

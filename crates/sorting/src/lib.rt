@@ -1,5 +1,5 @@
 // The sorting planner: the first best interleaving of a section, as a plan. In the literature: the differentiation flowshop of two stages, one common
-// machine and then dedicated machines, for the least sum of completion times.
+// machine and then dedicated machines, for the least sum of weighted completion times.
 ghost use Rattle.sorting.specs.Contracts.{PlanSortingPre, Planned};
 use sheet::SortingSection;
 

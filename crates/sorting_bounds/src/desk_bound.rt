@@ -6,7 +6,7 @@ ghost use Rattle.interleaving.specs.Consistent.{Consistent};
 ghost use Rattle.sorting_bounds.specs.DeskBound.{deskRest, deskBound, restCap, boundCap};
 use interleaving::State;
 
-// The sum of the finishing times of what is left of desk d, as if the scanner served it alone.
+// The sum of weight times finishing time of what is left of desk d, as if the scanner served it alone.
 fn desk_rest(jobs: &[u64], s: State, d: usize) -> u64
     requires { ⌜ Instance (now jobs) × Consistent (now jobs) s × (d < 3) ⌝ }
     ensures { λ r. ⌜ (r ≡ deskRest (now (jobs .entry)) s d) × (r ≤ restCap) ⌝ }

@@ -35,7 +35,10 @@ slice-aggregate-fill-late-4 : tie.Need-slice-aggregate-fill-late-4
 slice-aggregate-fill-late-4 c = search needs
 
 fill-late-requires : tie.Need-fill-late-requires
-fill-late-requires c κs = search late-pre
+fill-late-requires c κs =
+    late-pre (c .before .before .before .before .before .before .before .before .before .before .before .before .pre) (c .before .before .before .before .before .before .before .before .before .before .ready-times .ensures)
+    (c .before .before .before .before .before .before .before .prefix-sums .ensures) (c .before .before .before .before .prefix-sums2 .ensures)
+    (c .before .before .before .before .before .before .before .before .before .before .before .setup-time .ensures)
 
 slice-aggregate-choose-batches : tie.Need-slice-aggregate-choose-batches
 slice-aggregate-choose-batches c = search needs

@@ -11,7 +11,7 @@ use Rattle.sheet.specs.Sound.{MosaicSound}
 use Rattle.sheet.specs.declared.MosaicSection.{MosaicSection}
 use Rattle.rules.specs.declared.Batch.{Batch}
 use Rattle.rules.specs.Mosaic.{ready, setupTime}
-use Rattle.running.specs.FunctionLaws.{mostSetup}
+use Rattle.running.specs.FunctionLaws.{mostSetup, batch-weight-most}
 use Rattle.running.specs.Running.{batchWeight, BatchFollows, MosaicRuns, none, more}
 use Rattle.rules_laws.specs.Finish.{setup-most}
 use Rattle.rules_laws.specs.MosaicRunning.{runningFigure}
@@ -21,7 +21,7 @@ use Rattle.batching.specs.Chosen.{batchOf}
 use Rattle.batching.specs.Index.{leastAt, openAt, closedAt, chosenAt, chosenOpenAt}
 use Rattle.batching.specs.Recursion.{least-end, least-one, least-open, open-last, open-more, chosen-end, chosen-open, chosen-last, chosen-close, chosen-extend}
 use Rattle.mosaic.specs.Laws.Finish.{earliest-lawful}
-use Rattle.mosaic.specs.Laws.Rules.{weight-most, bench-most, ready-most}
+use Rattle.mosaic.specs.Laws.Rules.{bench-most, ready-most}
 
 -- each mount starts when the batch before finishes
 unfoldable pub AsEarly : ℕ → List Batch → Type 0
@@ -126,7 +126,7 @@ module _ {m : MosaicSection} (S : MosaicSound m) where
       let x = instanceOf m in
       elim (decLt 0 (m .strips)) [
         | yes y ↦
-            let w : x .weight 0 (m .strips) ≤ mostStrips * mostWeight = omega (arith, weight-most S 0 (m .strips), S .most-strips) in
+            let w : x .weight 0 (m .strips) ≤ mostStrips * mostWeight = omega (arith, batch-weight-most m S 0 (m .strips), S .most-strips) in
             let f : finishOf x 0 0 (m .strips) ≤ latest mostStrips = omega (arith, finish-most 0 (m .strips) 0 y (omega arith) (omega arith), S .most-strips) in
             omega (arith, least-one x 0 0 y, mul-le-mul w f)
         | no y ↦ omega (arith, least-end x 0 0 (omega arith))

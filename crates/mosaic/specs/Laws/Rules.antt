@@ -1,21 +1,16 @@
--- The rules' quantities: bounds of ready times, bench sums and weights.
+-- The rules' quantities: bounds of ready times and bench sums.
 use Prim.Native.Nat.{ℕ, _+_, _*_, _-_, _≤_}
 use lib.ListN.{getD}
-use Rattle.sheet.specs.Limits.{mostTime, mostWeight}
+use Rattle.sheet.specs.Limits.{mostTime}
 use Rattle.sheet.specs.Sound.{MosaicSound}
 use Rattle.sheet.specs.declared.MosaicSection.{MosaicSection}
 use Rattle.rules.specs.Mosaic.{stationSum, ready, benchSum}
-use Rattle.running.specs.Running.{batchWeight}
 use Rattle.base.specs.SumLaws.{sum-most, after-most, greatest-most}
 
 module _ {m : MosaicSection} (S : MosaicSound m) where
   pub bench-most : (i count : ℕ) → benchSum m i count ≤ count * mostTime
   unfolding benchSum
   bench-most i count = after-most (m .bench) mostTime (S .most-bench) i count
-
-  pub weight-most : (i q : ℕ) → batchWeight m i q ≤ (q - i) * mostWeight
-  unfolding batchWeight
-  weight-most i q = after-most (m .weight) mostWeight (S .most-weight) i (q - i)
 
   station-most : (k q : ℕ) → stationSum m k q ≤ q * mostTime
   unfolding stationSum
