@@ -1337,11 +1337,20 @@ ones-written-accepted base sheet other plan table planAfter tableEnd otherAfter 
     accepted-writes-the-plan other plan table otherAfter otherEnd q next (same .0 ∙ z) .place ∙ sym (accepted-writes-the-plan sheet plan table planAfter tableEnd r call z .place) in
     λ i. record { number = same .0 i; place = place i; length = same .1 i }
 
--- The judge gives every plan the same number, place and figures with them as without them, where the sheet is sound.
-pub ones-written-judged : (sheet other plan : List ℕ) → OnesWritten sheet other → readSheet sheet .number ≡ 0
-    → (readSheet other .number ≡ 0) × (judged other plan ≡ judged sheet plan)
-ones-written-judged sheet other plan none z = (z, refl)
-ones-written-judged sheet other plan (one-more before tag content rest st w reached here strip) z =
-    let first = ones-written-judged sheet (withoutWeight before tag content rest) plan w z in
-    let same = absent-weight before content rest st here tag reached strip in
-    (same .number ∙ first .0, same-judged _ _ _ _ same plan (first .0) ∙ first .1)
+ones-number : (sheet other : List ℕ) → OnesWritten sheet other → readSheet other .number ≡ readSheet sheet .number
+ones-number sheet other none = refl
+ones-number sheet other (one-more before tag content rest st w reached here strip) =
+    absent-weight before content rest st here tag reached strip .number ∙ ones-number sheet (withoutWeight before tag content rest) w
+
+ones-judged : (sheet other plan : List ℕ) → OnesWritten sheet other → readSheet sheet .number ≡ 0 → judged other plan ≡ judged sheet plan
+ones-judged sheet other plan none z = refl
+ones-judged sheet other plan (one-more before tag content rest st w reached here strip) z =
+    same-judged _ _ _ _ (absent-weight before content rest st here tag reached strip) plan (ones-number sheet (withoutWeight before tag content rest) w ∙ z)
+    ∙ ones-judged sheet (withoutWeight before tag content rest) plan w z
+
+-- The judge gives every plan the same number, place and figures with the one as with the other, where the sheet is sound.
+pub ones-written-judged : (base sheet other plan : List ℕ) (j k : Judged) → OnesWritten base sheet → OnesWritten base other → j ≡ judged sheet plan
+    → k ≡ judged other plan → readSheet sheet .number ≡ 0 → k ≡ j
+ones-written-judged base sheet other plan j k v w judging also z =
+    let sound = sym (ones-number base sheet v) ∙ z in
+    also ∙ ones-judged base other plan w sound ∙ sym (judging ∙ ones-judged base sheet plan v sound)
