@@ -7,7 +7,7 @@
 use Prim.Native.Nat.{ℕ, zero, suc, _+_, _*_, _≤_, _<_}
 use mathlib.Core.Path.{_≡_, refl, sym, ap, ap₂, subst, _∙_}
 use mathlib.Core.Bool.{true, false, true≢false}
-use mathlib.Core.List.{List, [], _∷_, _++_}
+use mathlib.Core.List.{List, _∷_, _++_}
 use mathlib.Core.Logic.{inl, inr, ⊎-elim}
 use lib.ListN.{length, getD, drop}
 use native.Mathlib.Omega.{arith}
@@ -68,7 +68,7 @@ use Rattle.rules.specs.declared.Batch.{Batch}
 use Rattle.rules.specs.declared.Job.{Job}
 use Rattle.rules.specs.declared.Passes.{Passes}
 use Rattle.rules.specs.Plan.{Plan, membersBytes, batchBytes, jobBytes, mosaicBytes, sortingBytes, mosaicFields, sortingFields, flightFields, planBytes, PlanUnder, AllowedFor}
-use Rattle.plan_format.specs.Format.{sizeOf, mosaicHeadForm, sortingHeadForm, flightHeadForm, numbersBytes, formBytes}
+use Rattle.plan_format.specs.Format.{sizeOf, flightHeadForm, numbersBytes, formBytes}
 use Rattle.plan_format.specs.ByteLaws.{AreBytes}
 use Rattle.plan_read.specs.PlanRead.{batchFrom, passesFrom, blocksFrom}
 use Rattle.rules_laws.specs.FlightRunning.{all-apart}
@@ -1164,12 +1164,12 @@ module _ (sheet plan : List ℕ) (j : Judged) (call : j ≡ judged sheet plan) (
       member-is-thirteen sheet plan j call sound laid 1 (omega arith) (omega arith) (λ i l m. absurd (omega arith)) there k st judging more
       (λ h. omega (arith, h .lawful .waits-batch))
 
--- REQ 09. "Strips with a stranding or a tagged animal should not wait." The field table (sheet, FieldTable.antt) has a row for a strip without a weight and one
--- for a strip with one (`withWeight`); `weightOf` (sheet, Decode.antt) is the weight that a field gives. "The figure becomes the sum of weight × completion": so
--- it stands in Mosaic.antt and Sorting.antt of crate rules (`mosaicFigure`, `sortingFigure`). "best means least weighted figure throughout": all that is said
--- above of figures, whether stated, judged or least, is said of these: that the judge gives the true ones (`allows-nothing-else`, `allows-what-obeys`), that
--- no allowed plan has a smaller one (`no-smaller-figure`, `best-exactly-mosaic`, `best-exactly-sorting`), that the ceiling is enough (Req 01), and which of
--- several best sortings is taken (Req 03).
+-- REQ 09. "Strips with a stranding or a tagged animal should not wait." The field table (sheet, FieldTable.antt) has a row for a strip without a weight and
+-- one for a strip with one (`withWeight`); `weightOf` (sheet, Decode.antt) is the weight that a field gives. "The figure becomes the sum of weight ×
+-- completion": so it stands in Mosaic.antt and Sorting.antt of crate rules (`mosaicFigure`, `sortingFigure`). "best means least weighted figure throughout":
+-- all that is said above of figures, whether stated, judged or least, is said of these: that the judge gives the true ones (`allows-nothing-else`,
+-- `allows-what-obeys`), that no allowed plan has a smaller one (`no-smaller-figure`, `best-exactly-mosaic`, `best-exactly-sorting`), that the ceiling is
+-- enough (Req 01), and which of several best sortings is taken (Req 03).
 module _ (sheet : List ℕ) (sound : readSheet sheet .number ≡ 0) where
   whole-sheet : SheetSound (readSheet sheet)
   whole-sheet = read-sound sheet sound
@@ -1273,9 +1273,9 @@ module _ (sheet plan table planAfter tableEnd : List ℕ) (r : Answer) (call : C
   unfolding answerOf
   buffer-of-1103-is-enough l = call .answer ∙ rw (le-ltb (length table) tableLength working, le-ltb (length plan) planLength l)
 
--- Absent and 1 (02: "absent means 1"): with a strip that carries no weight behind some bytes, and with a last byte of 1 in it, wherever the reading comes to that
--- strip, two calls with the same buffers give the same number, plan bytes and length, and places behind the strip are one higher; and the judge gives every plan
--- the same number, place and figures where the sheet is sound, and else turns both back with the same number.
+-- Absent and 1 (02: "absent means 1"): with a strip that carries no weight behind some bytes, and with a last byte of 1 in it, wherever the reading comes to
+-- that strip, two calls with the same buffers give the same number, plan bytes and length, and places behind the strip are one higher; and the judge gives
+-- every plan the same number, place and figures where the sheet is sound, and else turns both back with the same number.
 module _ (before : List ℕ) (tag : ℕ) (content rest : List ℕ) (st : Reading) (reached : Reached (withoutWeight before tag content rest) st)
     (here : st .at ≡ length before) (strip : StripAt st tag (length content)) where
   module _ (plan table planAfter tableEnd otherAfter otherEnd : List ℕ) (r q : Answer)

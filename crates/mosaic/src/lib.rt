@@ -1,5 +1,5 @@
-// The planner of the mosaic: the least sum of weighted completions over all batchings, and a batching that has it. In the literature: batching on one machine with
-// an anticipatory setup for each batch, where a strip's ready time is its release date.
+// The planner of the mosaic: the least sum of weighted completions over all batchings, and a batching that has it. In the literature: batching on one machine
+// with an anticipatory setup for each batch, where a strip's ready time is its release date.
 ghost use Rattle.sheet.specs.Sound.{MosaicSound};
 ghost use Rattle.mosaic.specs.Plan.{Planned};
 

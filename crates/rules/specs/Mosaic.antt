@@ -1,5 +1,6 @@
 -- The rules of the mosaic (01, "The three sets of rules"; 02, Req 08, for when a mount and the bench work start, and Req 09, for weights). Strips are
--- numbered from 1. In the literature: batching on one machine with release dates, and a setup time for each batch that needs none of its strips (an anticipatory setup).
+-- numbered from 1. In the literature: batching on one machine with release dates, and a setup time for each batch that needs none of its strips (an
+-- anticipatory setup).
 use Prim.Native.Nat.{ℕ, zero, suc, _+_, _-_, _*_, _≤_, _<_, max}
 use mathlib.Core.Path.{_≡_}
 use mathlib.Core.Bool.{cond}

@@ -24,8 +24,9 @@ unfoldable pub membersBytes : {A : Type 0} → (A → List ℕ) → List A → L
 membersBytes bytes [] = []
 membersBytes bytes (x ∷ xs) = bytes x ++ membersBytes bytes xs
 
--- "90: mosaic figure (4 bytes), then 91 per batch: number of its last strip (1 byte), mount start, finish (4 bytes each)." 02, Req 09: "Mosaic and
--- sorting figures take eight bytes in the plan", here and in A0. The forms have the tags and the widths (crate plan_format, specs/Format.antt); here stand the values, in the same order.
+-- "90: mosaic figure (4 bytes), then 91 per batch: number of its last strip (1 byte), mount start, finish (4 bytes each)." 02, Req 09: "Mosaic and sorting
+-- figures take eight bytes in the plan", here and in A0. The forms have the tags and the widths (crate plan_format, specs/Format.antt); here stand the
+-- values, in the same order.
 abbrev pub batchValues : Batch → List ℕ
 batchValues b = b .last ∷ b .start ∷ b .finish ∷ []
 

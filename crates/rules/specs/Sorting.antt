@@ -1,5 +1,5 @@
--- The rules of the sorting (01, "The three sets of rules"; 02, Req 09, for weights). Desks, and strips within a desk, are numbered from 1; jobs are listed in scanner order. In the
--- literature: a differentiation flowshop, one machine and then a machine for each kind of job.
+-- The rules of the sorting (01, "The three sets of rules"; 02, Req 09, for weights). Desks, and strips within a desk, are numbered from 1; jobs are listed in
+-- scanner order. In the literature: a differentiation flowshop, one machine and then a machine for each kind of job.
 use Prim.Native.Nat.{ℕ, _+_, _-_, _*_, _≤_, _<_}
 use mathlib.Core.Path.{_≡_}
 use mathlib.Core.Bool.{cond}

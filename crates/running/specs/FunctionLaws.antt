@@ -181,7 +181,6 @@ weight-told m before b sum a t = record {
   fits = omega (arith, t .is, batch-weight-most m (a .sound) (before .last) (b .last));
 }
 
-
 pub work-start-told : (m : MosaicSection) (b : Batch) (r setup readyAt : ℕ) → BenchWorkStartPre m b → SetupTold m setup → SumTold (ready m (b .last)) readyAt
     → r ≡ max (b .start + setup) readyAt → BenchWorkStartTold m b r
 unfolding benchWorkStart

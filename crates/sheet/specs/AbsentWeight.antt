@@ -3,10 +3,10 @@
 -- The idea: the values before the weight are the same, a weight of 1 is within its range, and both strips are stored with the weight 1 (MovedPlaces.antt has
 -- what follows behind them).
 use Prim.Native.Nat.{ℕ, zero, suc, _+_, _*_, _≤_, _<_}
-use mathlib.Core.Path.{_≡_, refl, sym, ap, ap₂, subst, _∙_}
-use mathlib.Core.Bool.{Bool, true, false}
+use mathlib.Core.Path.{_≡_, refl, sym, ap, subst, _∙_}
+use mathlib.Core.Bool.{true}
 use mathlib.Core.List.{List, [], _∷_, _++_, append-nil}
-use mathlib.Core.Logic.{_⊎_, inl, inr}
+use mathlib.Core.Logic.{inl, inr}
 use native.Mathlib.Decide.{decLt}
 use native.Mathlib.Omega.{arith}
 use lib.ListN.{length, length-append, getD, List·getD-append}
@@ -16,7 +16,6 @@ use Rattle.base.specs.Branch.{check}
 use Rattle.field.specs.Bytes.{numberAt, bytesOf}
 use Rattle.sheet.specs.Limits.{mostStations, mostWeight}
 use Rattle.sheet.specs.Tags.{mosaicStripTag, sortingStripTag}
-use Rattle.sheet.specs.Sections.{stripsOfDesk}
 use Rattle.sheet.specs.Among.{Among, isAmong, among-true}
 use Rattle.sheet.specs.FieldTable.{Item, tableOf, mosaicStrip, sortingStrip, withWeight, lengthOf, contentsOf, lengthsOf, lengthsDue}
 use Rattle.sheet.specs.FieldTable.{Value, contentValues, fieldValues}
@@ -25,16 +24,14 @@ use Rattle.sheet.specs.FieldTable.Value.{value}
 use Rattle.sheet.specs.Contents.{mosaic-strip-contents, no-strip-content, sorting-strip-contents, strip-length, weighted-length, weightValues, either-values}
 use Rattle.sheet.specs.Contents.{no-lengths}
 use Rattle.sheet.specs.Rows.{firstFailure}
-use Rattle.sheet.specs.Checks.{endsSection, countNumber, valueNumber, valueNumbers, rangeNumber, windowOrdered, hasRoom, orderProper}
+use Rattle.sheet.specs.Checks.{endsSection, countNumber, valueNumber, valueNumbers, rangeNumber, windowOrdered, orderProper}
 use Rattle.sheet.specs.Table.{Reached}
 use Rattle.sheet.specs.Decode.{weightOf, withMosaicStrip, withStripAt, withSortingStrip, nextMosaic, nextSorting, nextFlight, nextSection, nextMembers, nextHead}
 use Rattle.sheet.specs.Decode.{nextReading}
 use Rattle.sheet.specs.Read.{contentChecks, fieldChecks, fieldNumber, readSheet}
 use Rattle.sheet.specs.Theorems.{reached-progress}
-use Rattle.sheet.specs.SameContent.{SameBytes, same-number, first-number, content-same, times-same, length-decides, Alike}
+use Rattle.sheet.specs.SameContent.{SameBytes, same-number, first-number, content-same, times-same, length-decides}
 use Rattle.sheet.specs.MovedPlaces.{SameButPlaces, withField, content-from, head-before, place-before, replaced-same}
-use Rattle.sheet.specs.declared.MosaicSection.{MosaicSection}
-use Rattle.sheet.specs.declared.SortingSection.{SortingSection}
 use Rattle.sheet.specs.declared.Reading.{Reading}
 
 -- a strip of a mosaic or of a sorting, whose content without a weight has so many bytes where a reading stands

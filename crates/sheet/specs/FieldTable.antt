@@ -1,6 +1,6 @@
 -- The field table of 01 ("The sheet"), with the second flight head of 02, Req 06, the second block of Req 07 and the weights of Req 09: for each tag the
--- numbers of its content from left to right, each with its width in bytes and its range. The length of a content is the sum of its widths. Where the quoted table has
--- 10,000 the upper end of a time is now `mostTime`, 60,000 (02, Req 01); the lower ends are the table's.
+-- numbers of its content from left to right, each with its width in bytes and its range. The length of a content is the sum of its widths. Where the quoted
+-- table has 10,000 the upper end of a time is now `mostTime`, 60,000 (02, Req 01); the lower ends are the table's.
 use Prim.{Unit}
 use Prim.Native.Nat.{ℕ, zero, suc, _+_, _≤_}
 use mathlib.Core.Bool.{Bool, cond, _&&_}
