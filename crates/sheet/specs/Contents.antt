@@ -16,7 +16,7 @@ use Rattle.sheet.specs.Tags.{mosaicHeadTag, mosaicStripTag, sortingHeadT
 use Rattle.sheet.specs.Tags.{flightWindowBlockTag}
 use Rattle.sheet.specs.Among.{Among}
 use Rattle.sheet.specs.FieldTable.{Item, TableRow, tableRow, mosaicHead, mosaicStrip, sortingHead, sortingStrip, flightBlock, flightWindowBlock, flightOrder}
-use Rattle.sheet.specs.FieldTable.{item, withWeight, emptyFlightHead, turnFlightHead}
+use Rattle.sheet.specs.FieldTable.{weight, withWeight, emptyFlightHead, turnFlightHead}
 use Rattle.sheet.specs.FieldTable.{isStationCount, stripRows, fieldTable, lengthOf, contentsOf, lengthsOf, lengthsDue, ofLength, Value, numbersAt, valuesOf}
 use Rattle.sheet.specs.FieldTable.{contentValues, fieldValues}
 use Rattle.sheet.specs.FieldTable.Range.{count, time, positiveTime}
@@ -86,7 +86,7 @@ values-behind s c (i ∷ content) more =
 -- one byte for a weight
 pub weighted-length : (content : List Item) → lengthOf (withWeight content) ≡ lengthOf content + 1
 unfolding withWeight lengthOf
-weighted-length content = omega (arith, length-behind content (item 1 (count 1 mostWeight) ∷ []))
+weighted-length content = omega (arith, length-behind content (weight ∷ []))
 
 weighted-values : (s : List ℕ) (c : ℕ) (content : List Item)
     → contentValues s c (withWeight content) ≡ contentValues s c content ++ (value (count 1 mostWeight) (numberAt s (c + lengthOf content) 1) ∷ [])

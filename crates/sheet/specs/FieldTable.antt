@@ -45,8 +45,11 @@ unfoldable pub sortingStrip : ℕ → List Item
 sortingStrip m = item 1 (count 1 m) ∷ item 2 (positiveTime mostTime) ∷ item 2 (positiveTime mostTime) ∷ []
 
 -- 02, Req 09: "A mosaic or sorting strip may carry one last byte, its weight, 1 to 100"; "any other value is 6", as of a count
+abbrev pub weight : Item
+weight = item 1 (count 1 mostWeight)
+
 unfoldable pub withWeight : List Item → List Item
-withWeight content = content ++ (item 1 (count 1 mostWeight) ∷ [])
+withWeight content = content ++ (weight ∷ [])
 
 -- "empty"; 02, Req 06: "The flight head may carry two bytes, the turn g, 0 to 600 seconds"
 unfoldable pub emptyFlightHead : List Item
