@@ -77,8 +77,9 @@
 
 /* Bytes of stack that are enough for a thread that plans, and for one that only judges and prints
  * pages. Measured on full sheets (40 strips, 6 + 6 + 6 strips, 8 free blocks or 32 in order, also
- * with windows) by the bytes of a painted stack that were changed: 96,400 for planning, 27,500 for
- * judging, 27,700 for a page, of which a thread that does nothing takes 4,500. The rest is slack. */
+ * with windows and with weights) by the bytes of a painted stack that were changed: 103,500 for
+ * planning, 31,400 for judging, 31,600 for a page, of which a thread that does nothing takes 4,500.
+ * The rest is slack. */
 #define SEVULAMON_PLAN_STACK 131072
 #define SEVULAMON_JUDGE_STACK 65536
 
