@@ -26,7 +26,7 @@ use Rattle.sheet.specs.Contents.{flight-window-block-content, flight-ord
 use Rattle.sheet.specs.Rows.{firstFailure}
 use Rattle.sheet.specs.Checks.{sectionFilled, orderGiven, permitted, rangeNumber, windowOrdered, hasRoom, orderProper}
 use Rattle.sheet.specs.Decode.{withMosaicHead, weightOf, withStationTimes, withMosaicStrip, withSortingHead, withStripAt, withSortingStrip, turnOf, withFlightHead}
-use Rattle.sheet.specs.Decode.{exactBlock, windowBlock, withBlock, withOrder, nextMosaic, nextSorting, nextFlight, nextSection, nextMembers, nextReading}
+use Rattle.sheet.specs.Decode.{begunFlight, exactBlock, windowBlock, withBlock, withOrder, nextMosaic, nextSorting, nextFlight, nextSection, nextMembers, nextReading}
 use Rattle.sheet.specs.Read.{contentChecks, fieldChecks, fieldNumber}
 use Rattle.sheet.specs.declared.MosaicSection.{MosaicSection}
 use Rattle.sheet.specs.declared.SortingSection.{SortingSection}
@@ -240,7 +240,7 @@ module _ {s : List ℕ} {c : ℕ} {t : List ℕ} {d len : ℕ} (b : SameBytes s 
       where
         go : (len ≡ 0) ⊎ (len ≡ 2) → turnOf s c len ≡ turnOf t d len
         go (inl q) = rw q
-        go (inr q) = ap (cond (eqb len 0) 0) (first-number 2 (omega arith))
+        go (inr q) = rw (first-number 2 (omega arith))
 
     block-length : tag ≡ flightBlockTag → len ≡ 6
     unfolding flightBlock lengthOf
@@ -269,7 +269,7 @@ module _ {s : List ℕ} {c : ℕ} {t : List ℕ} {d len : ℕ} (b : SameBytes s 
 
     same-head : (at there : ℕ) → tag ≡ flightHeadTag → withFlightHead t d len there ≡ withPlace there (withFlightHead s c len at)
     unfolding withFlightHead
-    same-head at there e = rw (same-turn e)
+    same-head at there e = ap (λ turn. begunFlight turn there) (sym (same-turn e))
 
     pub same-flight : (f : FlightSection) (place at there : ℕ)
         → nextFlight t d tag len there (withPlace place f) ≡ withPlace (placeAfter tag there place) (nextFlight s c tag len at f)
