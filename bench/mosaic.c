@@ -6,9 +6,8 @@ extern u64 mosaic_best(size_t stations, u64 mount, size_t strips, const u64 stat
 
 enum { INSTANCES = 60 };
 
-/* What a family has otherwise than random times: long mounts beside short times, strips that are ready when their mounts are done, each alone, or equal strips
-   that are ready at 0, whose bench time is the mount time, so that many batchings are best. */
-enum change { NONE, LONG_MOUNTS, JUST_READY, TIED };
+/* What a family has otherwise than random times: long mounts beside short times, or strips that are ready when their mounts are done, each alone. */
+enum change { NONE, LONG_MOUNTS, JUST_READY };
 
 struct family {
     const char *name;
@@ -23,7 +22,6 @@ static const struct family families[] = {
     {"to 10", 10, NONE, UNWEIGHTED},
     {"long mounts", 1000, LONG_MOUNTS, UNWEIGHTED},
     {"just ready", MOST_TIME / 2, JUST_READY, UNWEIGHTED},
-    {"many best batchings", MOST_TIME, TIED, UNWEIGHTED},
     {"random weights", MOST_TIME, NONE, RANDOM_WEIGHTS},
     {"one weight of 100", MOST_TIME, NONE, ONE_HEAVY},
     {"long strips heavy", MOST_TIME, NONE, LONG_HEAVY},
@@ -52,10 +50,6 @@ static struct mosaic make_mosaic(const struct family *f, size_t stations, size_t
     struct mosaic m = random_mosaic(stations, strips, 0, f->most, f->weights);
     if (f->change == LONG_MOUNTS)
         m.mount = any(MOST_TIME / 2, MOST_TIME);
-    for (size_t i = 0; f->change == TIED && i < 4 * strips; i++) {
-        m.station[i] = 0;
-        m.bench[i / 4] = m.mount = 1;
-    }
     if (f->change == JUST_READY)
         for (size_t i = 0; i < 4 * strips; i++)
             m.station[i] = m.mount + (i < 4 ? 0 : m.bench[i / 4 - 1]);

@@ -1,4 +1,4 @@
-/* The mosaic planner in plain C: ready times, sums of bench times and of scaled weights, one row of least costs, and the costs that begin with a batch that
+/* The mosaic planner in plain C: ready times, sums of bench times and of weights, one row of least figures, and the figures that begin with a batch that
    waits. */
 #ifndef BENCH_MOSAIC_H
 #define BENCH_MOSAIC_H
@@ -18,48 +18,44 @@ struct mosaic_plan {
     u64 last[40], start[40], finish[40];
 };
 
-/* A batch that is taken: its last strip, and the least cost from its first strip on. */
+/* A batch that is taken: its last strip, and the least figure from its first strip on. */
 struct choice {
     size_t last;
-    u64 cost;
+    u64 figure;
 };
-
-/* A cost is a figure and a number of batches in one number: 1 of a figure counts more than all batches of a section. A weight is
-   scaled by it. A row has the least cost after each strip, with 1 for the batch that ends there. */
-enum { FIGURE_SCALE = 64 };
 
 /* When the bench work of a batch starts: its mount is done, and its last strip is ready. */
 static inline u64 bench_start(u64 mount, u64 start, u64 ready) {
     return start + mount < ready ? ready : start + mount;
 }
 
-static inline u64 candidate(const u64 *ready, const u64 *sums, const u64 *scaled, const u64 *late, const u64 *row, u64 mount, u64 free, size_t i, size_t q) {
+static inline u64 candidate(const u64 *ready, const u64 *sums, const u64 *weights, const u64 *late, const u64 *row, u64 mount, u64 free, size_t i, size_t q) {
     if (ready[q - 1] <= free + mount)
-        return (scaled[q] - scaled[i]) * (free + mount + (sums[q] - sums[i])) + row[q];
+        return (weights[q] - weights[i]) * (free + mount + (sums[q] - sums[i])) + row[q];
     return late[41 * i + q];
 }
 
 static inline struct choice
-choose_batch(const u64 *ready, const u64 *sums, const u64 *scaled, const u64 *late, const u64 *row, u64 mount, size_t n, u64 free, size_t i) {
-    struct choice best = {n, candidate(ready, sums, scaled, late, row, mount, free, i, n)};
+choose_batch(const u64 *ready, const u64 *sums, const u64 *weights, const u64 *late, const u64 *row, u64 mount, size_t n, u64 free, size_t i) {
+    struct choice best = {n, candidate(ready, sums, weights, late, row, mount, free, i, n)};
     for (size_t q = n; i + 1 < q;) {
         q--;
-        u64 cost = candidate(ready, sums, scaled, late, row, mount, free, i, q);
-        if (cost < best.cost)
-            best = (struct choice){q, cost};
+        u64 figure = candidate(ready, sums, weights, late, row, mount, free, i, q);
+        if (figure < best.figure)
+            best = (struct choice){q, figure};
     }
     return best;
 }
 
 static inline void
-fill_block(const u64 *ready, const u64 *sums, const u64 *scaled, const u64 *late, u64 *row, u64 mount, size_t n, u64 begin, size_t i, size_t low) {
+fill_block(const u64 *ready, const u64 *sums, const u64 *weights, const u64 *late, u64 *row, u64 mount, size_t n, u64 begin, size_t i, size_t low) {
     u64 at = begin + (u64)(n - low) * mount;
-    row[n] = 1;
+    row[n] = 0;
     for (size_t p = n; low < p;) {
         p--;
         at -= mount;
         for (size_t k = p; k < n; k++)
-            row[k] = choose_batch(ready, sums, scaled, late, row, mount, n, at + (sums[k] - sums[i]), k).cost + 1;
+            row[k] = choose_batch(ready, sums, weights, late, row, mount, n, at + (sums[k] - sums[i]), k).figure;
     }
 }
 
@@ -78,23 +74,21 @@ static inline void read_times(const struct mosaic *m, u64 *ready, u64 *sums, u64
 }
 
 static inline struct mosaic_plan mosaic_in_c(const struct mosaic *m) {
-    u64 ready[40] = {0}, sums[41] = {0}, weights[41] = {0}, scaled[41], late[1640] = {0}, row[41] = {0}, mount = m->mount, free = 0;
+    u64 ready[40] = {0}, sums[41] = {0}, weights[41] = {0}, late[1640] = {0}, row[41] = {0}, mount = m->mount, free = 0;
     size_t n = m->strips;
     struct mosaic_plan plan = {0};
     read_times(m, ready, sums, weights);
-    for (size_t q = 0; q <= n; q++)
-        scaled[q] = FIGURE_SCALE * weights[q];
     for (size_t i = n; 0 < i;) {
         i--;
         for (size_t q = i + 1; q <= n; q++) {
             u64 begin = ready[q - 1];
-            fill_block(ready, sums, scaled, late, row, mount, n, begin, i, q);
-            late[41 * i + q] = (scaled[q] - scaled[i]) * (begin + (sums[q] - sums[i])) + row[q];
+            fill_block(ready, sums, weights, late, row, mount, n, begin, i, q);
+            late[41 * i + q] = (weights[q] - weights[i]) * (begin + (sums[q] - sums[i])) + row[q];
         }
     }
     for (size_t i = 0; i < n;) {
-        fill_block(ready, sums, scaled, late, row, mount, n, free + mount, i, i + 1);
-        size_t q = choose_batch(ready, sums, scaled, late, row, mount, n, free, i).last;
+        fill_block(ready, sums, weights, late, row, mount, n, free + mount, i, i + 1);
+        size_t q = choose_batch(ready, sums, weights, late, row, mount, n, free, i).last;
         plan.last[plan.batches] = q;
         plan.start[plan.batches] = free;
         free = bench_start(mount, free, ready[q - 1]) + (sums[q] - sums[i]);

@@ -1,6 +1,6 @@
 /* Times the whole call, sevulamon_plan, against plain C that does the same work on the same bytes: full sheets (40 strips, 6 + 6 + 6 strips, 8 free
-   blocks or 32 with an order, with exact delays and with windows, without and with a turn, without and with weights), a full mosaic alone, a small sheet, and
-   sheets that are refused. Both must give the same answer and leave the same bytes in the buffer.
+   blocks or 32 with an order, with exact delays and with windows, without and with a turn, without and with weights), a small sheet, and sheets that are
+   refused. Both must give the same answer and leave the same bytes in the buffer.
    rt staticlib viewer && gcc -O2 -Wall -Wextra -Werror -Iinclude -o target/bench_plan bench/plan.c target/staticlib/libviewer.a && target/bench_plan */
 #include "plan.h"
 #include "sheet_writer.h"
@@ -14,8 +14,8 @@ enum { HEAD_FIELD = 3, BLOCK_FIELD = 9, WINDOW_FIELD = 11, ORDER_FIELD = 11 };
 /* The targets of an accepted full sheet: its time by that of the C, and by that of plain enumeration of its sorting section alone. */
 static const double target_ratio = 2.0, target_part = 0.05;
 
-/* What a sheet has otherwise than a full one, or how it is spoiled. */
-enum change { NONE, MOSAIC_ALONE, ONE_MEMBER_EACH, EMPTY, CUT, LAST_DESK, LAST_WEIGHT, FIRST_TIME, TURN, LAST_TIME, LAST_WINDOW, NOT_PROPER, NO_ORDER, SMALL_BUFFER };
+/* How a full sheet with an order is spoiled, if it is. */
+enum change { NONE, ONE_MEMBER_EACH, EMPTY, CUT, LAST_DESK, LAST_WEIGHT, FIRST_TIME, TURN, LAST_TIME, LAST_WINDOW, NOT_PROPER, NO_ORDER, SMALL_BUFFER };
 
 struct family {
     const char *name;
@@ -62,7 +62,6 @@ static const struct family families[] = {
     {"last strips heavy", 0, NONE, 0, MOST_TIME, RANDOM, LAST_HEAVY, FREE_RANDOM, long_times},
     {"identical desks, random weights", 0, NONE, 0, MOST_TIME, IDENTICAL_DESKS, RANDOM_WEIGHTS, FREE_RANDOM, long_times},
     {"equal strips, last ones heavy", 0, NONE, 0, MOST_TIME, EQUAL_STRIPS, LAST_HEAVY, FREE_RANDOM, long_times},
-    {"the mosaic alone", 0, MOSAIC_ALONE, 0, MOST_TIME, RANDOM, UNWEIGHTED, ONE_BY_ONE, long_times},
     {"one member in each section", 0, ONE_MEMBER_EACH, 0, MOST_TIME, RANDOM, UNWEIGHTED, FREE_RANDOM, long_times},
     {"2: buffer too small", SEVULAMON_BUFFER_TOO_SMALL, SMALL_BUFFER, 0, MOST_TIME, RANDOM, UNWEIGHTED, ONE_BY_ONE, long_times},
     {"3: last field cut", SEVULAMON_FIELD_CUT, CUT, 0, MOST_TIME, RANDOM, UNWEIGHTED, ONE_BY_ONE, long_times},
@@ -111,7 +110,6 @@ static void change_bytes(struct call *x, enum change change) {
     for (size_t i = 0; i < f->blocks; i++)
         flight -= block_field(f, i);
     switch (change) {
-    case MOSAIC_ALONE: x->length = (size_t)(put_mosaic(x->sheet, &x->sections.mosaic) - x->sheet); break;
     case EMPTY: x->length = 0; break;
     case CUT: x->length--; break;
     case LAST_DESK: put(flight - JOB_LENGTH, 1, x->sections.sorting.desks + 1); break;

@@ -64,8 +64,8 @@
 
 /* The minor number rises with every change request that lands (docs/LANDINGS.md). */
 #define SEVULAMON_VERSION_MAJOR 1
-#define SEVULAMON_VERSION_MINOR 9
-#define SEVULAMON_VERSION "1.9"
+#define SEVULAMON_VERSION_MINOR 8
+#define SEVULAMON_VERSION "1.8"
 
 /* A plan buffer of this length is large enough for every sheet. A smaller one is refused with 2,
  * whatever the sheet. */
@@ -143,9 +143,8 @@ struct sevulamon_judged {
 
 /* Plans a sheet. An accepted call writes the plan at the start of the buffer and no byte behind it;
  * a refused one writes nothing. The two buffers must not overlap. No allowed plan of the sheet has
- * a smaller figure in any section, and none of the same mosaic figure has fewer batches, that is,
- * mounts. Of several best sortings the one is taken that has the lower desk number at the first
- * place where they part, in the scanner's order. */
+ * a smaller figure in any section. Of several best sortings the one is taken that has the lower
+ * desk number at the first place where they part, in the scanner's order. */
 struct sevulamon_answer sevulamon_plan(const uint8_t *sheet, size_t sheet_length,
                                        uint8_t *plan, size_t plan_length);
 

@@ -1,15 +1,8 @@
-"""The least figures of a sheet's sections, of any size, the fewest batches of a mosaic of least figure, and the scanner list that is due.
+"""The least figures of a sheet's sections, of any size, and the scanner list that is due.
 
-Mosaic: forward from strip to strip, every beginning (time at which the bench is free, figure, batches) that no other beats. Sorting: forward over the
+Mosaic: forward from strip to strip, every pair (time at which the bench is free, figure) that no other pair beats. Sorting: forward over the
 numbers of strips taken of each desk, every row (figure, scanner list, free times of the desks) that no other row beats. Flight without an order: the
 timetable in which passes of two kinds may stand in each other's way, and from there a branch on each two that do, one pass first or the other.
-
-Of two beginnings of the same strips, the one with the lower figure, or with the same figure and no more batches, beats the other where its bench is free no
-later. The same batches behind both finish no later behind it, so they add no more to its figure. Where its figure is lower, no plan that begins with the other
-has the least figure. Where the figures are the same, a plan of least figure that begins with the other gives one that begins with it, of the same figure and
-no more batches. All others are kept: one that is free sooner may lead to the lower figure although it has a higher one or more batches, and one that is free
-later may lead to the same figure with fewer batches, where the bench waits for the strips behind. Idle plans need not be tried: without its waits a plan has
-the same number of batches and no larger figure.
 
 The scanner list that is due is, of those of least figure, the one that has the lower desk number at the first place where it and another part. Of two rows
 with the same strips taken, the one with the lower figure, or with the same figure and the list that comes first, beats the other where its desks are free
@@ -21,27 +14,26 @@ import distances
 import timetable
 
 
-def unbeaten(beginnings):
-    """Of beginnings (time, figure, batches) those that no other beats: one of no later time that comes before by figure, then by batches."""
+def unbeaten(pairs):
+    """Of pairs (time, figure) those that no other comes before in both."""
     out = []
-    for beginning in sorted(beginnings):
-        if not out or beginning[1:] < out[-1][1:]:
-            out.append(beginning)
+    for time, figure in sorted(pairs):
+        if not out or figure < out[-1][1]:
+            out.append((time, figure))
     return out
 
 
 def best_mosaic(sheet):
-    """The least figure and, of the plans that have it, the fewest batches."""
     ready, n = timetable.ready_times(sheet), len(sheet.strips)
-    beginnings = [[(0, 0, 0)]] + [[] for _ in range(n)]
+    pairs = [[(0, 0)]] + [[] for _ in range(n)]
     for done in range(n):
-        mounted, work, weights = [(free + sheet.mount, figure, batches + 1) for free, figure, batches in unbeaten(beginnings[done])], 0, 0
+        mounted, work, weights = [(free + sheet.mount, figure) for free, figure in unbeaten(pairs[done])], 0, 0
         for last in range(done, n):
             _, bench, weight = sheet.strips[last]
             work, weights = work + bench, weights + weight
-            finishes = [(max(time, ready[last]) + work, figure, batches) for time, figure, batches in mounted]
-            beginnings[last + 1] += [(finish, figure + weights * finish, batches) for finish, figure, batches in finishes]
-    return min(beginning[1:] for beginning in beginnings[n])
+            finishes = [(max(time, ready[last]) + work, figure) for time, figure in mounted]
+            pairs[last + 1] += [(finish, figure + weights * finish) for finish, figure in finishes]
+    return min(figure for _, figure in pairs[n])
 
 
 def unbeaten_rows(rows):
@@ -135,8 +127,6 @@ def best_flight(sheet):
 
 
 def best(sheet):
-    """The least figure of each section, 0 for an absent one, None for a flight that is impossible; the fewest batches, 0 without a mosaic; and the scanner
-    list, empty without a sorting."""
-    mosaic, batches = best_mosaic(sheet) if sheet.strips else (0, 0)
+    """The least figure of each section, 0 for an absent one, None for a flight that is impossible; and the scanner list, empty without a sorting."""
     sorting, desks = best_sorting(sheet) if sheet.jobs else (0, b"")
-    return (mosaic, sorting, best_flight(sheet) if sheet.blocks else 0), batches, desks
+    return (best_mosaic(sheet) if sheet.strips else 0, sorting, best_flight(sheet) if sheet.blocks else 0), desks

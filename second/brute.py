@@ -1,4 +1,4 @@
-"""The least figures of small sheets, the fewest batches of a mosaic of least figure, and the scanner list that is due, by trying everything.
+"""The least figures of small sheets, and the scanner list that is due, by trying everything.
 
 `of_choices` tries every batching, every interleaving and every proper order, each with its earliest starts. `of_timetables`, for tiny sheets, tries idle
 timetables too: in mosaic every mount up to two minutes later than it may start, in sorting those that wait one minute at one or two starts, in flight every
@@ -51,16 +51,7 @@ def idle_batches(sheet, lasts, most):
 
 
 def least_mosaic(sheet, most):
-    """The least figure and, of all timetables that have it, the fewest batches."""
-    tried = (batches for lasts in batchings(len(sheet.strips)) for batches in idle_batches(sheet, lasts, most))
-    return min((timetable.mosaic_figure(sheet, batches), len(batches)) for batches in tried)
-
-
-def best_batchings(sheet):
-    """Every row of last strips of least figure, those with fewer batches first."""
-    figures = {tuple(lasts): timetable.mosaic_figure(sheet, timetable.batches_of(sheet, lasts)) for lasts in batchings(len(sheet.strips))}
-    least = min(figures.values())
-    return sorted((lasts for lasts, figure in figures.items() if figure == least), key=lambda lasts: (len(lasts), lasts))
+    return min(timetable.mosaic_figure(sheet, batches) for lasts in batchings(len(sheet.strips)) for batches in idle_batches(sheet, lasts, most))
 
 
 def finish_of(sheet, done, last, start):
@@ -193,27 +184,25 @@ def least_by_order(blocks, turn):
 
 
 def of_sections(sheet, most, flight):
-    """The least figures, 0 for an absent section, with this one of the flight; the fewest batches, 0 without a mosaic; and the scanner list, empty without a
-    sorting."""
-    mosaic, batches = least_mosaic(sheet, most) if sheet.strips else (0, 0)
+    """The least figures, 0 for an absent section, with this one of the flight; and the scanner list, empty without a sorting."""
     sorting, desks = least_sorting(sheet, most) if sheet.jobs else (0, b"")
-    return (mosaic, sorting, flight), batches, desks
+    return (least_mosaic(sheet, most) if sheet.strips else 0, sorting, flight), desks
 
 
 def of_choices(sheet):
-    """The least figures, the fewest batches and the scanner list. The figure of a flight that is impossible is None."""
+    """The least figures and the scanner list. The figure of a flight that is impossible is None."""
     return of_sections(sheet, 0, least_flight(sheet) if sheet.blocks else 0)
 
 
 def best_plan(sheet):
-    """A plan of least figures over all choices, with the fewest batches and the scanner list that is due, or None where the flight is impossible."""
+    """A plan of least figures over all choices, with the scanner list that is due, or None where the flight is impossible."""
     batches = [timetable.batches_of(sheet, lasts) for lasts in batchings(len(sheet.strips))] if sheet.strips else [[]]
     jobs = timetable.jobs_of(sheet, least_sorting(sheet, 0)[1]) if sheet.jobs else []
     flights = list(earliest_flights(sheet)) if sheet.blocks else [(None, [])]
     if not flights:
         return None
     order, starts = min(flights, key=lambda flight: distances.end(sheet.blocks, flight[1]) if sheet.blocks else 0)
-    least = min(batches, key=lambda row: (timetable.mosaic_figure(sheet, row), len(row)))
+    least = min(batches, key=lambda row: timetable.mosaic_figure(sheet, row))
     return timetable.plan_of(sheet, least, jobs, order, starts)
 
 

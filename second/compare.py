@@ -1,10 +1,10 @@
 """Cases, and their comparison with what a program answers. The program is harness.c over the exported functions.
 
 A planning call is compared by value: number, place, length, every byte of the plan, and every other byte of the buffer and of the bytes behind it. Which of
-several best batchings with the fewest batches and which of several best free pass orders the plan takes is left to the program; the number of batches and the
-scanner list are not. A judging call is compared by its five numbers. A page call is compared by number, place, length and every byte of the buffer and behind
-it; of two pages of one sheet it is also asked whether they are equal exactly where the plans are. Of a call for a sheet with a turn of 0, with windows of one
-value or with weights of 1 it is asked whether it answers as with an empty flight head, with blocks of one delay or without these weights.
+several best batchings and which of several best free pass orders the plan takes is left to the program; the scanner list is not. A judging call is compared
+by its five numbers. A page call is compared by number, place, length and every byte of the buffer and behind it; of two pages of one sheet it is also asked
+whether they are equal exactly where the plans are. Of a call for a sheet with a turn of 0, with windows of one value or with weights of 1 it is asked whether
+it answers as with an empty flight head, with blocks of one delay or without these weights.
 """
 import functools
 import itertools
@@ -27,14 +27,9 @@ FILL = b"\xA5"
 PLAN_NUMBERS = (12, 13, 14)
 
 
-def places_of(sheet, plan):
-    """The places of an allowed plan's members, by the tag of their head."""
-    return {tag: members for tag, _, members in judge.parts_of(sheet, plan)[0]}
-
-
 def plan_due(sheet, desks, plan):
     """The plan with this scanner list that takes the same batches and pass order as an allowed one and starts everything as early as they allow."""
-    places = places_of(sheet, plan)
+    places = {tag: members for tag, _, members in judge.parts_of(sheet, plan)[0]}
     batches = timetable.batches_of(sheet, [plan[at + 3] for at in places[0x90]]) if sheet.strips else []
     jobs = timetable.jobs_of(sheet, desks) if sheet.jobs else []
     order, starts = None, []
@@ -53,18 +48,13 @@ def impossible(sheet, flight):
     return flight is None
 
 
-def batches_in(sheet, plan):
-    """The number of an allowed plan's batches, 0 without a mosaic."""
-    return len(places_of(sheet, plan).get(0x90, []))
-
-
 def scanner_list(sheet, plan):
     """The desk numbers of an allowed plan's sorting, a byte for each; none without a sorting."""
-    return bytes(plan[at + 3] for at in places_of(sheet, plan).get(0xA0, []))
+    return bytes(plan[at + 3] for tag, _, members in judge.parts_of(sheet, plan)[0] if tag == 0xA0 for at in members)
 
 
 class PlanCase:
-    """A sheet to be planned into a buffer of `room` bytes; `least` gives the figures, the number of batches and the scanner list due for a sound sheet."""
+    """A sheet to be planned into a buffer of `room` bytes; `least` gives the figures and the scanner list due for a sound sheet."""
 
     calls = 1
 
@@ -79,17 +69,16 @@ class PlanCase:
 
     @functools.cached_property
     def due(self):
-        """Number and place of the refusal, or 0 and 0; for a sheet that is sound but for 11, what it says, its figures, its number of batches and its scanner
-        list."""
+        """Number and place of the refusal, or 0 and 0; for a sheet that is sound but for 11, what it says, its figures and its scanner list."""
         if self.room < ROOM:
             return (2, 0), None
         try:
             sheet = reader.read(self.sheet)
         except reader.Refused as refused:
             return (refused.number, refused.place), None
-        figures, batches, desks = self.least(sheet)
+        figures, desks = self.least(sheet)
         place = sheet.flight_at if sheet.order is None else sheet.order_at
-        return ((11, place) if impossible(sheet, figures[2]) else (0, 0)), (sheet, figures, batches, desks)
+        return ((11, place) if impossible(sheet, figures[2]) else (0, 0)), (sheet, figures, desks)
 
     def fault(self, answer):
         """What is wrong with the answer, or None."""
@@ -103,14 +92,12 @@ class PlanCase:
             return "a byte that is no part of a plan was written"
         return None if number else self.plan_fault(*sound, buffer[:length])
 
-    def plan_fault(self, sheet, figures, batches, desks, plan):
+    def plan_fault(self, sheet, figures, desks, plan):
         verdict = judge.judge_plan(sheet, plan)
         if verdict[0]:
             return "the plan is not allowed: %d at %d" % verdict[:2]
         if verdict[2:] != figures:
             return "figures %s were due, not %s" % (figures, verdict[2:])
-        if batches_in(sheet, plan) != batches:
-            return "%d batches were due, not %d" % (batches, batches_in(sheet, plan))
         if scanner_list(sheet, plan) != desks:
             return "the scanner list %s was due, not %s" % (desks.hex(" "), scanner_list(sheet, plan).hex(" "))
         return None if plan == plan_due(sheet, desks, plan) else "a start is later than it need be"

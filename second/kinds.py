@@ -6,13 +6,8 @@ times 1, scans so long that no desk is waited for, and desks so long that the sc
 the middle one or the first, and up to 3 strips of each, where every interleaving is tried, or all 6; some stand beside a mosaic, a flight or both. Of the
 small ones plans with any of the best lists are judged and printed.
 
-Mosaics with ties, whose best batchings have different numbers of batches, are drawn from the families of batches.TIES: small times, times in thousands, all
-strips ready at 0, one after another or some of them late, and bench times as long as a mount or two. They have one to four stations and up to 8 strips, where
-every batching is tried, or up to 40; some stand beside a sorting, a flight or both. Of the small ones plans with each of the best batchings are judged and
-printed.
-
 Strips that are drawn, in every kind, have no weight in three of eight sections; in the others all have one, or some. The weights of sortings with ties are few
-or the same at all desks, those of mosaics with ties are few.
+or the same at all desks.
 
 Flights have an empty head or a turn: of those that are drawn, in every kind, three of eight an empty head, the others 0, any turn, one up to the shortest
 of the blocks' longest delays or one next to it. Their blocks have one delay, a window, or are of both kinds.
@@ -20,7 +15,6 @@ of the blocks' longest delays or one next to it. Their blocks have one delay, a 
 import itertools
 import random
 
-import batches
 import best
 import brute
 import distances
@@ -43,13 +37,9 @@ from reader import field
 
 CHUNK = 250
 
-# A sorting and a flight of one member each, which may stand behind a mosaic, and their plan.
-BEHIND = tiny.ONES["s"] + tiny.ONES["f"]
-PLANNED = tiny.HEADS["s"] + tiny.MEMBERS["s"] + tiny.HEADS["f"] + tiny.MEMBERS["f"]
-
 
 def agreed(sheet, least):
-    """The figures, the number of batches and the scanner list, once the two methods of this program agree on them."""
+    """The figures and the scanner list, once the two methods of this program agree on them."""
     assert least == best.best(sheet), "the second program's own methods differ: %s" % (least,)
     return least
 
@@ -242,24 +232,24 @@ def windows_fixed():
 
 
 def of_every_mount(sheet):
-    """The figures and the number of batches once every start of every batching is tried, and the other methods of this program agree."""
+    """The figures once every start of every batching is tried, and the other methods of this program agree."""
     found = brute.least_by_batching(sheet)
     for lasts, (figure, least) in found.items():
         batches = timetable.batches_of(sheet, lasts)
         assert (figure, least) == (timetable.mosaic_figure(sheet, batches), batches), "the second program's own methods differ on mounts: %s" % (least,)
-    figure, number = min((figure, len(lasts)) for lasts, (figure, _) in found.items())
-    return agreed(sheet, ((figure, 0, 0), number, b""))
+    return agreed(sheet, ((min(figure for figure, _ in found.values()), 0, 0), b""))
 
 
 def worked_mosaic():
     """The best plan of the first worked sheet is one alone. All six are judged with each other's figures too, and with other sections behind them."""
-    yield PlanCase(mounts.WORKED, least=lambda sheet: agreed(sheet, ((32, 0, 0), 4, b"")))
-    for figure, row in mounts.WORKED_PLANS.items():
-        plan = mounts.stated_plan(figure, row)
-        yield from (AllowedCase(mounts.WORKED, plan), AllowedCase(mounts.WORKED + BEHIND, plan + PLANNED), PageCase(mounts.WORKED, plan))
-        yield from (JudgeCase(mounts.WORKED + BEHIND, plan + tail) for tail in (b"", PLANNED[:-1], PLANNED[:-1] + b"\xFF"))
-        yield from (JudgeCase(mounts.WORKED, mounts.stated_plan(other, row)) for other in (*mounts.WORKED_PLANS, 0, figure - 1, figure + 1))
-    yield from (BrokenCase(mounts.WORKED, mounts.plan_of(mounts.WORKED, row), 0) for row in mounts.missing())
+    yield PlanCase(mounts.WORKED, least=lambda sheet: agreed(sheet, ((32, 0, 0), b"")))
+    behind, planned = tiny.ONES["s"] + tiny.ONES["f"], tiny.HEADS["s"] + tiny.MEMBERS["s"] + tiny.HEADS["f"] + tiny.MEMBERS["f"]
+    for figure, batches in mounts.WORKED_PLANS.items():
+        plan = mounts.stated_plan(figure, batches)
+        yield from (AllowedCase(mounts.WORKED, plan), AllowedCase(mounts.WORKED + behind, plan + planned), PageCase(mounts.WORKED, plan))
+        yield from (JudgeCase(mounts.WORKED + behind, plan + tail) for tail in (b"", planned[:-1], planned[:-1] + b"\xFF"))
+        yield from (JudgeCase(mounts.WORKED, mounts.stated_plan(other, batches)) for other in (*mounts.WORKED_PLANS, 0, figure - 1, figure + 1))
+    yield from (BrokenCase(mounts.WORKED, mounts.plan_of(mounts.WORKED, batches), 0) for batches in mounts.missing())
 
 
 def judged_batches(sheet, batches, broken):
@@ -309,16 +299,16 @@ def of_minutes(sheet):
     return agreed(sheet, found)
 
 
-def known(sheet, figures, batches, desks):
-    return PlanCase(sheet, least=lambda parsed: agreed(parsed, ((*figures, 0)[:3], batches, desks)))
+def known(sheet, figures, desks):
+    return PlanCase(sheet, least=lambda parsed: agreed(parsed, ((*figures, 0)[:3], desks)))
 
 
 def heavy_first(desk, number):
-    """What is due for a sheet whose scanner list must begin with so many strips of the desk."""
+    """The figures and the list of a sheet whose list must begin with so many strips of the desk."""
     def least(sheet):
-        figures, batches, desks = best.best(sheet)
+        figures, desks = best.best(sheet)
         assert desks[:number] == bytes([desk] * number), "the second program's own list lets a strip of weight 100 wait: %s" % desks.hex(" ")
-        return figures, batches, desks
+        return figures, desks
     return least
 
 
@@ -379,55 +369,6 @@ def weights_fixed():
     yield "plans with figures of other weights, and of eight bytes", itertools.chain(untrue_weights(), large_figures())
     yield "plans with a head of another length or another byte", itertools.chain(other_heads(), itertools.starmap(JudgeCase, weights.changed_heads()))
     yield "weights of 1 beside none", weights_of_one()
-
-
-def of_numbers(sheet):
-    """The figure and the number of batches of a mosaic, also by the least figure of every number of batches."""
-    figure, number = batches.least_by_number(sheet)
-    return agreed(sheet, ((figure, 0, 0), number, b""))
-
-
-def some_by_numbers(tied):
-    return (PlanCase(sheet, least=best.best if number % 7 else of_numbers) for number, sheet in enumerate(tied))
-
-
-def known_batches():
-    """Planned, of one to four stations; and the plans with the fewest batches and of the batching that another rule takes judged and printed."""
-    for one in batches.known():
-        yield from (known(one.sheet(stations), (one.figure, 0), len(one.fewest), b"") for stations in (1, 2, 3, 4))
-        sheet, parsed = one.sheet(), reader.read(one.sheet())
-        fewest = mounts.stated_plan(one.figure, timetable.batches_of(parsed, one.fewest))
-        other = mounts.plan_of(sheet, timetable.batches_of(parsed, one.other))
-        yield from (AllowedCase(sheet, fewest), AllowedCase(sheet, other), PagesCase(sheet, fewest, other))
-
-
-def best_and_others(sheet):
-    """Plans of all best batchings, judged and printed, the first of each with other sections behind it too; those of all others judged with the least figure
-    too."""
-    parsed = reader.read(sheet)
-    best_ones = brute.best_batchings(parsed)
-    for lasts in best_ones:
-        allowed = [mounts.plan_of(sheet, row) for row in batches.plans_of(parsed, lasts)]
-        yield from (case(sheet, plan) for plan in allowed for case in (AllowedCase, PageCase))
-        yield AllowedCase(sheet + BEHIND, allowed[0] + PLANNED)
-        yield PagesCase(sheet, allowed[0], mounts.plan_of(sheet, timetable.batches_of(parsed, best_ones[0])))
-    least = timetable.mosaic_figure(parsed, timetable.batches_of(parsed, best_ones[0]))
-    for lasts in brute.batchings(len(parsed.strips)):
-        if tuple(lasts) not in best_ones:
-            row = timetable.batches_of(parsed, lasts)
-            yield from (AllowedCase(sheet, mounts.plan_of(sheet, row)), BrokenCase(sheet, mounts.stated_plan(least, row), 0, 14))
-
-
-def batches_fixed():
-    """Name and cases of those of mosaics with best batchings of several numbers of batches, which are the same for every seed too."""
-    yield "every tiny mosaic with ties", (PlanCase(sheet, least=of_every_mount) for sheet in batches.every_mosaic())
-    yield "mosaics of few kinds of strips", (PlanCase(sheet, least=of_choices) for sheet in batches.few_kinds())
-    small = itertools.chain(batches.equal_strips(range(1, 9), range(11), (1, 2, 3)), batches.one_heavier(range(2, 9), range(1, 6)), batches.with_one_more())
-    yield "equal strips, and known ones with one more", (PlanCase(sheet, least=of_choices) for sheet in small)
-    large = itertools.chain(batches.equal_strips(range(9, 41), (1, 2, 5), (1,)), batches.in_groups(range(2, 41), (2, 3, 4, 5)))
-    yield "equal strips and groups of strips, up to 40", some_by_numbers(large)
-    yield "mosaics whose fewest batches are known", known_batches()
-    yield "plans of best batchings and of all others", itertools.chain.from_iterable(map(best_and_others, batches.judged()))
 
 
 def fixed():
@@ -685,23 +626,6 @@ def small_sections_with_weights(rng, count):
             yield from (BrokenCase(sheet, other, 0, 14) for other, _ in weights.untrue(sheet, plan))
 
 
-def small_tied_mosaics(rng, count):
-    """Every batching tried; of some the plans of all batchings judged and printed."""
-    for number in range(share(count, 4)):
-        sheet = batches.drawn_mosaic(rng, 2, 8)
-        yield PlanCase(sheet, least=of_choices)
-        if number % 16 == 0:
-            yield from best_and_others(batches.drawn_mosaic(rng, 2, 4))
-
-
-def large_tied_mosaics(rng, count):
-    return some_by_numbers(batches.drawn_mosaic(rng, 9, 40) for _ in range(share(count, 10)))
-
-
-def tied_mosaics_beside_others(rng, count):
-    return (PlanCase(batches.beside_others(rng), least=of_choices) for _ in range(share(count, 40)))
-
-
 def drawn_weights_of_one(rng, count):
     """Sheets with strips that carry no weight beside the same with weights of 1, with a plan for both."""
     for draw, part in ((sheets.small_sheet, 16), (sheets.large_sheet, 160)):
@@ -722,8 +646,6 @@ DRAWN = {
     "flights of 32 blocks in order with windows": large_flights_with_windows, "sheets with windows of one value": drawn_windows_of_one_value,
     "small mosaics": small_mosaics, "plans of large mosaics about their mounts": mounts_for_large,
     "small sections with weights": small_sections_with_weights, "sheets with weights of 1 beside none": drawn_weights_of_one,
-    "small mosaics with ties": small_tied_mosaics, "mosaics of up to 40 strips with ties": large_tied_mosaics,
-    "mosaics with ties beside other sections": tied_mosaics_beside_others,
 }
 
 
@@ -743,7 +665,7 @@ def rows_of(name, cases):
 
 def chunks(count, seed):
     """All cases, a row of each kind in turn, so that every kind is met early."""
-    every = itertools.chain(fixed(), weights_fixed(), mounts_fixed(), batches_fixed(), turns_fixed(), windows_fixed(), drawn(count, seed))
+    every = itertools.chain(fixed(), weights_fixed(), mounts_fixed(), turns_fixed(), windows_fixed(), drawn(count, seed))
     waiting = [rows_of(name, cases) for name, cases in every]
     while waiting:
         kind = waiting.pop(0)

@@ -1,7 +1,7 @@
 """Mosaics whose mounts may start before their strips are ready, and their plans. All but the drawn ones are the same for every seed; tiny.py, longest.py and
 sheets.py have others.
 
-Sheets whose least figure, the fewest batches that have it, and of every batching the least start and finish of each batch, are found by trying every start:
+Sheets whose least figure, and of every batching the least start and finish of each batch, are found by trying every start:
 - one station, one and two strips: mount times 0, 2 and 5, station times 0 to 5, bench times 1 and 2;
 - one station, three strips: mount times 0, 1 and 3, station times 0, 2 and 3, bench times 1 and 2; and two stations, two strips.
 

@@ -9,8 +9,8 @@ The same for every seed:
 - sections with one member at times of one to eight digits, 40 strips in one batch there, whose figure has nine, and a full page;
 - the allowed plans of the longest sections.
 
-Drawn: plans with idle time, of least figures and fewest batches, at the ceiling, with faults and for damaged sheets, and pairs of allowed plans of one sheet:
-one plan twice, two that differ in few numbers, two of other choices.
+Drawn: plans with idle time, of least figures, at the ceiling, with faults and for damaged sheets, and pairs of allowed plans of one sheet: one plan twice,
+two that differ in few numbers, two of other choices.
 """
 import copy
 import itertools
@@ -120,7 +120,7 @@ def drawn(rng, sheet):
 
 
 def best(sheet):
-    """A plan of least figures and fewest batches of a small sheet, where its flight is possible."""
+    """A plan of least figures of a small sheet, where its flight is possible."""
     plan = brute.best_plan(reader.read(sheet))
     return [(sheet, plan.bytes(), ROOM)] if plan else []
 

@@ -8,14 +8,13 @@ difference ends the run with status 1 and is printed with the seed and the case.
 
     reader.py      sheets, read and checked
     timetable.py   the rules: times of a choice, figures, plan bytes; distances.py: the flight's
-    best.py        the least figures of sections of any size, the fewest batches that have the mosaic's, and the scanner list that is due
+    best.py        the least figures of sections of any size, and the scanner list that is due
     brute.py       the same of small sections, by trying everything
     judge.py       the judge; page.py: the page
     tiny.py        every tiny sheet and plan of bounded kinds
     values.py      values at the ends of their ranges and beyond them; lengths.py: fields of other lengths than those that are due
     mounts.py      mosaics whose mounts start before their strips are ready, and their plans
     weights.py     strips with weights, and their plans
-    batches.py     mosaics whose best batchings have different numbers of batches, and their plans
     turns.py       flights with a turn, and their plans; windows.py: flights with windows, and their plans
     longest.py     the longest sections, and their plans up to the ceiling
     sheets.py      sheets that are drawn; plans.py: plans with idle time, and with faults; pages.py: plans that are printed

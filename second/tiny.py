@@ -1,6 +1,6 @@
 """Every tiny sheet of bounded kinds, and every tiny plan. The same for every seed.
 
-Sheets whose least figures, and of mosaics the fewest batches that have them, are found by trying timetables, idle ones too:
+Sheets whose least figures are found by trying timetables, idle ones too:
 - mosaics of one station: mount time 0, 1 or 3, one to three strips, station times 0, 1 or 3, bench times 1 or 3;
 - mosaics of two stations: mount time 0, 1 or 2, two strips, station times 0 or 2, bench times 1 or 3;
 - sortings of two desks: none to two strips at each, scan and desk times 1 or 3, either desk's strips first in the sheet;

@@ -1,7 +1,7 @@
 """Strips with weights, and their plans. All but the drawn ones are the same for every seed; values.py, lengths.py, sheets.py and plans.py have others.
 
-Sheets whose least figure, fewest batches and scanner list are found by counting, over every batching or every interleaving and minute by minute, the weights
-of the strips that are not complete:
+Sheets whose least figure and scanner list are found by counting, over every batching or every interleaving and minute by minute, the weights of the strips
+that are not complete:
 - mosaics of one station: one to four strips of few times and weights, some without a weight, with several mount times; and of two stations;
 - sortings of two desks with none to two strips at each, of three with none or one, and of equal times with three strips at two desks or two at three.
 
@@ -89,12 +89,11 @@ def minutes_of_list(sheet, desks):
 
 
 def least_by_minutes(sheet):
-    """The least figures, the fewest batches and the scanner list of a sheet with a mosaic or a sorting."""
+    """The least figures and the scanner list of a sheet with a mosaic or a sorting."""
     if sheet.strips:
-        figure, batches = min((minutes_of_batches(sheet, lasts), len(lasts)) for lasts in brute.batchings(len(sheet.strips)))
-        return (figure, 0, 0), batches, b""
+        return (min(minutes_of_batches(sheet, lasts) for lasts in brute.batchings(len(sheet.strips))), 0, 0), b""
     figure, desks = min((minutes_of_list(sheet, desks), bytes(desks)) for desks in brute.interleavings(brute.counts_of(sheet)))
-    return (0, figure, 0), 0, desks
+    return (0, figure, 0), desks
 
 
 def with_weights(times, weights):
@@ -102,16 +101,13 @@ def with_weights(times, weights):
     return [(*one, weight) for one, weight in itertools.product(times, weights)]
 
 
-def mosaics_of(mount_times, strips, least, most):
-    """Every mosaic of these mount times and `least` to `most` of these strips."""
-    return (mosaic(mount, rows) for mount, rows in itertools.product(mount_times, tiny.rows(strips, least, most)))
-
-
 def every_mosaic():
-    yield from mosaics_of((0, 2), with_weights([(0, 1), (2, 1), (1, 3)], (None, 2, 5)), 1, 2)
-    yield from mosaics_of((0, 1, 4), with_weights([(0, 1), (2, 2)], (None, 3, 9)), 3, 3)
-    yield from mosaics_of((0, 1, 3, 9), with_weights([(0, 1)], (None, 4, 100)), 4, 4)
-    yield from mosaics_of((1, 2), with_weights([(0, 2, 1), (3, 0, 1), (1, 1, 2)], (None, 7)), 2, 2)
+    choices = [
+        ((0, 2), with_weights([(0, 1), (2, 1), (1, 3)], (None, 2, 5)), 1, 2), ((0, 1, 4), with_weights([(0, 1), (2, 2)], (None, 3, 9)), 3, 3),
+        ((0, 1, 3, 9), with_weights([(0, 1)], (None, 4, 100)), 4, 4), ((1, 2), with_weights([(0, 2, 1), (3, 0, 1), (1, 1, 2)], (None, 7)), 2, 2),
+    ]
+    for times, strips, least, most in choices:
+        yield from (mosaic(mount, rows) for mount, rows in itertools.product(times, tiny.rows(strips, least, most)))
 
 
 def every_sorting():
@@ -123,32 +119,30 @@ def every_sorting():
         yield from (sorting(queues) for queues in itertools.product(tiny.rows(with_weights([times], (None, 2)), n, n), repeat=desks))
 
 
-# Sheets, their least figures, the fewest batches and the scanner lists. The strips of the mosaics are all ready at 0, and a mount takes 10 minutes. In one
-# batch they are complete at 13. A first strip of weight 100 is worth a mount of its own: 100 * 11 + 2 * 23. With a last strip of weight 100 one batch stays
-# best. The sortings are two worked ones. A strip of weight 100 goes first although its scan is longer: 100 * 7 + 4. Of equal strips the one with more weight
-# does.
+# Sheets, their least figures and their scanner lists. The strips of the mosaics are all ready at 0, and a mount takes 10 minutes. In one batch they are
+# complete at 13. A first strip of weight 100 is worth a mount of its own: 100 * 11 + 2 * 23. With a last strip of weight 100 one batch stays best.
+# The sortings are two worked ones. A strip of weight 100 goes first although its scan is longer: 100 * 7 + 4. Of equal strips the one with more weight does.
 KNOWN = [
-    (mosaic(10, [(0, 1, None)] * 3), (39, 0), 1, b""),
-    (mosaic(10, [(0, 1, 100), (0, 1, None), (0, 1, None)]), (1146, 0), 2, b""),
-    (mosaic(10, [(0, 1, None), (0, 1, None), (0, 1, 100)]), (1326, 0), 1, b""),
-    (sorting([[(2, 5, None)], [(1, 1, None)]]), (0, 10), 0, b"\2\1"),
-    (sorting([[(2, 5, 100)], [(1, 1, None)]]), (0, 704), 0, b"\1\2"),
-    (sorting([[(1, 1, None)], [(1, 1, None)]]), (0, 5), 0, b"\1\2"),
-    (sorting([[(1, 1, None)], [(1, 1, 2)]]), (0, 7), 0, b"\2\1"),
-    (sorting([[(1, 1, 2)], [(1, 1, 2)]]), (0, 10), 0, b"\1\2"),
+    (mosaic(10, [(0, 1, None)] * 3), (39, 0), b""),
+    (mosaic(10, [(0, 1, 100), (0, 1, None), (0, 1, None)]), (1146, 0), b""),
+    (mosaic(10, [(0, 1, None), (0, 1, None), (0, 1, 100)]), (1326, 0), b""),
+    (sorting([[(2, 5, None)], [(1, 1, None)]]), (0, 10), b"\2\1"),
+    (sorting([[(2, 5, 100)], [(1, 1, None)]]), (0, 704), b"\1\2"),
+    (sorting([[(1, 1, None)], [(1, 1, None)]]), (0, 5), b"\1\2"),
+    (sorting([[(1, 1, None)], [(1, 1, 2)]]), (0, 7), b"\2\1"),
+    (sorting([[(1, 1, 2)], [(1, 1, 2)]]), (0, 10), b"\1\2"),
 ]
 
 
 def as_scan_times():
-    """A sheet with a sorting, its figures, 0 for the batches, and its scanner list. Each weight is the scan time, or some times it, and no scan is shorter than
-    a desk time. Any two strips add the later one's weight times the other's scan time to the figure, which is the same number whichever of them is the later
-    one."""
+    """A sheet with a sorting, its figure and its scanner list. Each weight is the scan time, or some times it, and no scan is shorter than a desk time. Any two
+    strips add the later one's weight times the other's scan time to the figure, which is the same number whichever of them is the later one."""
     for counts, least, times in itertools.product([(6, 6, 6), (6, 0, 6), (6, 6), (2, 3, 4), (1, 1, 1)], (1, 4), (1, 9)):
         queues = [[(scan, least, times * scan) for scan in range(least + desk, least + desk + count)] for desk, count in enumerate(counts)]
         scans = [scan for queue in queues for scan, _, _ in queue]
         pairs = itertools.combinations_with_replacement(scans, 2)
         figure = times * (sum(one * other for one, other in pairs) + least * sum(scans))
-        yield sorting(queues), (0, figure, 0), 0, bytes(desk for desk, count in enumerate(counts, 1) for _ in range(count))
+        yield sorting(queues), (0, figure, 0), bytes(desk for desk, count in enumerate(counts, 1) for _ in range(count))
 
 
 def one_heavy(rows, at, weight=MOST_WEIGHT):

@@ -230,19 +230,6 @@ refused("four batches, later mounts, figure 32", M, batches(32, (1, 2, 4), (2, 4
 refused("batches 1, 2-3, 4, figure 45", M, batches(45, (1, 0, 3), (3, 3, 12), (4, 12, 14)), 14, 0)
 refused("batches 1, 2, 3-4, figure 38", M, batches(38, (1, 0, 3), (2, 3, 7), (4, 7, 12)), 14, 0)
 
-# Two best batchings: both are allowed, the one with more batches too, and so is each with a mount that waits where that changes no finish. The figure is that
-# of the finishes, however many batches there are.
-TIED = ready_strips(20, (15, 25), (15, 20), (110, 30))
-IN_TWO, IN_THREE = [(2, 0, 65), (3, 65, 140)], [(1, 0, 45), (2, 45, 85), (3, 85, 140)]
-for name, members in [
-    ("two batches", IN_TWO), ("two batches, a mount that waits", [(2, 0, 65), (3, 90, 140)]),
-    ("three batches", IN_THREE), ("three batches, a mount that waits", [(1, 0, 45), (2, 45, 85), (3, 90, 140)]),
-]:
-    allowed("270 in " + name, TIED, batches(270, *members), 270)
-    refused("269 in " + name, TIED, batches(269, *members), 14, 0)
-refused("270 in two batches, the second one minute early", TIED, batches(270, (2, 0, 65), (3, 64, 140)), 13, HEAD + 12)
-refused("270 in three batches, the second finished as in two", TIED, batches(270, (1, 0, 45), (2, 45, 65), (3, 65, 140)), 13, HEAD + 12)
-
 # Three strips, mount time 2: the first and the third are waited for, the second is not. Mounts at their earliest, at their latest for the same finishes, and
 # later; in each batch a finish one minute early or late.
 WAITED = ready_strips(2, (5, 3), (6, 1), (20, 4))

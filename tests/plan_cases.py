@@ -1,10 +1,9 @@
 #!/usr/bin/env python3
 """Runs the program plan_sheet on sheets and compares what it writes: the plan of each worked sheet of 01, and the refusal of every sheet that sheet_cases.py
 turns back.
-Where a sheet has several best batchings of as few batches as any, or several best free pass orders, the choice is left to the program: then the figures of the
-plan, the number of its batches and the bytes of its sorting are compared, and the program judge_plan must allow it; of a mosaic also that each mount starts
-when the batch before finishes, and of a flight with windows that the starts are the least of the order that the plan has. Best batchings with more batches are
-allowed too. Of several best scanner lists one is due: its bytes are compared, and judge_plan must allow the others
+Where a sheet has several best batchings or free pass orders, the choice is left to the program: then the figures of the plan and the bytes of its sorting are
+compared, and the program judge_plan must allow it; of a mosaic also that each mount starts when the batch before finishes, and of a flight with windows that
+the starts are the least of the order that the plan has. Of several best scanner lists one is due: its bytes are compared, and judge_plan must allow the others
 too. The plans that judge_cases.py has no room for are judged here.
 A written turn of 0 must give the plan that an empty head gives, a window of one value that of an exact delay, and a weight of 1 that of a strip without one.
 
@@ -37,10 +36,9 @@ def planned(name, sheet, plan):
     CASES.append((name, sheet, plan))
 
 
-def best(name, sheet, *figures, count=0, sorting_part=b""):
-    """A sheet with several best plans, the figures of its sections that they have (mosaic, sorting, flight), the number of their batches, which is the fewest of
-    that figure, and the bytes of their sorting."""
-    BEST.append((name, sheet, figures, count, sorting_part))
+def best(name, sheet, *figures, sorting_part=b""):
+    """A sheet with several best plans, the figures of its sections that they have (mosaic, sorting, flight), and the bytes of their sorting."""
+    BEST.append((name, sheet, figures, sorting_part))
 
 
 def tied(name, sheet, plan, *others):
@@ -146,29 +144,29 @@ def finish_of(ready, mount, bench, free, first, last):
 
 
 def best_batchings(ready, mount, bench, weights=None):
-    """The least figure over all batchings, the fewest batches of those that have it, and the batchings that have both, at most two of them; from the ready times,
-    the bench times and the weights of the strips, which are 1 where none are given."""
+    """The least figure over all batchings, and the best ones, at most two of them; from the ready times, the bench times and the weights of the strips, which
+    are 1 where none are given."""
     n = len(ready)
     weights = weights or [1] * n
 
     @functools.cache
     def rest(done, free):
         if done == n:
-            return 0, 0, [()]
+            return 0, [()]
         found = []
         for last in range(done + 1, n + 1):
             end = finish_of(ready, mount, bench, free, done + 1, last)
-            figure, count, ways = rest(last, end)
-            found.append((sum(weights[done:last]) * end + figure, count + 1, [(last, *way) for way in ways]))
-        least = min((figure, count) for figure, count, _ in found)
-        return *least, [way for figure, count, ways in found if (figure, count) == least for way in ways][:2]
+            figure, ways = rest(last, end)
+            found.append((sum(weights[done:last]) * end + figure, [(last, *way) for way in ways]))
+        least = min(figure for figure, _ in found)
+        return least, [way for figure, ways in found if figure == least for way in ways][:2]
 
     return rest(0, 0)
 
 
 def least_sum(ready, mount, bench, weights=None):
-    """The least figure over all batchings, and the fewest batches of those that have it."""
-    return best_batchings(ready, mount, bench, weights)[:2]
+    """The least figure over all batchings."""
+    return best_batchings(ready, mount, bench, weights)[0]
 
 
 def times_of(strips):
@@ -194,31 +192,21 @@ def mosaic_of(mount, strips, weights=None):
 
 
 def mounted(name, mount, strips, figure, *members, weights=None):
-    """A mosaic and the plan of its only best batching with the fewest batches."""
+    """A mosaic and the plan of its only best batching."""
     ready, bench = times_of(strips)
     batching = tuple(last for last, _, _ in members)
-    assert best_batchings(ready, mount, bench, weights) == (figure, len(batching), [batching]) and batched(ready, mount, bench, batching) == list(members)
+    assert best_batchings(ready, mount, bench, weights) == (figure, [batching]) and batched(ready, mount, bench, batching) == list(members)
     planned(name, mosaic_of(mount, strips, weights), batches(figure, *members))
 
 
-def either(name, mount, strips, figure, fewest, *others, weights=None):
-    """A mosaic with several best batchings: the plan of the only one with the fewest batches, and that of others, which are allowed."""
-    ready, bench = times_of(strips)
-    mounted(name, mount, strips, figure, *batched(ready, mount, bench, fewest), weights=weights)
-    for batching in others:
-        assert len(batching) > len(fewest)
-        plan = batches(figure, *batched(ready, mount, bench, batching))
-        OTHERS.append(("%s, batches up to %s" % (name, batching), mosaic_of(mount, strips, weights), plan, (0, 0, figure, 0, 0)))
-
-
 def tried(name, mount, strips, weights=None):
-    """A mosaic whose batchings are tried here: the plan of the best one, or the figure and the number of batches where there are several."""
+    """A mosaic whose batchings are tried here: the plan of the best one, or the figure where there are several."""
     ready, bench = times_of(strips)
-    figure, count, batchings = best_batchings(ready, mount, bench, weights)
+    figure, batchings = best_batchings(ready, mount, bench, weights)
     if len(batchings) == 1:
         planned(name, mosaic_of(mount, strips, weights), batches(figure, *batched(ready, mount, bench, batchings[0])))
     else:
-        best(name, mosaic_of(mount, strips, weights), figure, 0, 0, count=count)
+        best(name, mosaic_of(mount, strips, weights), figure, 0, 0)
 
 
 # A strip of a desk here is (scan time, desk time, weight); a scanner list is a row of desks, counted from 1.
@@ -295,7 +283,7 @@ WORKED = [(2, 1, 1), (1, 3, 3), (4, 2, 2), (1, 3, 1)]
 mounted("the first worked sheet, mount time 0", 0, WORKED, 29, (1, 0, 3), (2, 3, 7), (3, 7, 9), (4, 9, 10))
 mounted("the first worked sheet, mount time 1", 1, WORKED, 32, (1, 0, 3), (2, 3, 7), (3, 7, 10), (4, 10, 12))
 mounted("the first worked sheet, mount time 2", 2, WORKED, 37, (1, 0, 3), (2, 3, 8), (4, 8, 13))
-either("the first worked sheet, mount time 3", 3, WORKED, 44, [2, 4], [1, 3, 4])
+best("the first worked sheet, mount time 3", mosaic_of(3, WORKED), 44, 0, 0)
 mounted("the first worked sheet, mount time 4", 4, WORKED, 46, (2, 0, 8), (4, 8, 15))
 mounted("the first worked sheet, mount time 5", 5, WORKED, 52, (2, 0, 9), (4, 9, 17))
 mounted("the first worked sheet, mount time 10", 10, WORKED, 68, (4, 0, 17))
@@ -320,7 +308,7 @@ mounted("the first strip and the third are waited for", 2, [(5, 3), (1, 1), (14,
 mounted("cameras off everywhere, mount time 0", 0, [(0, 1), (0, 5)], 7, (1, 0, 1), (2, 1, 6))
 mounted("cameras off everywhere, a short mount", 2, [(0, 0, 0, 0, 3)] * 2, 15, (1, 0, 5), (2, 5, 10))
 mounted("cameras off everywhere, a long mount", 4, [(0, 5), (0, 1), (0, 1)], 33, (3, 0, 11))
-either("cameras off everywhere, several best batchings", 1, [(0, 2)] * 5, 43, [2, 4, 5], [2, 3, 4, 5])
+best("cameras off everywhere, several best batchings", mosaic_of(1, [(0, 2)] * 5), 43, 0, 0)
 # A longer batch is best where its last strip is ready while the mount is made, or little later.
 mounted("two strips in a batch", 4, [(0, 4), (2, 2)], 20, (2, 0, 10))
 mounted("two strips in a batch, the second ready when the mount is done", 5, [(1, 2), (4, 4)], 22, (2, 0, 11))
@@ -360,38 +348,6 @@ mounted(
     (37, 256, 285), (39, 285, 304), (40, 304, 318),
 )
 mounted("40 strips in three batches", 100, [(k, 41 - k) for k in range(1, 41)], 34612, (13, 0, 542), (27, 542, 929), (40, 929, 1120))
-# Of several best batchings one with as few batches as any. Two strips in a batch finish at 3, apart at 2 and 4: with a mount one minute longer they are one
-# batch, with none two, each then the only best batching.
-either("two strips, 6 either way", 1, [(0, 1)] * 2, 6, [2], [1, 2])
-mounted("two strips, a mount one minute longer", 2, [(0, 1)] * 2, 8, (2, 0, 4))
-mounted("two strips, no mount", 0, [(0, 1)] * 2, 3, (1, 0, 1), (2, 1, 2))
-either("two strips behind one that is waited for", 1, [(9, 1), (0, 3), (0, 1)], 40, [1, 3], [1, 2, 3])
-# The third strip is ready when the third mount is done, or later; if it is ready one minute before, three mounts are worse than two.
-either("two strips before one that is waited for", 20, [(10, 15, 25), (5, 0, 20), (95, 80, 30)], 270, [2, 3], [1, 2, 3])
-either("the same, the third ready when the third mount is done", 20, [(10, 15, 25), (5, 0, 20), (90, 80, 30)], 265, [2, 3], [1, 2, 3])
-mounted("the same, the third ready one minute before that", 20, [(10, 15, 25), (5, 0, 20), (89, 80, 30)], 264, (2, 0, 65), (3, 65, 134))
-either("two strips, weights 3 and 2", 3, [(0, 1), (0, 2)], 30, [2], [1, 2], weights=[3, 2])
-either("two strips, weight 2 in each", 2, [(0, 1), (0, 2)], 20, [2], [1, 2], weights=[2, 2])
-# Two batchings of two batches and one of three.
-tried("four strips, 18 three ways", 1, [(0, 1)] * 4)
-OTHERS.append(("four strips in three batches", mosaic_of(1, [(0, 1)] * 4), batches(18, (2, 0, 3), (3, 3, 5), (4, 5, 7)), (0, 0, 18, 0, 0)))
-# Neither the longest first batch nor the shortest is always one of the fewest, and the fewest may be two fewer than the next.
-either("the longest first batch takes one more", 2, [(0, 2), (0, 2), (0, 3), (9, 1), (5, 3), (1, 1)], 76, [2, 4, 6], [3, 4, 5, 6])
-either("the same with five strips", 4, [(13, 5), (0, 9), (10, 2), (14, 2), (2, 1)], 170, [1, 3, 5], [2, 3, 4, 5])
-ONE_MORE = [(0, 3), (4, 3), (7, 1), (6, 1), (1, 2)]
-either("the longest and the shortest take one more", 3, ONE_MORE, 168, [1, 3, 5], [1, 3, 4, 5], [2, 3, 4, 5], weights=[3, 1, 2, 3, 2])
-either("two batches or four", 5, [(6, 2), (3, 2), (0, 6), (11, 1), (0, 3)], 216, [3, 5], [1, 2, 4, 5], weights=[1, 2, 1, 3, 2])
-# Three batches would have 98.
-either("five batches for one minute less", 1, [(3, 2), (0, 5), (0, 4), (6, 3), (8, 1), (2, 1)], 97, [1, 2, 3, 5, 6])
-# Equal strips that are ready at 0, and at different times; with equal weights the batches are the same.
-for n, mount, bench in itertools.product(range(2, 8), range(7), (1, 2, 3)):
-    tried("%d equal strips, mount time %d, bench time %d" % (n, mount, bench), mount, [(0, bench)] * n)
-for n, mount, time in itertools.product((3, 5, 7), (1, 2, 3, 4), (1, 2, 3)):
-    tried("%d equal strips of %d, mount time %d" % (n, time, mount), mount, [(time, 1)] * n)
-    tried("%d equal strips of %d and weight 9, mount time %d" % (n, time, mount), mount, [(time, 1)] * n, [9] * n)
-for mount, bench in itertools.product((1, 2, 3, 5, 8, T), (1, 2, 3, T)):
-    tried("40 equal strips, mount time %d, bench time %d" % (mount, bench), mount, [(0, bench)] * 40)
-    tried("40 equal strips with weights, mount time %d, bench time %d" % (mount, bench), mount, [(0, bench)] * 40, [1, 2, 4, 2] * 10)
 # Beside other sections.
 BESIDE, MOUNTS = judged.WAITED, batches(43, *judged.EARLIEST)
 planned("mounts ahead and a sorting", BESIDE + judged.S, MOUNTS + jobs(10, (2, 1, 0, 1), (1, 1, 1, 3)))
@@ -462,10 +418,10 @@ CASES.append(("a second pass of 0", judged.ALL[:-2] + word(0), bytes.fromhex("E0
 
 # The longest sections: full ones in which every time is 60,000. The strips are ready at T, 2 T, .. 40 T, with any number of stations.
 # The k-th strip that is scanned is finished at (k + 1) T or later: 2 T + 3 T + .. + 19 T = 189 T at least. No desk is waited for, so every list has that.
-SUM, COUNT = least_sum([k * T for k in range(1, 41)], T, [T] * 40)
+SUM = least_sum([k * T for k in range(1, 41)], T, [T] * 40)
 for stations in (1, 2, 3, 4):
-    best("40 strips of %d stations, time 60,000 in every time" % stations, mosaic(stations, T) + strip(*[T] * (stations + 1)) * 40, SUM, 0, 0, count=COUNT)
-tried("40 strips, a mount of 59,999", T - 1, [(T, T)] * 40)
+    best("40 strips of %d stations, time 60,000 in every time" % stations, mosaic(stations, T) + strip(*[T] * (stations + 1)) * 40, SUM, 0, 0)
+best("40 strips, a mount of 59,999", mosaic(1, T - 1) + strip(T, T) * 40, least_sum([k * T for k in range(1, 41)], T - 1, [T] * 40), 0, 0)
 IN_DESKS = [(k // 6 + 1, k % 6 + 1, k * T, (k + 1) * T) for k in range(18)]
 DESK_AFTER_DESK = jobs(189 * T, *IN_DESKS)
 tied("6 + 6 + 6 strips, time 60,000 in every time", sheets.LONG_SORTING, DESK_AFTER_DESK, jobs(189 * T, *judged.IN_TURN))
@@ -484,9 +440,9 @@ planned(
     passes(33 * PASS + T, FIRSTS_FIRST, *[(k * PASS, (k + 1) * PASS + T) for k in range(32)]),
 )
 refused("the same with passes one second longer", flight() + block(PASS + 1, T, PASS + 1) * 32 + order(FIRSTS_FIRST), 11, 3 + 9 * 32)
-best("the longest sections", sheets.LONG, SUM, 189 * T, 96 * T, count=COUNT, sorting_part=DESK_AFTER_DESK)
+best("the longest sections", sheets.LONG, SUM, 189 * T, 96 * T, sorting_part=DESK_AFTER_DESK)
 FREE_LONG = sheets.LONG_MOSAIC + sheets.LONG_SORTING + EIGHT_LONG
-best("the longest sections, a free flight", FREE_LONG, SUM, 189 * T, 16 * T, count=COUNT, sorting_part=DESK_AFTER_DESK)
+best("the longest sections, a free flight", FREE_LONG, SUM, 189 * T, 16 * T, sorting_part=DESK_AFTER_DESK)
 
 # 11 at the order field, also where other sections could be planned.
 refused("order C cannot be kept", judged.A + order(0xC), 11, len(judged.A))
@@ -579,7 +535,7 @@ refused(
     11,
     5 + 9 * 32,
 )
-best("the longest sections and the longest turn", sheets.LONG_TURN, SUM, 189 * T, judged.LAST_END, count=COUNT, sorting_part=DESK_AFTER_DESK)
+best("the longest sections and the longest turn", sheets.LONG_TURN, SUM, 189 * T, judged.LAST_END, sorting_part=DESK_AFTER_DESK)
 
 # A written 0 is as an empty head; the places behind it are two higher.
 for name, before, members in [
@@ -722,7 +678,7 @@ planned("32 windows two by two, time 60,000", flight() + window(T, 0, T, T) * 32
 IN_FIVE = [start for k in range(16) for start in ((5 * k, 5 * k + 2), (5 * k + 3, 5 * k + 4))]
 planned("32 blocks of both kinds", judged.BOTH, passes(80, judged.BY_ONE, *IN_FIVE))
 HEAVY_AFTER_DESK = jobs(MOST_WEIGHT * 189 * T, *IN_DESKS)
-best("the longest sheet", sheets.LONGEST, MOST_WEIGHT * SUM, MOST_WEIGHT * 189 * T, judged.LAST_END, count=COUNT, sorting_part=HEAVY_AFTER_DESK)
+best("the longest sheet", sheets.LONGEST, MOST_WEIGHT * SUM, MOST_WEIGHT * 189 * T, judged.LAST_END, sorting_part=HEAVY_AFTER_DESK)
 
 # A window of one value means the same as an exact delay.
 for name, head, blocks, behind in [
@@ -749,12 +705,12 @@ for name, head, blocks, behind in [
 for weight, figure in [(1, 20), (3, 38), (4, 46), (MOST_WEIGHT, 814)]:
     members = [(2, 0, 10)] if weight == 1 else [(1, 0, 8), (2, 8, 14)]
     mounted("two strips, the first of weight %d" % weight, 4, [(0, 4), (2, 2)], figure, *members, weights=[weight, 1])
-either("two strips, the first of weight 2", 4, [(0, 4), (2, 2)], 30, [2], [1, 2], weights=[2, 1])
+best("two strips, the first of weight 2", mosaic_of(4, [(0, 4), (2, 2)], [2, 1]), 30, 0, 0)
 # A heavy strip saves a mount: two strips apart finish at 2 and 5, in a batch at 4.
 for weight, figure in [(1, 7), (3, 16), (4, 20), (MOST_WEIGHT, 404)]:
     members = [(1, 0, 2), (2, 2, 5)] if weight == 1 else [(2, 0, 4)]
     mounted("two strips, the second of weight %d" % weight, 1, [(0, 1), (0, 2)], figure, *members, weights=[1, weight])
-either("two strips, the second of weight 2", 1, [(0, 1), (0, 2)], 12, [2], [1, 2], weights=[1, 2])
+best("two strips, the second of weight 2", mosaic_of(1, [(0, 1), (0, 2)], [1, 2]), 12, 0, 0)
 # The first worked sheet with one heavy strip, at each mount time, and with the same weight in every strip.
 for mount, which in itertools.product((0, 1, 2, 3, 5, 10), range(4)):
     tried("the first worked sheet, mount time %d, strip %d heavy" % (mount, which + 1), mount, WORKED, [100 if k == which else 1 for k in range(4)])
@@ -778,10 +734,13 @@ for name, weights in [
     ("falling weights", [102 - 2 * k for k in range(1, 41)]),
 ]:
     mounted("40 strips far apart, " + name, 1, [(T, 1)] * 40, judged.of_weights(weights, *FAR), *FAR, weights=weights)
-best("40 strips of 60,000, 100 in every strip", sheets.HEAVY_MOSAIC, MOST_WEIGHT * SUM, 0, 0, count=COUNT)
-tried("40 strips of 60,000, 100 in every second strip", T, [(T, T)] * 40, [MOST_WEIGHT, 1] * 20)
+HEAVY_SUM = least_sum([k * T for k in range(1, 41)], T, [T] * 40, [MOST_WEIGHT, 1] * 20)
+best("40 strips of 60,000, 100 in every strip", sheets.HEAVY_MOSAIC, MOST_WEIGHT * SUM, 0, 0)
+best("40 strips of 60,000, 100 in every second strip", mosaic_of(T, [(T, T)] * 40, [MOST_WEIGHT, 1] * 20), HEAVY_SUM, 0, 0)
 for which in (0, 19, 39):
-    tried("40 strips of 60,000, strip %d heavy" % (which + 1), T, [(T, T)] * 40, [100 if k == which else 1 for k in range(40)])
+    weights = [100 if k == which else 1 for k in range(40)]
+    figure = least_sum([k * T for k in range(1, 41)], T, [T] * 40, weights)
+    best("40 strips of 60,000, strip %d heavy" % (which + 1), mosaic_of(T, [(T, T)] * 40, weights), figure, 0, 0)
 # The longest plan: 40 batches, 18 strips and 32 blocks.
 LONGEST_PLAN = batches(MOST_WEIGHT * (820 * T + 40), *FAR) + HEAVY_AFTER_DESK + passes(judged.LAST_END, judged.BY_ONE, *judged.TURNED_STARTS)
 assert len(LONGEST_PLAN) == 1103
@@ -890,18 +849,15 @@ def figures_judged(judge, sheet, plan):
     return tuple(map(int, lines[1::2]))
 
 
-def batch_times(plan):
-    """The start and the finish of each batch of a plan."""
-    times, at = [], HEAD
+def mounts_follow(plan):
+    """Whether each mount of a plan starts when the batch before finishes, the first at 0."""
+    free, at = 0, HEAD
     while plan[:1] == b"\x90" and plan[at:at + 1] == b"\x91":
-        times.append(tuple(int.from_bytes(plan[k:k + 4], "little") for k in (at + 4, at + 8)))
-        at += 12
-    return times
-
-
-def mounts_follow(times):
-    """Whether each mount starts when the batch before finishes, the first at 0."""
-    return [start for start, _ in times] == [0, *[finish for _, finish in times]][:len(times)]
+        start, finish = (int.from_bytes(plan[k:k + 4], "little") for k in (at + 4, at + 8))
+        if start != free:
+            return False
+        free, at = finish, at + 12
+    return True
 
 
 def main(program, judge):
@@ -911,13 +867,12 @@ def main(program, judge):
         if plan != due:
             wrong += 1
             print("%s: sheet %s\n  due     %s\n  written %s" % (name, sheet.hex(), due.hex(), plan.hex()))
-    for name, sheet, figures, count, part in BEST:
+    for name, sheet, figures, part in BEST:
         plan = written(program, sheet)
-        verdict, times = figures_judged(judge, sheet, plan), batch_times(plan)
-        if verdict != (0, 0, *figures) or len(times) != count or part not in plan or not mounts_follow(times):
+        verdict = figures_judged(judge, sheet, plan)
+        if verdict != (0, 0, *figures) or part not in plan or not mounts_follow(plan):
             wrong += 1
-            due = "figures %s, %d batches, sorting %s" % (figures, count, part.hex())
-            print("%s: sheet %s\n  due     %s\n  written %s\n  judged  %s" % (name, sheet.hex(), due, plan.hex(), verdict))
+            print("%s: sheet %s\n  due     figures %s, sorting %s\n  written %s\n  judged  %s" % (name, sheet.hex(), figures, part.hex(), plan.hex(), verdict))
     for name, sheet, plan, due in OTHERS:
         verdict = figures_judged(judge, sheet, plan)
         if verdict != due:

@@ -1,14 +1,13 @@
 /* The model's mosaic: forward from strip to strip, every beginning of a batching that no other beginning of the same strips beats. */
 #include "plans.h"
 
-/* A beginning of a batching: when it leaves the bench free, its figure, the number of its batches, and the beginning that its last batch follows. */
+/* A beginning of a batching: when it leaves the bench free, its figure, and the beginning that its last batch follows. */
 struct beginning {
     u64 free, figure;
-    size_t batches, strips_before, index_before;
+    size_t strips_before, index_before;
 };
 
-/* A beginning's free time is fixed by the last batch whose bench work waited for a strip, one of 820 runs or none, and by the number of mounts behind it. Of
-   two with the same free time one beats the other. */
+/* A beginning's free time is fixed by the last batch whose bench work waited for a strip, one of 820 runs or none, and by the number of mounts behind it. */
 enum { MOST_BEGINNINGS = 821 * 40 };
 
 struct beginnings {
@@ -19,15 +18,8 @@ struct beginnings {
 /* The beginnings that end behind each strip. */
 static struct beginnings behind[MOST_STRIPS + 1];
 
-/* Whether by figure, then by the number of batches, the first does not come behind the other. */
-static bool no_dearer(const struct beginning *a, const struct beginning *b) {
-    if (a->figure != b->figure)
-        return a->figure < b->figure;
-    return a->batches <= b->batches;
-}
-
 static bool no_worse(const struct beginning *a, const struct beginning *b) {
-    return a->free <= b->free && no_dearer(a, b);
+    return a->free <= b->free && a->figure <= b->figure;
 }
 
 static bool beaten(const struct beginnings *l, const struct beginning *b) {
@@ -60,14 +52,14 @@ static void extend(const struct mosaic *m, const u64 *ready, size_t i, size_t in
     const struct beginning from = behind[i].item[index];
     for (size_t q = i + 1; q <= m->strips; q++) {
         u64 finish = finish_of(m, ready, from.free, i, q);
-        add_beginning(&behind[q], (struct beginning){finish, from.figure + weights(m, i, q) * finish, from.batches + 1, i, index});
+        add_beginning(&behind[q], (struct beginning){finish, from.figure + weights(m, i, q) * finish, i, index});
     }
 }
 
 static size_t cheapest(const struct beginnings *l) {
     size_t best = 0;
     for (size_t k = 1; k < l->count; k++)
-        if (!no_dearer(&l->item[best], &l->item[k]))
+        if (l->item[k].figure < l->item[best].figure)
             best = k;
     return best;
 }
@@ -89,7 +81,7 @@ static void clear_behind(size_t strips) {
 /* Strip by strip: once all beginnings of i strips are found, each is extended. */
 static void fill_behind(const struct mosaic *m, const u64 *ready) {
     clear_behind(m->strips);
-    add_beginning(&behind[0], (struct beginning){0, 0, 0, 0, 0});
+    add_beginning(&behind[0], (struct beginning){0, 0, 0, 0});
     for (size_t i = 0; i < m->strips; i++)
         for (size_t k = 0; k < behind[i].count; k++)
             extend(m, ready, i, k);

@@ -1,5 +1,7 @@
 // What several layers need: the answer of a call that writes into a lent buffer, the greater of two numbers, and a slice set to zeros. The definitions that
 // they share stand in specs/.
+#![tactic(auto)]
+
 ghost use Rattle.std.specs.Prelude.{◌≡◌, max, length, replicate};
 
 // The answer of a call: 0, 0 and the length written, or the number and place of its refusal and 0.

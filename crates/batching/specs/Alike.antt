@@ -1,4 +1,4 @@
--- Two instances that agree on their strips have the same least cost and the same batches taken.
+-- Two instances that agree on their strips have the same least figure and the same batches taken.
 use Rattle.std.specs.Prelude.{◌≡◌, ◌∷◌, ℕ, zero, suc, ◌+◌, ◌-◌, ◌≤◌, ◌<◌}
 use Rattle.std.proofs.Common.{◌∙◌, sym, arith}
 use Rattle.std.proofs.Math.Decide.{dec_lt}

@@ -1,7 +1,6 @@
--- The batching that is taken: the recursion of the least cost, where the open batch is closed only if that is better than to extend it.
-use Rattle.std.specs.Prelude.{ℕ, zero, suc, ◌+◌, true, false, List, [], ◌∷◌, ltb}
+-- The batching that is taken: the recursion of the least figure, where the open batch is closed only if that is better than to extend it.
+use Rattle.std.specs.Prelude.{ℕ, zero, suc, ◌+◌, ◌*◌, true, false, List, [], ◌∷◌, ltb}
 use Rattle.rules.specs.declared.Batch.{Batch}
-use Rattle.batching.specs.Cost.{batch_cost}
 use Rattle.batching.specs.Least.{Instance, finish_of, least_open}
 
 -- the batch of the strips after i up to q, as early as can be: its mount starts when the batch before finishes
@@ -11,7 +10,7 @@ batch_of x free i q = record { last = q; start = free; finish = finish_of x free
 unfoldable pub chosen_open : Instance → ℕ → ℕ → ℕ → ℕ → List Batch
 chosen_open x zero i q free = batch_of x free i q ∷ []
 chosen_open x (suc left) i q free =
-    elim (ltb (batch_cost (x.weight i q) (finish_of x free i q) + least_open x left q (q + 1) (finish_of x free i q)) (least_open x left i (q + 1) free)) [
+    elim (ltb (x.weight i q * finish_of x free i q + least_open x left q (q + 1) (finish_of x free i q)) (least_open x left i (q + 1) free)) [
       | true ↦ batch_of x free i q ∷ chosen_open x left q (q + 1) (finish_of x free i q)
       | false ↦ chosen_open x left i (q + 1) free
     ]

@@ -1,20 +1,19 @@
 -- The values of the recursion by index: what the planner's tables hold.
-use Rattle.std.specs.Prelude.{ℕ, ◌+◌, ◌-◌, List}
+use Rattle.std.specs.Prelude.{ℕ, ◌+◌, ◌*◌, ◌-◌, List}
 use Rattle.rules.specs.declared.Batch.{Batch}
-use Rattle.batching.specs.Cost.{batch_cost}
 use Rattle.batching.specs.Least.{Instance, least_open, least_from}
 use Rattle.batching.specs.Chosen.{chosen_open, chosen_from}
 
--- the least cost of the strips after i, the bench free at `free`: with no batch open; with an open batch up to q
+-- the least figure of the strips after i, the bench free at `free`: with no batch open; with an open batch up to q
 unfoldable pub least_at : Instance → ℕ → ℕ → ℕ
 least_at x i free = least_from x (x.strips - i) i free
 
 unfoldable pub open_at : Instance → ℕ → ℕ → ℕ → ℕ
 open_at x i q free = least_open x (x.strips - q) i q free
 
--- the cost of the batch i, q whose bench work starts at `begin`, with what is least after it
+-- the figure of the batch i, q whose bench work starts at `begin`, with what is least after it
 unfoldable pub closed_at : Instance → ℕ → ℕ → ℕ → ℕ
-closed_at x begin i q = batch_cost (x.weight i q) (begin + x.bench i q) + least_at x q (begin + x.bench i q)
+closed_at x begin i q = x.weight i q * (begin + x.bench i q) + least_at x q (begin + x.bench i q)
 
 -- the batches taken, in both cases
 unfoldable pub chosen_at : Instance → ℕ → ℕ → List Batch

@@ -1,11 +1,10 @@
--- The least cost of all batchings, by recursion: at each strip the open batch is closed or extended (in the literature: batching on one machine with
--- release dates and an anticipatory setup for each batch, for the least sum of weighted completion times and then the fewest batches).
+-- The least figure of all batchings, by recursion: at each strip the open batch is closed or extended (in the literature: batching on one machine with
+-- release dates and an anticipatory setup for each batch, for the least sum of weighted completion times).
 -- Strips are numbered from 1. A batch is the strips after strip i, up to and with strip q.
-use Rattle.std.specs.Prelude.{ℕ, zero, suc, ◌+◌, min, max}
-use Rattle.batching.specs.Cost.{batch_cost}
+use Rattle.std.specs.Prelude.{ℕ, zero, suc, ◌+◌, ◌*◌, min, max}
 
 -- what the recursion reads: the number of strips, the mount time (in the literature: setup time), when strip q is ready (release date), the bench times
--- and the weights of the strips after i up to q, scaled (`scaled_weight`)
+-- and the weights of the strips after i up to q
 pub record Instance : Type 0 where
   pub strips : ℕ
   pub mount : ℕ
@@ -21,12 +20,12 @@ bench_start mount free ready = max (free + mount) ready
 unfoldable pub finish_of : Instance → ℕ → ℕ → ℕ → ℕ
 finish_of x free i q = bench_start x.mount free (x.ready q) + x.bench i q
 
--- the least cost of the strips after i, where the bench is free at `free`, the open batch has the strips after i up to q, and `left` strips follow it
+-- the least figure of the strips after i, where the bench is free at `free`, the open batch has the strips after i up to q, and `left` strips follow it
 unfoldable pub least_open : Instance → ℕ → ℕ → ℕ → ℕ → ℕ
-least_open x zero i q free = batch_cost (x.weight i q) (finish_of x free i q)
+least_open x zero i q free = x.weight i q * finish_of x free i q
 least_open x (suc left) i q free =
     min
-    (batch_cost (x.weight i q) (finish_of x free i q) + least_open x left q (q + 1) (finish_of x free i q))
+    (x.weight i q * finish_of x free i q + least_open x left q (q + 1) (finish_of x free i q))
     (least_open x left i (q + 1) free)
 
 -- the same, with no batch open

@@ -1,7 +1,10 @@
--- Batches of neighbouring strips at one bench: what a batching costs, the least cost by recursion, the batching that has it, and their equations by index.
-pub mod Cost
+-- Batches of neighbouring strips at one bench: the least figure by recursion, the batching that has it, what the tables hold, and how large it gets.
 pub mod Least
 pub mod Chosen
 pub mod Index
+pub mod Caps
+pub mod Tables
 pub mod Recursion
+pub mod Bounds
 pub mod Alike
+pub mod Determined

@@ -1,10 +1,9 @@
 -- The recursion by index: its equations, that a later free time costs no less, and that one batch of all strips left is a choice.
 use Rattle.std.specs.Prelude.{◌≡◌, [], ◌∷◌, ltb}
-use Rattle.std.proofs.Common.{◌∙◌}
-use Prim.Native.Nat.{ℕ, zero, suc, ◌+◌, ◌-◌, ◌≤◌, ◌<◌, min}
+use Rattle.std.proofs.Common.{◌∙◌, mul-le-mul_left}
+use Prim.Native.Nat.{ℕ, zero, suc, ◌+◌, ◌*◌, ◌-◌, ◌≤◌, ◌<◌, min}
 use native.Mathlib.Omega.{arith}
 use borrow.Author.Tests.{lt-ltb, le-ltb}
-use Rattle.batching.specs.Cost.{batch_cost, cost_mono}
 use Rattle.batching.specs.Least.{Instance, bench_start, finish_of, least_open, least_from}
 use Rattle.batching.specs.Chosen.{batch_of, chosen_open, chosen_from}
 use Rattle.batching.specs.Index.{least_at, open_at, closed_at, chosen_at, chosen_open_at}
@@ -24,10 +23,10 @@ finish_mono x i q h = omega arith
 
 pub open_mono : (x : Instance) (left i q : ℕ) {t t' : ℕ} → t ≤ t' → least_open x left i q t ≤ least_open x left i q t'
 unfolding least_open
-open_mono x zero i q h = cost_mono (x.weight i q) (finish_mono x i q h)
+open_mono x zero i q h = mul-le-mul_left (x.weight i q) (finish_mono x i q h)
 open_mono x (suc left) i q h =
     let f = finish_mono x i q h in
-    omega (arith, cost_mono (x.weight i q) f, open_mono x left q (q + 1) f, open_mono x left i (q + 1) h)
+    omega (arith, mul-le-mul_left (x.weight i q) f, open_mono x left q (q + 1) f, open_mono x left i (q + 1) h)
 
 module _ (x : Instance) where
   pub least_mono : (i : ℕ) {t t' : ℕ} → t ≤ t' → least_at x i t ≤ least_at x i t'
@@ -82,7 +81,7 @@ module _ (x : Instance) where
 
   -- the test of the recursion, by index
   test_is : (i q t : ℕ) → q < x.strips
-      → ltb (batch_cost (x.weight i q) (finish_of x t i q) + least_open x (x.strips - (q + 1)) q (q + 1) (finish_of x t i q)) (least_open x (x.strips - (q + 1)) i (q + 1) t)
+      → ltb (x.weight i q * finish_of x t i q + least_open x (x.strips - (q + 1)) q (q + 1) (finish_of x t i q)) (least_open x (x.strips - (q + 1)) i (q + 1) t)
       ≡ ltb (closed_at x (bench_start x.mount t (x.ready q)) i q) (open_at x i (q + 1) t)
   unfolding open_at closed_at finish_of
   test_is i q t h = rw (least_open_lem q (bench_start x.mount t (x.ready q) + x.bench i q) h)
@@ -104,7 +103,7 @@ module _ (x : Instance) where
       rw (e, b, chosen_open)
 
 -- one batch of all strips left is a choice
-pub open_one : (x : Instance) (left i q t : ℕ) → least_open x left i q t ≤ batch_cost (x.weight i (q + left)) (finish_of x t i (q + left))
+pub open_one : (x : Instance) (left i q t : ℕ) → least_open x left i q t ≤ x.weight i (q + left) * finish_of x t i (q + left)
 unfolding least_open
 open_one x zero i q t =
     let e : q + 0 ≡ q = omega arith in
@@ -113,7 +112,7 @@ open_one x (suc left) i q t =
     let e : q + suc left ≡ q + 1 + left = omega arith in
     rw e (omega (arith, open_one x left i (q + 1) t))
 
-pub least_one : (x : Instance) (i t : ℕ) → i < x.strips → least_at x i t ≤ batch_cost (x.weight i x.strips) (finish_of x t i x.strips)
+pub least_one : (x : Instance) (i t : ℕ) → i < x.strips → least_at x i t ≤ x.weight i x.strips * finish_of x t i x.strips
 unfolding open_at
 least_one x i t h =
     let e : i + 1 + (x.strips - (i + 1)) ≡ x.strips = omega arith in

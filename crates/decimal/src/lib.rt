@@ -1,5 +1,7 @@
 // Numbers in decimal columns: a number right-aligned in so many columns of decimal digits, with a filler left of its first digit.
 // The filler is the caller's: a space, or the digit 0 for leading zeros.
+#![tactic(auto)]
+
 ghost use Rattle.std.specs.Prelude.{◌≡◌, ◌+◌, ◌≤◌, length};
 ghost use Rattle.field.specs.Put.{put};
 ghost use Rattle.decimal.specs.Columns.{column_of, columns};

@@ -61,7 +61,6 @@ use Rattle.base.specs.declared.Answer.{Answer}
 use Rattle.base.specs.LeastFigure.{NoLarger, LeastFigure, same_least}
 use Rattle.rules.specs.Mosaic.{batch_at, batch_before, finish_due, MosaicUnder, MosaicLawful, mosaic_figure}
 use Rattle.rules.specs.Sorting.{job_at, SortingUnder, SortingLawful, sorting_figure}
-use Rattle.rules.specs.FewestBatches.{lasts, MosaicTaken}
 use Rattle.rules.specs.ScannerList.{scanner_list, SameOrAfter, SortingTaken}
 use Rattle.rules.specs.Flight.{passes_at, second_due, DelayKept, AllApart, FlightUnder, FlightLawful, Keeps, OrderAllowed, flight_figure}
 use Rattle.rules.specs.declared.Batch.{Batch}
@@ -75,7 +74,7 @@ use Rattle.rules_laws.specs.FlightRunning.{all_apart}
 use Rattle.rules_laws.specs.Turns.{NextApart, neighbours_apart, neighbours_enough}
 use Rattle.rules_laws.specs.Delays.{with_delays, DelaysChosen, exact_delay, choice_kept, kept_choice, same_order, same_figure}
 use Rattle.rules_laws.specs.Mounts.{MountsWait, waiting_obeys, MountsMoved, moved_obeys, moved_figure}
-use Rattle.rules_laws.specs.Determined.{plan_most, plan_determined, lengths_by_batches}
+use Rattle.rules_laws.specs.Determined.{plan_most, plan_determined}
 use Rattle.rules_laws.specs.Fits.{mosaic_figure_most, sorting_figure_most}
 use Rattle.rules_laws.specs.Present.{present_some}
 use Rattle.rules_laws.specs.Unweighted.{completion_sum, finish_sum, mosaic_unweighted, sorting_unweighted}
@@ -90,7 +89,8 @@ use Rattle.judge_laws.specs.Fault.{Reached as Judging}
 use Rattle.judge_laws.specs.OtherPlace.{same_judged, same_refused}
 use Rattle.judge_laws.specs.Theorems.{FiguresTrue, FiguresGiven, judge_allows, allowed_judged, allowed_found, allowed_stated, judged_figures, figures_given}
 use Rattle.judge_laws.specs.Theorems.{fault_judged, judged_fault, judged_sheet_only}
-use Rattle.mosaic.specs.Theorems.{mosaic_ceiling, mosaic_mounts, taken_alike}
+use Rattle.mosaic.specs.Plan.{lasts}
+use Rattle.mosaic.specs.Theorems.{mosaic_ceiling, mosaic_mounts}
 use Rattle.sorting.specs.Theorems.{sorting_ceiling}
 use Rattle.flight.specs.Chosen.{LongestBelowTurn}
 use Rattle.flight.specs.Choice.{one_by_one, chosen_order}
@@ -98,7 +98,7 @@ use Rattle.flight.specs.Theorems.{flight_ceiling, flight_figure_lem, flight_leas
 use Rattle.planner.specs.Call.{chosen_plan, sheet_answer, answer_of, cleared_to, table_after, Called}
 use Rattle.planner.specs.Outcomes.{Large, Accepted, call_accepted, call_refused, call_small, call_cleared, our_bytes}
 use Rattle.planner.specs.TurnedBack.{TurnedBack, turned_back_lem, turned_back_only, eleven_only, sheet_only, else_accepted}
-use Rattle.planner.specs.Theorems.{figure_of_mosaic, figure_of_sorting, figure_of_flight, Least, Impossible, plan_lawful, plan_least_mosaic, plan_least_sorting, plan_mosaic_taken, plan_fewest}
+use Rattle.planner.specs.Theorems.{figure_of_mosaic, figure_of_sorting, figure_of_flight, Least, Impossible, plan_lawful, plan_least_mosaic, plan_least_sorting}
 use Rattle.planner.specs.OtherPlace.{moved_answer, same_answer, same_buffer, same_table}
 use Rattle.planner.specs.Theorems.{NoTimetable, NoProperOrder, free_impossible_exactly, plan_least_flight, plan_early_mosaic, plan_early_sorting, plan_early_flight, plan_earliest, plan_taken, taken_determined}
 use Rattle.viewer.specs.Viewed.{Viewed}
@@ -1353,57 +1353,3 @@ pub ones_written_judged : (base sheet other plan : List ℕ) (j k : Judged) → 
 ones_written_judged base sheet other plan j k v w judging also z =
     let sound = sym (ones_number base sheet v) ∙ z in
     also ∙ ones_judged base other plan w sound ∙ sym (judging ∙ ones_judged base sheet plan v sound)
-
--- REQ 10. "Each mount wears the frame. Of all best mosaic plans, give one with as few batches as any, and show that no allowed plan of the same figure has
--- fewer." Each batch is mounted once; the figure is the weighted one (Req 09). What is asked of the mosaic that is taken is said in FewestBatches.antt of crate
--- rules; which of several such batchings it has stays with the program (`chosen_batches` of mosaic, Chosen.antt). An accepted planning call:
-module _ (sheet plan table plan_after table_end : List ℕ) (r : Answer) (call : Called sheet plan table plan_after table_end r) (z : r.number ≡ 0)
-    (ours : AllowedFor sheet (written r plan_after)) where
-  -- Our mosaic is one that may be taken ..
-  pub mosaic_is_taken : MosaicTaken (read_sheet sheet).mosaic ours.allowed.plan.batches
-  mosaic_is_taken = rw (ours_chosen sheet plan table plan_after table_end r call z ours) (plan_mosaic_taken sheet ours.sound)
-
-  -- .. and no plan of its figure that obeys the rules under any ceiling, with whatever idle time, has fewer batches (Req 01).
-  pub no_fewer_batches_at_all : (c : ℕ) (q : Plan) → PlanUnder c (read_sheet sheet) q
-      → figure_of_mosaic (read_sheet sheet) q ≡ figure_of_mosaic (read_sheet sheet) ours.allowed.plan → length ours.allowed.plan.batches ≤ length q.batches
-  no_fewer_batches_at_all c q law = rw (ours_chosen sheet plan table plan_after table_end r call z ours) (plan_fewest sheet ours.sound c q law)
-
-  module _ (q : List ℕ) (a : AllowedFor sheet q) where
-    -- "no allowed plan of the same figure has fewer."
-    pub no_fewer_batches : figure_of_mosaic (read_sheet sheet) a.allowed.plan ≡ figure_of_mosaic (read_sheet sheet) ours.allowed.plan
-        → length ours.allowed.plan.batches ≤ length a.allowed.plan.batches
-    no_fewer_batches same = no_fewer_batches_at_all ceiling a.allowed.plan a.allowed.lawful same
-
-    -- "Of all best mosaic plans, give one with as few batches as any": as any allowed plan of the least mosaic figure.
-    pub as_few_as_any_best : IsLeast figure_of_mosaic sheet q a → length ours.allowed.plan.batches ≤ length a.allowed.plan.batches
-    as_few_as_any_best best = no_fewer_batches ((best_exactly_mosaic sheet plan table plan_after table_end r call z ours q a).best_equal best)
-
-    -- A batch is one field of the plan, and the other fields are as many in every allowed plan of the sheet: none of the same mosaic figure is shorter.
-    pub no_shorter_plan : figure_of_mosaic (read_sheet sheet) a.allowed.plan ≡ figure_of_mosaic (read_sheet sheet) ours.allowed.plan → r.length ≤ length q
-    no_shorter_plan same =
-        omega (
-          arith,
-          no_fewer_batches same,
-          lengths_by_batches (read_sheet sheet) (read_sound sheet ours.sound) ours.allowed.plan a.allowed.plan ours.allowed.lawful a.allowed.lawful,
-          ap length ours.allowed.layout,
-          ap length a.allowed.layout,
-          (accepted_writes_the_plan sheet plan table plan_after table_end r call z).long,
-        )
-
-  -- The same by the judge: no plan that it allows, and to which it gives the mosaic figure that it gives to ours, is shorter.
-  pub judged_no_shorter : (q : List ℕ) (j k : Judged) → j ≡ judged sheet (written r plan_after) → k ≡ judged sheet q → AreBytes q → k.number ≡ 0
-      → k.mosaic ≡ j.mosaic → r.length ≤ length q
-  unfolding figure_of_mosaic
-  judged_no_shorter q j k judging also bytes w same =
-      let a = allows_nothing_else sheet q k also bytes w in
-      no_shorter_plan q a
-      (sym (allows_what_obeys sheet q k also a).1.mosaic ∙ same ∙ (allows_what_obeys sheet (written r plan_after) j judging ours).1.mosaic)
-
--- Whoever plans, two allowed plans of one sheet whose mosaics may each be taken have the same mosaic figure and the same number of batches: how many there are
--- is not left to the program.
-pub same_number_of_batches : (sheet p q : List ℕ) (a : AllowedFor sheet p) (b : AllowedFor sheet q) → MosaicTaken (read_sheet sheet).mosaic a.allowed.plan.batches
-    → MosaicTaken (read_sheet sheet).mosaic b.allowed.plan.batches
-    → (figure_of_mosaic (read_sheet sheet) a.allowed.plan ≡ figure_of_mosaic (read_sheet sheet) b.allowed.plan)
-    × (length a.allowed.plan.batches ≡ length b.allowed.plan.batches)
-unfolding figure_of_mosaic
-same_number_of_batches sheet p q a b s t = taken_alike (read_sheet sheet).mosaic a.allowed.plan.batches b.allowed.plan.batches s t

@@ -1,6 +1,8 @@
 // Difference constraints over slices: rounds that raise values from 0 to the least solution (in the literature: the rounds of Bellman and Ford for longest
 // paths).
 // Constraint k stands in `rows` at 4 k: from, to, up, down. It says: value[from] + up <= value[to] + down.
+#![tactic(auto)]
+
 ghost use Rattle.std.specs.Prelude.{◌≡◌, length};
 ghost use Rattle.difference.specs.Rows.{system_of, SolvePre, RoundPre, RoundDone, SolveDone};
 

@@ -1,4 +1,6 @@
 // Bytes of a lent slice as numbers and fields, and numbers written into one. The readers are total: a byte past the end counts as 0.
+#![tactic(auto)]
+
 ghost use Rattle.std.specs.Prelude.{◌≡◌, ◌+◌, ◌≤◌, length};
 ghost use Rattle.field.specs.Bytes.{NumberRead, bytes_of};
 ghost use Rattle.field.specs.Field.{field_at, end_of};

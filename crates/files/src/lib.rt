@@ -1,5 +1,7 @@
 // What the programs share: an input is read to its end, an answer is written whole, and what failed is said on standard error.
 // No contract can say what a read delivers or whether a write succeeds: those are C's. It says what of the buffer counts.
+#![tactic(auto)]
+
 ghost use Rattle.std.specs.Prelude.{◌≡◌, ◌≤◌, length, eqb};
 ghost use Rattle.files.specs.Input.{Piece, Whole, nothing};
 

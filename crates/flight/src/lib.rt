@@ -1,5 +1,7 @@
 // The flight planner: the given order or the best of all proper orders, and the least start of every pass in it. In the literature: coupled tasks with
 // time lags on one machine, for the least makespan.
+#![tactic(auto)]
+
 ghost use Rattle.std.specs.Prelude.{◌≡◌, ◌≤◌};
 ghost use Rattle.sheet.specs.Limits.{most_blocks};
 ghost use Rattle.sheet.specs.Sound.{FlightSound};

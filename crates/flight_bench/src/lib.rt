@@ -1,4 +1,6 @@
 // The flight planner for C, so that bench/ can time it by itself.
+#![tactic(auto)]
+
 ghost use Rattle.sheet.specs.Sound.{FlightSound};
 ghost use Rattle.flight_bench.specs.Answered.{section_of, Answered};
 

@@ -1,4 +1,6 @@
 // What a field of a flight that passes its checks adds to the section: its head, a block, the pass order. A field's content begins at offset c.
+#![tactic(auto)]
+
 ghost use Rattle.std.specs.Prelude.{◌≡◌, ◌+◌, ◌<◌, ◌^◌};
 ghost use Rattle.sheet.specs.Decode.{no_flight, exact_block, window_block, turn_of, with_flight_head, with_block, with_order, next_flight};
 ghost use Rattle.sheet.specs.Limits.{most_blocks};

@@ -1,5 +1,7 @@
 // A flight in one pass order: its constraints written out, and the least start of every pass. In the literature: coupled tasks with time lags, in a given
 // sequence.
+#![tactic(auto)]
+
 ghost use Rattle.std.specs.Prelude.{◌≡◌, ◌<◌, ◌*◌, ◌-◌};
 ghost use Rattle.flight_order.specs.Constraints.{ordered_flight, constraint_of};
 ghost use Rattle.flight_order.specs.Good.{Good};

@@ -1,4 +1,6 @@
 // The search over all proper orders of a flight for one of the least figure (in the literature: the sequences of coupled tasks, for the least makespan).
+#![tactic(auto)]
+
 ghost use Rattle.std.specs.Prelude.{◌≡◌, ◌*◌};
 ghost use Rattle.flight_search.specs.Search.{no_incumbent, tried, searched};
 ghost use Rattle.flight_search.specs.Orders.{orders_of, free_section};

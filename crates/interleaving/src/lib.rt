@@ -1,6 +1,8 @@
 // The search over the interleavings of the desks' strips: its states and one step of it (in the literature: the differentiation flowshop, two stages with one
 // common machine, the scanner, and then dedicated machines, the desks, for the sum of weighted completion times). The section is one list of numbers, `jobs`:
 // strips of each desk, then scan times, desk times and weights, six to a desk (specs/Instance.antt). Desks and strips are counted from 0.
+#![tactic(auto)]
+
 ghost use Rattle.std.specs.Prelude.{◌≡◌, ◌<◌, get_or, ltb};
 ghost use Rattle.interleaving.specs.Instance.{Instance};
 ghost use Rattle.interleaving.specs.Search.{step_of, keep, start_state};

@@ -1,4 +1,6 @@
 // The judge of a plan: from the rules alone, the number and place of the first fault, or the figure of each section, and where the sections stand.
+#![tactic(auto)]
+
 ghost use Rattle.std.specs.Prelude.{◌≡◌, ◌+◌, ◌<◌};
 ghost use Rattle.sheet.specs.Sound.{SheetSound};
 ghost use Rattle.judge.specs.Judged.{pick_part, sections_from, stated_figure, turned_back, judged_plan, judged};

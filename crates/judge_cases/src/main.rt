@@ -1,5 +1,7 @@
 // Reads sheets and plans from standard input, each behind its length in two bytes, a sheet and then its plan, and writes a line for each pair:
 // the number and place that the judge gives, and the figure of each section.
+#![tactic(auto)]
+
 use text::{put_bytes, put_decimal};
 
 // Writes the line of a sheet and a plan. Returns whether all of it was written.

@@ -1,5 +1,7 @@
 // The passes of a plan's flight: whether they come in the order that its head states, one after another, and when the last one ends.
 // The first member of the flight stands at offset `at` of the plan.
+#![tactic(auto)]
+
 ghost use Rattle.std.specs.Prelude.{◌≡◌, ◌+◌, ◌-◌, ◌*◌, ◌<◌};
 ghost use Rattle.rules.specs.Flight.{flight_figure};
 ghost use Rattle.plan_read.specs.PlanRead.{blocks_from};

@@ -1,4 +1,6 @@
 // The layout of a plan: its sections, each a head and the members that follow.
+#![tactic(auto)]
+
 ghost use Rattle.std.specs.Prelude.{◌≡◌, ◌+◌, ◌≤◌, ◌<◌, length};
 ghost use Rattle.field.specs.Field.{field_at};
 ghost use Rattle.judge_layout.specs.Layout.{is_field, part_from, part_of, mosaic_part, sorting_part, flight_part, layout_verdict};

@@ -1,4 +1,6 @@
 // The members of a plan's section, one after another, and what is checked at its head. The sections are numbered 1, mosaic; 2, sorting; 3, flight.
+#![tactic(auto)]
+
 ghost use Rattle.std.specs.Prelude.{◌≡◌, ◌+◌, ◌*◌, ◌<◌};
 ghost use Rattle.sheet.specs.Sound.{SheetSound};
 ghost use Rattle.plan_format.specs.Format.{size_of};

@@ -1,5 +1,6 @@
 // Judges a plan for a sheet: two file names as arguments. Writes the number, the place and the three figures, one to a line.
 // Of each file at most the first 65,536 bytes are read. A file that cannot be read gets a message on standard error, and no figures.
+#![tactic(auto)]
 
 use text::{put_bytes, put_decimal};
 

@@ -1,4 +1,6 @@
 // The rules as tests: whether a batch, a job or a block may follow what was judged before it, and what is checked at a head.
+#![tactic(auto)]
+
 ghost use Rattle.std.specs.Prelude.{◌≡◌, ◌+◌, ◌-◌, ◌≤◌, ◌<◌, get_or};
 ghost use Rattle.sheet.specs.Limits.{most_strips_of_desk};
 ghost use Rattle.judge_rules.specs.Follows.{batch_in_run, batch_in_time, batch_follows, job_in_turn, job_in_time, job_follows, block_in_time, block_follows, all_done};

@@ -1,8 +1,8 @@
 -- The greatest of the stations' sums; the ready times, strip by strip; values added up, one by one.
-use mathlib.Core.Path.{◌≡◌, refl, ap, ◌∙◌, sym}
+use mathlib.Core.Path.{◌≡◌, refl, ap, ◌∙◌}
 use mathlib.Core.List.{List, [], ◌∷◌}
 use Prim.Native.Nat.{ℕ, zero, suc, ◌+◌, ◌*◌, ◌-◌, ◌≤◌, ◌<◌, ◌^◌, max}
-use native.Mathlib.Nat.{zero-max, zero-mul, add-mul}
+use native.Mathlib.Nat.{zero-max}
 use native.Mathlib.Numerals.{add-one}
 use native.Mathlib.Decide.{dec_lt}
 use native.Mathlib.Omega.{arith}
@@ -24,44 +24,39 @@ station_next : (m : MosaicSection) (k j : ℕ) → station_sum m k (j + 1) ≡ s
 unfolding station_sum sum_over
 station_next m k j = rw (add-one j)
 
--- the sums of the first j values, each times the factor, are done, and `sum` is the last
-pub record SumsSoFar (values : List ℕ) (factor : ℕ) (sums : List ℕ) (sum j : ℕ) : Type 0 where
+-- the sums of the first j values are done, and `sum` is the last
+pub record SumsSoFar (values sums : List ℕ) (sum j : ℕ) : Type 0 where
   pub len : length sums ≡ 41
   pub to : j ≤ most_strips
-  pub sum_is : sum ≡ sum_after values 0 j * factor
+  pub sum_is : sum ≡ sum_after values 0 j
   pub sum_most : sum ≤ j * most_time
-  pub done : (q : ℕ) → q ≤ j → get_or sums q 0 ≡ sum_after values 0 q * factor
+  pub done : (q : ℕ) → q ≤ j → get_or sums q 0 ≡ sum_after values 0 q
 
-module _ {values : List ℕ} {factor : ℕ} (S : PrefixSumsPre values factor) where
-  pub sums_start : (sums : List ℕ) → length sums ≡ 41 → get_or sums 0 0 ≡ 0 → SumsSoFar values factor sums 0 0
+module _ {values : List ℕ} (S : PrefixSumsPre values) where
+  pub sums_start : (sums : List ℕ) → length sums ≡ 41 → get_or sums 0 0 ≡ 0 → SumsSoFar values sums 0 0
   unfolding sum_after sum_over
   sums_start sums l e = record {
     len = l;
     to = omega arith;
-    sum_is = sym (zero-mul factor);
+    sum_is = refl;
     sum_most = omega arith;
-    done = λ q h. let z : q ≡ 0 = omega arith in rw z (e ∙ sym (zero-mul factor));
+    done = λ q h. let z : q ≡ 0 = omega arith in rw z e;
   }
 
-  module _ {sums : List ℕ} {sum j : ℕ} (M : SumsSoFar values factor sums sum j) (h : j < most_strips) where
+  module _ {sums : List ℕ} {sum j : ℕ} (M : SumsSoFar values sums sum j) (h : j < most_strips) where
     pub sums_read : j < length values
     sums_read = omega (arith, S.len)
 
-    pub sums_product : get_or values j 0 * factor < 2 ^ 64
-    sums_product = omega (arith, S.most j)
-
-    next_most : sum + get_or values j 0 * factor ≤ (j + 1) * most_time
+    next_most : sum + get_or values j 0 ≤ (j + 1) * most_time
     next_most = omega (arith, M.sum_most, S.most j)
 
-    pub sums_fits : sum + get_or values j 0 * factor < 2 ^ 64
+    pub sums_fits : sum + get_or values j 0 < 2 ^ 64
     sums_fits = omega (arith, next_most)
 
-    pub sums_step : SumsSoFar values factor (set sums (j + 1) (sum + get_or values j 0 * factor)) (sum + get_or values j 0 * factor) (j + 1)
+    pub sums_step : SumsSoFar values (set sums (j + 1) (sum + get_or values j 0)) (sum + get_or values j 0) (j + 1)
     sums_step =
-        let v : ℕ = sum + get_or values j 0 * factor in
-        let next : sum_after values 0 (j + 1) * factor ≡ sum_after values 0 j * factor + get_or values j 0 * factor
-        = ap (λ (n : ℕ). n * factor) (after_next values j) ∙ add-mul (sum_after values 0 j) (get_or values j 0) factor in
-        let e : v ≡ sum_after values 0 (j + 1) * factor = omega (arith, next, M.sum_is) in record {
+        let v : ℕ = sum + get_or values j 0 in
+        let e : v ≡ sum_after values 0 (j + 1) = omega (arith, after_next values j, M.sum_is) in record {
           len = length-set sums (j + 1) v ∙ M.len;
           to = omega arith;
           sum_is = e;
@@ -74,7 +69,7 @@ module _ {values : List ℕ} {factor : ℕ} (S : PrefixSumsPre values factor) wh
           ];
         }
 
-  pub sums_end : {sums : List ℕ} {sum j : ℕ} → SumsSoFar values factor sums sum j → most_strips ≤ j → PrefixSums values factor sums
+  pub sums_end : {sums : List ℕ} {sum j : ℕ} → SumsSoFar values sums sum j → most_strips ≤ j → PrefixSums values sums
   sums_end M h = record { len = M.len; at = λ q l. M.done q (omega arith) }
 
 -- the ready times of the first j strips are done; a, b, c, d are the stations' sums

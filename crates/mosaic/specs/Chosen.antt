@@ -1,5 +1,4 @@
--- The batching that the program takes: that of the recursion over its batchings (crate `batching`). Of several of least cost it is the one whose first batch is
--- longest, then its second, and so on.
+-- The batching that the program takes: that of the recursion over its batchings (crate `batching`).
 use Rattle.std.specs.Prelude.{List}
 use Rattle.sheet.specs.declared.MosaicSection.{MosaicSection}
 use Rattle.rules.specs.declared.Batch.{Batch}

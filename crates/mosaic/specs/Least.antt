@@ -1,10 +1,8 @@
--- The least figure of a mosaic, and the fewest batches of a timetable that has it (02, Req 10): both are in the least cost, which is that of the recursion over
--- its batchings (crate `batching`).
+-- The least figure of a mosaic: that of the recursion over its batchings (crate `batching`).
 use Rattle.std.specs.Prelude.{ℕ, ◌-◌}
 use Rattle.sheet.specs.declared.MosaicSection.{MosaicSection}
 use Rattle.rules.specs.Mosaic.{ready, bench_sum, setup_time}
 use Rattle.running.specs.Running.{batch_weight}
-use Rattle.batching.specs.Cost.{figure_in, batches_in, scaled_weight}
 use Rattle.batching.specs.Least.{Instance, least_from}
 
 unfoldable pub instance_of : MosaicSection → Instance
@@ -13,14 +11,8 @@ instance_of m = record {
   mount = setup_time m;
   ready = λ q. ready m q;
   bench = λ i q. bench_sum m i (q - i);
-  weight = λ i q. scaled_weight (batch_weight m i q);
+  weight = λ i q. batch_weight m i q;
 }
 
-unfoldable pub least_cost : MosaicSection → ℕ
-least_cost m = least_from (instance_of m) m.strips 0 0
-
 unfoldable pub least_figure : MosaicSection → ℕ
-least_figure m = figure_in (least_cost m)
-
-unfoldable pub fewest_batches : MosaicSection → ℕ
-fewest_batches m = batches_in (least_cost m)
+least_figure m = least_from (instance_of m) m.strips 0 0

@@ -1,12 +1,17 @@
 -- The plan that the program returns, and what it promises.
-use Rattle.std.specs.Prelude.{ℕ, ◌≤◌, ◌≡◌, List, length, get_or}
+use Rattle.std.specs.Prelude.{ℕ, ◌≤◌, ◌≡◌, List, [], ◌∷◌, length, get_or}
 use Rattle.base.specs.Listed.{listed}
 use Rattle.sheet.specs.Limits.{most_strips}
 use Rattle.sheet.specs.declared.MosaicSection.{MosaicSection}
 use Rattle.rules.specs.declared.Batch.{Batch}
-use Rattle.mosaic.specs.Least.{least_figure, fewest_batches}
+use Rattle.mosaic.specs.Least.{least_figure}
 use Rattle.mosaic.specs.Chosen.{chosen_batches}
 use Rattle.mosaic.specs.declared.MosaicPlan.{MosaicPlan}
+
+-- the last strips of the batches
+unfoldable pub lasts : List Batch → List ℕ
+lasts [] = []
+lasts (b ∷ bs) = b.last ∷ lasts bs
 
 -- batch k, from 0, of lists of last strips, starts and finishes
 abbrev pub entry : List ℕ → List ℕ → List ℕ → ℕ → Batch
@@ -26,6 +31,5 @@ pub record Planned (m : MosaicSection) (p : MosaicPlan) : Type 0 where
   pub figure : p.figure ≡ least_figure m
   pub batches : batches_of p ≡ chosen_batches m
   pub count : p.batches ≡ length (chosen_batches m)
-  pub fewest : p.batches ≡ fewest_batches m
   pub few : p.batches ≤ most_strips
   pub no_more : NoMore p

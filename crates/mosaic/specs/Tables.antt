@@ -1,15 +1,12 @@
 -- What the mosaic's functions ask and do, said of the lists behind the slices. rs: ready times, strip q at q - 1. sums: bench times added up, those of the
--- first q strips at q. weights: the strips' weights added up alike. scaled: the same, scaled (`scaled_weight`). late: costs of the batches that wait for their
--- last strip, as crate `batching_tables` fills it.
+-- first q strips at q. late: figures of the batches that wait for their last strip, as crate `batching` fills it.
 use Rattle.std.specs.Prelude.{◌≡◌, List, [], ◌∷◌, ◌++◌, ℕ, ◌+◌, ◌*◌, ◌≤◌, ◌<◌, ◌^◌, length, get_or}
 use Rattle.sheet.specs.Limits.{most_strips, most_time}
 use Rattle.sheet.specs.declared.MosaicSection.{MosaicSection}
 use Rattle.base.specs.Sums.{sum_after}
 use Rattle.rules.specs.Mosaic.{ready}
-use Rattle.batching.specs.Cost.{cost_of, scaled_weight}
 use Rattle.batching.specs.Index.{least_at, chosen_at}
-use Rattle.batching_choice.specs.Candidates.{width, late_length, instance_in, Input}
-use Rattle.batching_tables.specs.Tables.{LateFrom}
+use Rattle.batching.specs.Tables.{width, late_length, instance_in, Input, LateFrom}
 use Rattle.mosaic.specs.Plan.{batches_of, NoMore}
 use Rattle.mosaic.specs.declared.MosaicPlan.{MosaicPlan}
 
@@ -32,21 +29,15 @@ pub record Added (plan : MosaicPlan) (weight last start finish : ℕ) (more : Mo
   pub batches : batches_of more ≡ batches_of plan ++ (record { last = last; start = start; finish = finish } ∷ [])
   pub no_more : NoMore plan → NoMore more
 
--- what `best_batches` asks
-pub record BestBatchesPre (rs sums weights scaled : List ℕ) (s n : ℕ) : Type 0 where
-  pub input : Input rs sums scaled s n
-  pub weights_long : n < length weights
-  pub is_scaled : (q : ℕ) → q ≤ n → get_or scaled q 0 ≡ scaled_weight (get_or weights q 0)
-
--- what `choose_batches` asks, and what both do
-pub record ChooseBatchesPre (rs sums weights scaled late : List ℕ) (s n : ℕ) : Type 0 where
-  pub from : BestBatchesPre rs sums weights scaled s n
-  pub all : LateFrom rs sums scaled late s n 0
+-- what `choose_batches` asks, and does
+pub record ChooseBatchesPre (rs sums weights late : List ℕ) (s n : ℕ) : Type 0 where
+  pub input : Input rs sums weights s n
+  pub all : LateFrom rs sums weights late s n 0
   pub late_long : late_length ≤ length late
 
-pub record BatchesTaken (rs sums scaled : List ℕ) (s n : ℕ) (plan : MosaicPlan) : Type 0 where
-  pub cost : cost_of plan.figure plan.batches ≡ least_at (instance_in rs sums scaled s n) 0 0
-  pub batches : batches_of plan ≡ chosen_at (instance_in rs sums scaled s n) 0 0
+pub record BatchesTaken (rs sums weights : List ℕ) (s n : ℕ) (plan : MosaicPlan) : Type 0 where
+  pub figure : plan.figure ≡ least_at (instance_in rs sums weights s n) 0 0
+  pub batches : batches_of plan ≡ chosen_at (instance_in rs sums weights s n) 0 0
   pub no_more : NoMore plan
 
 -- what `ready_times` gives: every entry
@@ -54,11 +45,11 @@ pub record ReadyTimes (m : MosaicSection) (rs : List ℕ) : Type 0 where
   pub len : length rs ≡ most_strips
   pub at : (j : ℕ) → j < most_strips → get_or rs j 0 ≡ ready m (j + 1)
 
--- what `prefix_sums` asks of its values and of the factor, and what it gives: every entry
-pub record PrefixSumsPre (values : List ℕ) (factor : ℕ) : Type 0 where
+-- what `prefix_sums` asks of its values, and what it gives: every entry
+pub record PrefixSumsPre (values : List ℕ) : Type 0 where
   pub len : length values ≡ most_strips
-  pub most : (k : ℕ) → get_or values k 0 * factor ≤ most_time
+  pub most : (k : ℕ) → get_or values k 0 ≤ most_time
 
-pub record PrefixSums (values : List ℕ) (factor : ℕ) (sums : List ℕ) : Type 0 where
+pub record PrefixSums (values sums : List ℕ) : Type 0 where
   pub len : length sums ≡ width
-  pub at : (q : ℕ) → q ≤ most_strips → get_or sums q 0 ≡ sum_after values 0 q * factor
+  pub at : (q : ℕ) → q ≤ most_strips → get_or sums q 0 ≡ sum_after values 0 q

@@ -1,10 +1,9 @@
-// The batches taken: the table is filled, and they are read out of it from the first strip on.
-ghost use Rattle.mosaic.specs.Tables.{AddBatchPre, Added, BestBatchesPre, ChooseBatchesPre, BatchesTaken};
+// The batches taken, read out of the tables from the first strip on.
+ghost use Rattle.mosaic.specs.Tables.{AddBatchPre, Added, ChooseBatchesPre, BatchesTaken};
 
 use crate::MosaicPlan;
 use base::greater;
-use batching_choice::LATE_LENGTH;
-use batching_tables::{fill_late, first_batch};
+use batching::first_batch;
 
 // The plan with one batch more, of a weight.
 fn add_batch(plan: MosaicPlan, weight: u64, last: u64, start: u64, finish: u64) -> MosaicPlan
@@ -22,17 +21,16 @@ fn add_batch(plan: MosaicPlan, weight: u64, last: u64, start: u64, finish: u64) 
 }
 
 // The batches taken, each mounted as soon as the batch before has finished, and the sum of weighted completions.
-fn choose_batches(
+pub fn choose_batches(
     rs: &[u64],
     sums: &[u64],
     weights: &[u64],
-    scaled: &[u64],
     late: &[u64],
     s: u64,
     n: usize,
 ) -> MosaicPlan
-    requires { ChooseBatchesPre rs.now sums.now weights.now scaled.now late.now s n }
-    ensures { BatchesTaken rs.now sums.now scaled.now s n result }
+    requires { ChooseBatchesPre rs.now sums.now weights.now late.now s n }
+    ensures { BatchesTaken rs.now sums.now weights.now s n result }
 {
     let mut plan = MosaicPlan {
         figure: 0,
@@ -44,7 +42,7 @@ fn choose_batches(
     let mut i = 0;
     let mut free = 0;
     while i < n {
-        let choice = first_batch(rs, sums, scaled, late, s, n, free, i);
+        let choice = first_batch(rs, sums, weights, late, s, n, free, i);
         let q = choice.last;
         let mounted = free + s;
         let begin = greater(mounted, rs[q - 1]);
@@ -55,21 +53,4 @@ fn choose_batches(
         free = finish;
     }
     plan
-}
-
-// The best batches of the strips with these ready times, sums of bench times, of weights and of scaled weights.
-pub fn best_batches(
-    rs: &[u64],
-    sums: &[u64],
-    weights: &[u64],
-    scaled: &[u64],
-    s: u64,
-    n: usize,
-) -> MosaicPlan
-    requires { BestBatchesPre rs.now sums.now weights.now scaled.now s n }
-    ensures { BatchesTaken rs.now sums.now scaled.now s n result }
-{
-    let mut late = [0u64; LATE_LENGTH];
-    fill_late(rs, sums, scaled, &mut late, s, n);
-    choose_batches(rs, sums, weights, scaled, &late, s, n)
 }

@@ -1,5 +1,7 @@
-// The planner of the mosaic: the least sum of weighted completions over all batchings, and a batching that has it with as few batches as any. In the
-// literature: batching on one machine with an anticipatory setup for each batch, where a strip's ready time is its release date.
+// The planner of the mosaic: the least sum of weighted completions over all batchings, and a batching that has it. In the literature: batching on one machine
+// with an anticipatory setup for each batch, where a strip's ready time is its release date.
+#![tactic(auto)]
+
 ghost use Rattle.sheet.specs.Sound.{MosaicSound};
 ghost use Rattle.mosaic.specs.Plan.{Planned};
 
@@ -8,9 +10,6 @@ mod ready;
 
 use running::mosaic::setup_time;
 use sheet::MosaicSection;
-
-// What 1 of a figure counts in a cost, beside 1 for each batch: more than all batches of a section.
-const FIGURE_SCALE: u64 = 64;
 
 // A plan of the mosaic: its figure, and last strip, mount start and finish of each batch, in the first `batches` entries, with zeros after them.
 #[derive(Drop)]
@@ -22,7 +21,7 @@ pub struct MosaicPlan {
     pub finish: [u64; 40],
 }
 
-// A plan of the least figure with as few batches as any of that figure.
+// A plan of the least figure.
 pub fn plan_mosaic(m: MosaicSection) -> MosaicPlan
     requires { MosaicSound m }
     ensures { Planned m result }
@@ -31,9 +30,10 @@ pub fn plan_mosaic(m: MosaicSection) -> MosaicPlan
     let s = setup_time(m);
     let rs = ready::ready_times(m);
     let bench = m.bench;
-    let sums = ready::prefix_sums(&bench, 1);
+    let sums = ready::prefix_sums(&bench);
     let weight = m.weight;
-    let weights = ready::prefix_sums(&weight, 1);
-    let scaled = ready::prefix_sums(&weight, FIGURE_SCALE);
-    batches::best_batches(&rs, &sums, &weights, &scaled, s, n)
+    let weights = ready::prefix_sums(&weight);
+    let mut late = [0u64; batching::LATE_LENGTH];
+    batching::fill_late(&rs, &sums, &weights, &mut late, s, n);
+    batches::choose_batches(&rs, &sums, &weights, &late, s, n)
 }

@@ -53,16 +53,16 @@ pub fn ready_times(m: MosaicSection) -> [u64; 40]
     rs
 }
 
-// Entry q is the sum of the first q of 40 values, each times a factor.
-pub fn prefix_sums(values: &[u64], factor: u64) -> [u64; 41]
-    requires { PrefixSumsPre values.now factor }
-    ensures { PrefixSums values.now factor result }
+// Entry q is the sum of the first q of 40 values.
+pub fn prefix_sums(values: &[u64]) -> [u64; 41]
+    requires { PrefixSumsPre values.now }
+    ensures { PrefixSums values.now result }
 {
     let mut sums = [0u64; 41];
     let mut sum = 0;
     let mut j = 0;
     while j < MOST_STRIPS {
-        sum += values[j] * factor;
+        sum += values[j];
         j += 1;
         sums[j] = sum;
     }

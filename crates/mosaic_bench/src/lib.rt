@@ -1,4 +1,6 @@
 // The mosaic planner for C, so that bench/ can time it by itself.
+#![tactic(auto)]
+
 ghost use Rattle.std.specs.Prelude.{◌≡◌};
 ghost use Rattle.sheet.specs.Sound.{MosaicSound};
 ghost use Rattle.mosaic.specs.Least.{least_figure};

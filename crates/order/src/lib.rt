@@ -1,4 +1,6 @@
 // Pass orders as 64-bit numbers: bit 0 is the earliest pass, a 1 is a second pass, a 0 a first pass. And the passes of a flight by their numbers.
+#![tactic(auto)]
+
 ghost use Rattle.std.specs.Prelude.{◌≡◌, ◌+◌, ◌*◌, ◌≤◌, ◌<◌, ◌^◌, length};
 ghost use Rattle.order.specs.Order.{bit, seconds, firsts, is_proper};
 ghost use Rattle.order.specs.Passes.{pass_at, time_of};

@@ -1,4 +1,6 @@
 // The page of a plan for the bench wall (02, Req 02): a plan that the judge allows, printed in lines of 32 columns.
+#![tactic(auto)]
+
 ghost use Rattle.std.specs.Prelude.{◌≡◌};
 ghost use Rattle.field.specs.Put.{Written};
 ghost use Rattle.page_lines.specs.Line.{lines_bytes};

@@ -1,4 +1,6 @@
 // The lines of a page (02, Req 02), stored into the lent buffer: 32 columns and a line feed.
+#![tactic(auto)]
+
 ghost use Rattle.std.specs.Prelude.{◌≡◌, ◌∷◌, ◌+◌, ◌≤◌, length};
 ghost use Rattle.decimal.specs.Columns.{space, columns};
 ghost use Rattle.field.specs.Put.{put};

@@ -1,4 +1,6 @@
 // The sections of a page: a head line, then a line for each member. A section is printed from where it stands in the plan; a section of no member is absent.
+#![tactic(auto)]
+
 ghost use Rattle.std.specs.Prelude.{◌≡◌};
 ghost use Rattle.base.specs.Listed.{listed};
 ghost use Rattle.field.specs.Put.{put, Written};

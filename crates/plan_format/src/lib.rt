@@ -1,5 +1,6 @@
 // The format of a plan's fields (01, "The plan") for the code: the width of each number, where it stands behind its field's tag, and the length of the content.
 // specs/Format.antt states the same for the definitions. A size is that of the whole field.
+#![tactic(auto)]
 
 // Where the content of a field stands: behind its tag and its content length.
 pub const CONTENT: usize = 3;

@@ -1,5 +1,7 @@
 // The heads and members of a plan, read from its bytes. The field stands at offset `at`; a byte past the end of the plan counts as 0, so every offset may be
 // asked for.
+#![tactic(auto)]
+
 ghost use Rattle.std.specs.Prelude.{◌≡◌, ◌+◌, ◌≤◌};
 ghost use Rattle.field.specs.Bytes.{NumberRead};
 ghost use Rattle.plan_format.specs.Format.{mosaic_head_form, sorting_head_form, flight_head_form};

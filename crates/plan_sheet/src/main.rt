@@ -1,4 +1,6 @@
 // Reads a sheet from standard input, at most its first 65,536 bytes, and writes its plan, or the field of its refusal.
+#![tactic(auto)]
+
 ghost use Rattle.reply.specs.Reply.{Replied};
 ghost use Rattle.planner.specs.Outcomes.{Large};
 ghost use Rattle.plan_sheet.specs.Reply.{sheet_reply};

@@ -1,4 +1,6 @@
 // The bytes of a plan, stored into the lent buffer: its sections one behind the other, each a head and its members.
+#![tactic(auto)]
+
 ghost use Rattle.std.specs.Prelude.{◌≡◌};
 ghost use Rattle.field.specs.Put.{put, Written};
 ghost use Rattle.rules.specs.Plan.{members_bytes, batch_bytes, job_bytes, passes_bytes, mosaic_bytes, sorting_bytes, flight_bytes, if_present};

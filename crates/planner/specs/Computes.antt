@@ -1,7 +1,6 @@
 -- For proofs that compute: to unfold `planner_computes` is to unfold every definition that the planning of a read sheet runs through, beside those of the rules.
 use Prim.{Unit, tt}
 use Rattle.base.specs.Listed.{listed}
-use Rattle.batching.specs.Cost.{scaled_weight, batch_cost}
 use Rattle.batching.specs.Least.{bench_start, finish_of, least_open, least_from}
 use Rattle.batching.specs.Chosen.{batch_of, chosen_open, chosen_from}
 use Rattle.running.specs.Running.{batch_weight}
@@ -20,7 +19,7 @@ use Rattle.planner.specs.Theorems.{figure_of_mosaic, figure_of_sorting, figure_o
 
 unfoldable pub planner_computes : Unit {0}
 unfolding
-    scaled_weight batch_cost bench_start finish_of least_open least_from batch_of chosen_open chosen_from batch_weight instance_of chosen_batches
+    bench_start finish_of least_open least_from batch_of chosen_open chosen_from batch_weight instance_of chosen_batches
     step_of keep over_desks branch search_from start_state first_best sortingInstance listed_desk reached job_of listed jobs_of_list chosen_jobs
     relax relaxed rounds holds least_values solvable constraint_of least_starts possible_in order_figure passes_with_starts least_passes
     improves tried searched orders_of delays_fit one_by_one free_order chosen_order is_possible chosen_passes

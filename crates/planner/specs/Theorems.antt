@@ -1,8 +1,7 @@
 -- What holds of the plan that the program takes for a sheet, for every row of bytes as a sheet: it is lawful, no plan that obeys the rules under any ceiling
--- has a smaller figure, its mosaic is one that Req 10 takes and its sorting the one that Req 03 takes, it starts as early as any, and the flight is called
--- impossible exactly where no timetable keeps the given order or, where none is given, a proper one. `read_sheet` is what reading gives (crate sheet),
--- `PlanUnder`, `PlanLawful`, `AllowedFor`, `MosaicTaken` and `SortingTaken` are of crate rules, `chosen_plan` is Call.antt's. What that means for a call is said
--- in crate demands.
+-- has a smaller figure, its sorting is the one that Req 03 takes, it starts as early as any, and the flight is called impossible exactly where no timetable
+-- keeps the given order or, where none is given, a proper one. `read_sheet` is what reading gives (crate sheet), `PlanUnder`, `PlanLawful`, `AllowedFor` and
+-- `SortingTaken` are of crate rules, `chosen_plan` is Call.antt's. What that means for a call is said in crate demands.
 use Rattle.std.specs.Prelude.{ℕ, ◌≤◌, ◌<◌, ◌≡◌, refl, Bool, true, false, List, length}
 use Rattle.std.proofs.Math.Path.{sym, subst}
 use Rattle.std.proofs.Common.{◌∙◌, true≢false}
@@ -15,14 +14,14 @@ use Rattle.sheet.specs.declared.FlightSection.{FlightSection}
 use Rattle.sheet.specs.declared.Sheet.{Sheet}
 use Rattle.order.specs.Order.{Proper}
 use Rattle.rules.specs.Mosaic.{batch_at, mosaic_figure}
-use Rattle.rules.specs.FewestBatches.{lasts, MosaicTaken}
 use Rattle.rules.specs.Sorting.{job_at, sorting_figure}
 use Rattle.rules.specs.ScannerList.{scanner_list, SortingTaken}
 use Rattle.rules.specs.Flight.{passes_at, FlightLawful, Keeps, flight_figure}
 use Rattle.rules.specs.Plan.{Plan, PlanUnder, PlanLawful, AllowedFor}
 use Rattle.rules.specs.declared.Job.{Job}
 use Rattle.rules.specs.declared.Passes.{Passes}
-use Rattle.mosaic.specs.Theorems.{mosaic_lawful, mosaic_figure_lem, mosaic_batches, mosaic_least, mosaic_fewest, mosaic_taken, mosaic_earliest}
+use Rattle.mosaic.specs.Plan.{lasts}
+use Rattle.mosaic.specs.Theorems.{mosaic_lawful, mosaic_figure_lem, mosaic_least, mosaic_earliest}
 use Rattle.sorting.specs.Theorems.{sorting_lawful, sorting_figure_lem, sorting_least, sorting_earliest, sorting_taken, sorting_taken_once}
 use Rattle.flight.specs.Choice.{is_possible, chosen_order}
 use Rattle.flight.specs.Chosen.{LongestBelowTurn, chosen_given}
@@ -110,20 +109,6 @@ module _ (sheet : List ℕ) (sound : (read_sheet sheet).number ≡ 0) where
         kept = h.1;
         order = h.2;
       }
-
-  -- Its mosaic is one to be taken (02, Req 10) ..
-  pub plan_mosaic_taken : MosaicTaken (read_sheet sheet).mosaic (chosen_plan (read_sheet sheet)).batches
-  unfolding chosen_plan
-  plan_mosaic_taken = mosaic_taken (read_sheet sheet).mosaic whole.mosaic
-
-  -- .. and no plan of its mosaic figure has fewer batches, under any ceiling.
-  pub plan_fewest : (c : ℕ) (other : Plan) → PlanUnder c (read_sheet sheet) other
-      → figure_of_mosaic (read_sheet sheet) other ≡ figure_of_mosaic (read_sheet sheet) (chosen_plan (read_sheet sheet))
-      → length (chosen_plan (read_sheet sheet)).batches ≤ length other.batches
-  unfolding figure_of_mosaic chosen_plan
-  plan_fewest c other l e =
-      let m = (read_sheet sheet).mosaic in
-      rw (mosaic_batches m whole.mosaic) (mosaic_fewest m whole.mosaic other.batches l.mosaic (e ∙ mosaic_figure_lem m whole.mosaic))
 
   -- Its sorting is the one to be taken (02, Req 03), and only one is.
   pub plan_taken : SortingTaken (read_sheet sheet).sorting (chosen_plan (read_sheet sheet)).jobs

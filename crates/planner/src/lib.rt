@@ -1,4 +1,6 @@
 // The planner whole: a sheet read, its sections planned, and the plan written into the lent buffer.
+#![tactic(auto)]
+
 ghost use Rattle.planner.specs.Call.{Called, PlanSectionsPre, PlanWithinPre, Within, Planned};
 
 use base::Answer;

@@ -1,5 +1,7 @@
 // Prints a plan for a sheet: two file names as arguments. Writes the page, or the field of the refusal where the judge does not allow the plan.
 // Of each file at most the first 65,536 bytes are read. A file that cannot be read gets a message on standard error, and no page.
+#![tactic(auto)]
+
 ghost use Rattle.std.specs.Prelude.{◌≤◌, length};
 ghost use Rattle.reply.specs.Reply.{Replied};
 ghost use Rattle.sheet.specs.Limits.{page_length};

@@ -1,4 +1,6 @@
 // What a program writes for the answer of a call.
+#![tactic(auto)]
+
 ghost use Rattle.std.specs.Prelude.{take};
 ghost use Rattle.reply.specs.Reply.{ReplyPre, Replied, reply_bytes};
 

@@ -1,5 +1,5 @@
 -- A test of the rules by samples: timetables, with and without idle time, that are lawful, with their figures; timetables that a rule refuses, one or more for
--- each rule; and those that only the ceiling refuses; last, two mosaics that are not to be taken, and two scanner lists.
+-- each rule; and those that only the ceiling refuses; last, two scanner lists.
 -- Each timetable is tested by computing, and a test that holds says the sample in the words of the rules (tested). The sheets that 01 works through are crate
 -- worked_sheets.
 use Prim.{Unit, tt}
@@ -19,7 +19,6 @@ use Rattle.sheet.specs.declared.SortingSection.{SortingSection}
 use Rattle.sheet.specs.declared.FlightSection.{FlightSection}
 use Rattle.rules.specs.Mosaic.{MosaicUnder, mosaic_figure}
 use Rattle.rules.specs.Sorting.{SortingUnder, sorting_figure}
-use Rattle.rules.specs.FewestBatches.{MosaicTaken}
 use Rattle.rules.specs.ScannerList.{ComesBefore}
 use Rattle.rules.specs.Flight.{FlightUnder, Keeps, OrderAllowed, flight_figure}
 use Rattle.rules.proofs.Computes.{rules_compute}
@@ -276,41 +275,6 @@ all_tested_lem (c ∷ cs) e =
 
 pub samples_hold : AllSay samples
 samples_hold = all_tested_lem samples samples_tested
-
--- Two mosaics that are not to be taken. Two strips that are ready at 0, with mount and bench times of 1, are complete at 3 in one batch and at 2 and 4 in two:
--- the figure is 6 either way, so not the two batches. Four strips in one batch are complete at 16, in four batches at 3, 7, 10 and 12, so not the one batch.
-abbrev two_strips : MosaicSection
-two_strips = record {
-  stations = 1;
-  mount = 1;
-  strips = 2;
-  station = replicate 160 0;
-  bench = 1 ∷ 1 ∷ [] ++ replicate 38 0;
-  weight = 1 ∷ 1 ∷ [] ++ replicate 38 0;
-}
-
-abbrev in_one : List Batch
-in_one = batch 2 0 3 ∷ []
-
-abbrev in_two : List Batch
-in_two = batch 1 0 2 ∷ batch 2 2 4 ∷ []
-
-abbrev in_four : List Batch
-in_four = batch 1 0 3 ∷ batch 2 3 7 ∷ batch 3 7 10 ∷ batch 4 10 12 ∷ []
-
-same_figure : MosaicUnder ceiling two_strips in_one × (mosaic_figure two_strips in_one ≡ mosaic_figure two_strips in_two)
-unfolding rules_compute
-same_figure = ((mosaic_decided two_strips in_one ceiling).holds refl, refl)
-
-smaller_figure : MosaicUnder ceiling four_strips in_four × (mosaic_figure four_strips in_four < mosaic_figure four_strips (batch 4 0 16 ∷ []))
-unfolding rules_compute
-smaller_figure = ((mosaic_decided four_strips in_four ceiling).holds refl, omega arith)
-
-pub mosaics_sample : (MosaicTaken two_strips in_two → ⊥) × (MosaicTaken four_strips (batch 4 0 16 ∷ []) → ⊥)
-mosaics_sample = (
-  λ t. omega (arith, t.fewest in_one same_figure.0 same_figure.1),
-  λ t. omega (arith, t.best in_four smaller_figure.0, smaller_figure.1),
-)
 
 -- Which of two scanner lists comes before the other: desk 1 against desk 3 at the first place where they part, desk 3 against desk 1 at the last. A beginning
 -- of a list does not come before it: they part nowhere.

@@ -1,5 +1,6 @@
-// The rules of the three sections: when a timetable is lawful, what its figure is, when a plan is allowed; and which of several best mosaics and sortings is
-// taken. They stand in specs/; here is what a plan's members are.
+// The rules of the three sections: when a timetable is lawful, what its figure is, when a plan is allowed; and which of several best sortings is taken. They
+// stand in specs/; here is what a plan's members are.
+#![tactic(auto)]
 
 // A batch of the mosaic: the number of its last strip, the start of its mount, its finish.
 #[derive(Drop)]

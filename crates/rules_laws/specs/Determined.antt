@@ -13,7 +13,7 @@ use Rattle.rules.specs.Sorting.{sorting_figure}
 use Rattle.rules.specs.Flight.{flight_figure}
 use Rattle.rules.specs.Plan.{mosaic_bytes, sorting_bytes, flight_bytes, if_present, Plan, plan_bytes, PlanLawful}
 use Rattle.plan_read.specs.PlanRead.{order_from, batches_from, jobs_from, blocks_from}
-use Rattle.rules_laws.specs.Present.{present_some, present_none, present_length, present_most}
+use Rattle.rules_laws.specs.Present.{present_some, present_length, present_most}
 use Rattle.rules_laws.specs.Sections.{length_mosaic, length_sorting, length_flight, mosaic_back, sorting_back, flight_back, flight_order_back}
 use Rattle.rules_laws.specs.Fits.{batches_most, batch_fits, jobs_all, job_fits, passes_fits, flight_head_fits}
 
@@ -125,35 +125,18 @@ module _ (s : Sheet) (sound : SheetSound s) where
         zero_passes : 2 * s.flight.blocks ≡ 0
         zero_passes = omega (arith, none)
 
-  module _ (p q : Plan) (P : PlanLawful s p) (Q : PlanLawful s q) where
+  module _ (p q : Plan) (P : PlanLawful s p) (Q : PlanLawful s q) (same : plan_bytes s p ≡ plan_bytes s q) where
     same_sorting : length (sorting_of s p) ≡ length (sorting_of s q)
     same_sorting = sorting_size p P ∙ sym (sorting_size q Q)
 
     same_flight : length (flight_of s p) ≡ length (flight_of s q)
     same_flight = flight_size p P ∙ sym (flight_size q Q)
 
-    -- the lengths of two lawful plans differ by the fields of their batches alone
-    pub lengths_by_batches : length (plan_bytes s p) + size_of batch_form * length q.batches ≡ length (plan_bytes s q) + size_of batch_form * length p.batches
-    lengths_by_batches = omega (arith, plan_length_lem p P, plan_length_lem q Q, same_sorting, same_flight, mosaics (dec_lt 0 s.mosaic.strips))
-      where
-        mosaics : Dec (0 < s.mosaic.strips)
-            → length (mosaic_of s p) + size_of batch_form * length q.batches ≡ length (mosaic_of s q) + size_of batch_form * length p.batches
-        mosaics (yes h) = omega (arith, mosaic_size p P h, mosaic_size q Q h)
-        mosaics (no h) =
-            omega (
-              arith,
-              ap length (present_none s.mosaic.strips (mosaic_bytes (mosaic_figure s.mosaic p.batches) p.batches) (omega arith)),
-              ap length (present_none s.mosaic.strips (mosaic_bytes (mosaic_figure s.mosaic q.batches) q.batches) (omega arith)),
-              batches_most s.mosaic p.batches sound.mosaic P.mosaic,
-              batches_most s.mosaic q.batches sound.mosaic Q.mosaic,
-            )
-
-  module _ (p q : Plan) (P : PlanLawful s p) (Q : PlanLawful s q) (same : plan_bytes s p ≡ plan_bytes s q) where
     same_mosaic : length (mosaic_of s p) ≡ length (mosaic_of s q)
-    same_mosaic = omega (arith, plan_length_lem p P, plan_length_lem q Q, ap length same, same_sorting p q P Q, same_flight p q P Q)
+    same_mosaic = omega (arith, plan_length_lem p P, plan_length_lem q Q, ap length same, same_sorting, same_flight)
 
     same_front : length (mosaic_of s p ++ sorting_of s p) ≡ length (mosaic_of s q ++ sorting_of s q)
-    same_front = omega (arith, length-append (mosaic_of s p) (sorting_of s p), length-append (mosaic_of s q) (sorting_of s q), same_mosaic, same_sorting p q P Q)
+    same_front = omega (arith, length-append (mosaic_of s p) (sorting_of s p), length-append (mosaic_of s q) (sorting_of s q), same_mosaic, same_sorting)
 
     batches_same : p.batches ≡ q.batches
     batches_same = go (dec_lt 0 s.mosaic.strips)

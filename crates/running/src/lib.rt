@@ -1,4 +1,5 @@
 // What the rules take from a section, for those who follow them member by member. The rules as they run over the members in order stand in specs/.
+#![tactic(auto)]
 
 pub mod flight;
 pub mod mosaic;

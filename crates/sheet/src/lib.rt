@@ -1,4 +1,5 @@
 // The sheet: its limits, its tags, its refusal numbers, and what reading one gives.
+#![tactic(auto)]
 
 pub mod desks;
 pub mod limits;

@@ -1,5 +1,7 @@
 // Reads sheets from standard input, each behind its length in two bytes, and writes a line for each: the number and place that its reading
 // gives, and where it is sound the strips of its mosaic, those of each desk, its blocks, its turn and its order number.
+#![tactic(auto)]
+
 use sheet::Sheet;
 use text::put_decimal;
 

@@ -1,4 +1,6 @@
 // What each field of a sheet is checked for: one function a check, and the chain of them in 01's order.
+#![tactic(auto)]
+
 ghost use Rattle.std.specs.Prelude.{◌≡◌, ◌+◌, ◌<◌, ◌^◌};
 ghost use Rattle.field.specs.Bytes.{number_at};
 ghost use Rattle.sheet.specs.Rows.{first_failure};

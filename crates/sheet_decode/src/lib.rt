@@ -1,4 +1,6 @@
 // What a field that passes its checks adds to the sheet. A field's content begins at offset c.
+#![tactic(auto)]
+
 ghost use Rattle.std.specs.Prelude.{◌≡◌, ◌+◌, ◌*◌, ◌<◌, ◌^◌, length};
 ghost use Rattle.sheet.specs.Decode.{no_mosaic, no_sorting, with_mosaic_head, weight_of, with_station_times, with_mosaic_strip, with_sorting_head, with_strip_at, next_mosaic, next_sorting};
 ghost use Rattle.sheet.specs.Decode.{next_section, next_members, next_head, next_reading, start_reading};

@@ -1,5 +1,7 @@
 // The lengths that are due for a field's content: one case for each tag of the field table and, for a mosaic strip, one for each number of stations, so that
 // the code can be read against the table (02, Req 05; docs/FORMAT.md shows both side by side).
+#![tactic(auto)]
+
 ghost use Rattle.std.specs.Prelude.{◌≡◌};
 ghost use Rattle.sheet.specs.Among.{is_among};
 ghost use Rattle.sheet_lengths.specs.Lengths.{lengths_given, GivesLength};

@@ -1,6 +1,8 @@
 // The refusal number that the values of a field give by their ranges (01, the table of tags; 02, Req 04), 0 where each is in its range: one function a tag, and
 // one for the weight of a strip (02, Req 09).
 // Values are examined from left to right, and the first one out of its range decides.
+#![tactic(auto)]
+
 ghost use Rattle.std.specs.Prelude.{◌≡◌, cond, [], ◌∷◌, eqb};
 ghost use Rattle.sheet.specs.FieldTable.{mosaic_head, mosaic_strip, sorting_head, sorting_strip, turn_flight_head, flight_block, field_table, values_of};
 ghost use Rattle.sheet.specs.FieldTable.{flight_window_block, content_values, field_values};

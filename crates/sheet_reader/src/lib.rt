@@ -1,5 +1,7 @@
 // The reader of a sheet: for every row of bytes the number and place of its refusal, or 0, 0 and its sections.
 // 01: "A reader set on the lent sheet gives its fields one after another": `read` keeps one `Reader` from field to field.
+#![tactic(auto)]
+
 ghost use Rattle.std.specs.Prelude.{◌≡◌};
 ghost use Rattle.sheet.specs.Read.{read_sheet};
 ghost use Rattle.sheet_reader.specs.Step.{StepPre, first_step, step_at, sheet_of};

@@ -1,5 +1,7 @@
 // The sorting planner: the first best interleaving of a section, as a plan. In the literature: the differentiation flowshop of two stages, one common
 // machine and then dedicated machines, for the least sum of weighted completion times.
+#![tactic(auto)]
+
 ghost use Rattle.sorting.specs.Clauses.{PlanSortingPre, Planned};
 
 use sheet::SortingSection;

@@ -1,4 +1,6 @@
 // The search of the sorting planner for C, so that bench/ can time it by itself.
+#![tactic(auto)]
+
 ghost use Rattle.sorting_search.specs.Found.{BestInterleavingPre, Found};
 
 // The figure and the number of the scanner list of an interleaving.

@@ -1,4 +1,5 @@
 // The two lower bounds of the search over interleavings.
+#![tactic(auto)]
 
 pub mod desk_bound;
 pub mod scanner_bound;

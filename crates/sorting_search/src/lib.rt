@@ -1,4 +1,6 @@
 // The search over interleavings with its cuts: it returns what the search without cuts returns.
+#![tactic(auto)]
+
 ghost use Rattle.std.specs.Prelude.{◌≡◌};
 ghost use Rattle.sorting_search.specs.CutSearch.{is_cut};
 ghost use Rattle.sorting_search.specs.Table.{SearchPre, Searched, CutPre};

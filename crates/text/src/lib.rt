@@ -1,4 +1,6 @@
 // Text in a lent buffer, one part behind the other.
+#![tactic(auto)]
+
 ghost use Rattle.std.specs.Prelude.{◌+◌, ◌≤◌, length};
 ghost use Rattle.text.specs.Text.{BytesPut, DecimalPut, DigitsOf};
 

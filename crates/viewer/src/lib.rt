@@ -1,4 +1,6 @@
 // The functions of the count viewer, which is written in C: thin, over the planner, the judge and the page. The working table is supplied here.
+#![tactic(auto)]
+
 ghost use Rattle.std.specs.Prelude.{◌≡◌};
 ghost use Rattle.judge.specs.Judged.{judged};
 ghost use Rattle.page.specs.Call.{Paged};

@@ -13,12 +13,12 @@ use Rattle.base.specs.Answer.{answer}
 use Rattle.planner.specs.Call.{answer_of, planned_bytes}
 use Rattle.planner.specs.Theorems.{figure_of_mosaic, figure_of_sorting, figure_of_flight, Impossible}
 use Rattle.rules.specs.Mosaic.{ready}
-use Rattle.rules.specs.FewestBatches.{lasts}
 use Rattle.rules.specs.ScannerList.{scanner_list, SameOrAfter}
 use Rattle.rules.specs.declared.Batch.{Batch}
 use Rattle.rules.specs.declared.Job.{Job}
 use Rattle.rules.specs.declared.Passes.{Passes}
 use Rattle.plan_fields.specs.Stored.{batch, job, passes}
+use Rattle.mosaic.specs.Plan.{lasts}
 use Rattle.worked_sheets.specs.Sheets.{mosaic_head, strip_of_two, sorting_head, strip_of_desk, flight_head, block, pass_order}
 
 -- the figures of the three sections, 0 for an absent one
@@ -30,9 +30,9 @@ pub record Figures : Type 0 where
 unfoldable pub figures_of : Sheet → Plan → Figures
 figures_of s p = record { mosaic = figure_of_mosaic s p; sorting = figure_of_sorting s p; flight = figure_of_flight s p }
 
--- what 01 and 02 say of a sheet: when the strips of its mosaic are ready, from strip 1 on; what the planner plans, which is best, with as few batches as any,
--- and whose scanner list comes first; a plan that is best too; a plan that is best of those with its batches; a plan that is allowed; that no timetable keeps
--- its order, whose field stands at a place
+-- what 01 and 02 say of a sheet: when the strips of its mosaic are ready, from strip 1 on; what the planner plans, which is best and whose scanner list comes
+-- first; a plan that is best too; a plan that is best of those with its batches; a plan that is allowed; that no timetable keeps its order, whose field stands
+-- at a place
 pub data Claim : Type 0 where
   ready_at_holds : List ℕ → Claim
   planned : Plan → Figures → Claim
@@ -58,12 +58,6 @@ ListFirst sheet p =
     (q : List ℕ) (a : AllowedFor sheet q) → figure_of_sorting (read_sheet sheet) a.allowed.plan ≡ figure_of_sorting (read_sheet sheet) p
     → SameOrAfter (scanner_list a.allowed.plan.jobs) (scanner_list p.jobs)
 
--- 02, Req 10: no allowed plan of the sheet whose mosaic figure is that of p has fewer batches
-abbrev pub NoneFewer : List ℕ → Plan → Type 0
-NoneFewer sheet p =
-    (q : List ℕ) (a : AllowedFor sheet q) → figure_of_mosaic (read_sheet sheet) a.allowed.plan ≡ figure_of_mosaic (read_sheet sheet) p
-    → length p.batches ≤ length a.allowed.plan.batches
-
 -- each allowed plan of the sheet with the batches of p has no smaller mosaic figure
 abbrev pub LeastOfBatches : List ℕ → Plan → Type 0
 LeastOfBatches sheet p =
@@ -79,7 +73,7 @@ ready_times m (suc n) j = ready m j ∷ ready_times m n (j + 1)
 abbrev pub Says : List ℕ → Claim → Type 0
 Says sheet (ready_at_holds times) = ready_times (read_sheet sheet).mosaic (length times) 1 ≡ times
 Says sheet (planned p figures) =
-    IsAllowed sheet p figures × NoneBelow sheet figures × NoneFewer sheet p × ListFirst sheet p
+    IsAllowed sheet p figures × NoneBelow sheet figures × ListFirst sheet p
     × (answer_of sheet plan_length table_length ≡ answer 0 0 (length (plan_bytes (read_sheet sheet) p))) × (planned_bytes sheet plan_length table_length ≡ plan_bytes (read_sheet sheet) p)
 Says sheet (best p figures) = IsAllowed sheet p figures × NoneBelow sheet figures
 Says sheet (best_batched p figures) = IsAllowed sheet p figures × LeastOfBatches sheet p

@@ -15,11 +15,11 @@ use Rattle.rules.proofs.Tests.{order_decided}
 use Rattle.base.specs.Answer.{answer}
 use Rattle.planner.specs.Call.{chosen_plan, answer_of, planned_bytes}
 use Rattle.planner.specs.Computes.{planner_computes}
-use Rattle.planner.specs.Theorems.{figure_of_mosaic, figure_of_sorting, Least, impossible_exactly, plan_lawful, plan_least_mosaic, plan_least_sorting, plan_least_flight, plan_fewest, plan_taken}
+use Rattle.planner.specs.Theorems.{figure_of_mosaic, figure_of_sorting, Least, impossible_exactly, plan_lawful, plan_least_mosaic, plan_least_sorting, plan_least_flight, plan_taken}
 use Rattle.flight.specs.Choice.{is_possible}
 use Rattle.mosaic.specs.Laws.Attained.{AsEarly}
 use Rattle.mosaic.specs.Theorems.{batches_least}
-use Rattle.worked_sheets.specs.Table.{Figures, figures_of, Claim, IsAllowed, NoneBelow, NoneFewer, ListFirst, LeastOfBatches, Says, Row, table, ready_times, All, FirstCase, ready_at_holds, planned}
+use Rattle.worked_sheets.specs.Table.{Figures, figures_of, Claim, IsAllowed, NoneBelow, ListFirst, LeastOfBatches, Says, Row, table, ready_times, All, FirstCase, ready_at_holds, planned}
 use Rattle.worked_sheets.specs.Table.{best, best_batched, allowed, impossible}
 
 -- What is computed of a row.
@@ -79,9 +79,6 @@ ours_allowed sheet p figures e c f z =
       has = f;
     }
 
-none_fewer : (sheet : List ℕ) (p : Plan) → chosen_plan (read_sheet sheet) ≡ p → NoneFewer sheet p
-none_fewer sheet p c = subst (NoneFewer sheet) c (λ q a. plan_fewest sheet a.sound ceiling a.allowed.plan a.allowed.lawful)
-
 list_first : (sheet : List ℕ) (p : Plan) → chosen_plan (read_sheet sheet) ≡ p → ListFirst sheet p
 unfolding figure_of_sorting
 list_first sheet p c = subst (ListFirst sheet) c (λ q a. (plan_taken sheet a.sound).comes_first a.allowed.plan.jobs a.allowed.lawful.sorting)
@@ -94,7 +91,7 @@ least_of_batches sheet p e early q a same =
 says : (sheet : List ℕ) (c : Claim) → Computed sheet c → Says sheet c
 says sheet (ready_at_holds times) c = c
 says sheet (planned p figures) c =
-    (ours_allowed sheet p figures c.0 c.1 c.2 c.5, none_below sheet figures (ap (figures_of (read_sheet sheet)) c.1 ∙ c.2), none_fewer sheet p c.1, list_first sheet p c.1, c.3, c.4)
+    (ours_allowed sheet p figures c.0 c.1 c.2 c.5, none_below sheet figures (ap (figures_of (read_sheet sheet)) c.1 ∙ c.2), list_first sheet p c.1, c.3, c.4)
 says sheet (best p figures) c = (is_allowed sheet p figures c.0 c.1 c.3, none_below sheet figures c.2)
 says sheet (best_batched p figures) c = (is_allowed sheet p figures c.0 c.1 c.3, least_of_batches sheet p c.0 c.2)
 says sheet (allowed p figures) c = is_allowed sheet p figures c.0 c.1 c.2

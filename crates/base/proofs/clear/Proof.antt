@@ -21,7 +21,7 @@ mul-values c = search rules
 slice-write-values : tie.Need-slice-write-values invariant-loop decreases-loop
 slice-write-values c = search rules
 
-add-z : tie.Need-overflow-add-z invariant-loop decreases-loop
+add-z : tie.Need-overflow_add-z invariant-loop decreases-loop
 add-z c = search rules
 
 loop-less : tie.Need-loop-smaller invariant-loop decreases-loop

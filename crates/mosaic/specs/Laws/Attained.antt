@@ -1,9 +1,10 @@
--- The batches taken are a lawful timetable, have the least cost, start as early as they can, and finish before the ceiling.
+-- The batches taken are a lawful timetable, have the least figure, start as early as they can, and finish before the ceiling.
 -- One induction over the strips left shows all four.
-use Rattle.std.specs.Prelude.{◌≡◌, List, [], ◌∷◌, length}
+use Rattle.std.specs.Prelude.{◌≡◌, List, [], ◌∷◌}
 use Rattle.std.proofs.Math.Path.{refl, ap}
 use Rattle.std.proofs.Common.{◌∙◌}
 use Prim.Native.Nat.{ℕ, zero, suc, ◌+◌, ◌*◌, ◌-◌, ◌≤◌, ◌<◌}
+use Rattle.std.proofs.Math.Nat.{mul-le-mul}
 use Rattle.std.proofs.Math.Decide.{dec_lt}
 use native.Mathlib.Omega.{arith}
 use Rattle.sheet.specs.Limits.{most_time, most_weight, most_strips}
@@ -15,7 +16,6 @@ use Rattle.running.specs.FunctionLaws.{most_setup, batch_weight_most}
 use Rattle.running.specs.Running.{batch_weight, BatchFollows, MosaicRuns, none, more}
 use Rattle.rules_laws.specs.Finish.{setup_most}
 use Rattle.rules_laws.specs.MosaicRunning.{running_figure}
-use Rattle.batching.specs.Cost.{figure_scale, cost_of, scaled_weight, batch_cost, cost_added, cost_most}
 use Rattle.batching.specs.Least.{bench_start, finish_of}
 use Rattle.mosaic.specs.Least.{instance_of}
 use Rattle.batching.specs.Chosen.{batch_of}
@@ -38,18 +38,18 @@ abbrev pub latest : ℕ → ℕ
 latest i = i * (most_setup + most_time)
 
 -- the batches of the strips after i, the bench free at `free`
-pub record Attains (m : MosaicSection) (i free cost : ℕ) (bs : List Batch) : Type 0 where
+pub record Attains (m : MosaicSection) (i free figure : ℕ) (bs : List Batch) : Type 0 where
   pub lawful : (p : Batch) → p.last ≡ i → p.finish ≡ free → MosaicRuns m p bs
-  pub cost_is : (p : Batch) → p.last ≡ i → cost_of (running_figure m p bs) (length bs) ≡ cost
+  pub figure_is : (p : Batch) → p.last ≡ i → running_figure m p bs ≡ figure
   pub early : AsEarly free bs
   pub finishes : FinishBy (latest m.strips) bs
 
 module _ {m : MosaicSection} (S : MosaicSound m) where
   attains_none : (i free : ℕ) → i ≡ m.strips → Attains m i free 0 []
-  unfolding running_figure AsEarly FinishBy cost_of
+  unfolding running_figure AsEarly FinishBy
   attains_none i free h = record {
     lawful = λ p e f. none {before = p} (omega arith);
-    cost_is = λ p e. refl;
+    figure_is = λ p e. refl;
     early = tt;
     finishes = tt;
   }
@@ -60,15 +60,14 @@ module _ {m : MosaicSection} (S : MosaicSound m) where
     finish_most =
         omega (arith, bench_most S i (q - i), ready_most S q, setup_most m S)
 
-    pub attains_batch : (cost : ℕ) (bs : List Batch) → Attains m q (finish_of (instance_of m) free i q) cost bs
-        → Attains m i free (batch_cost (scaled_weight (batch_weight m i q)) (finish_of (instance_of m) free i q) + cost) (batch_of (instance_of m) free i q ∷ bs)
+    pub attains_batch : (figure : ℕ) (bs : List Batch) → Attains m q (finish_of (instance_of m) free i q) figure bs
+        → Attains m i free (batch_weight m i q * finish_of (instance_of m) free i q + figure) (batch_of (instance_of m) free i q ∷ bs)
     unfolding running_figure AsEarly FinishBy batch_of instance_of
-    attains_batch cost bs A = record {
+    attains_batch figure bs A = record {
       lawful = λ p e f. more (follows p e f) (A.lawful (batch_of (instance_of m) free i q) refl refl);
-      cost_is = λ p e.
-          ap (λ (j : ℕ). cost_of (batch_weight m j q * finish_of (instance_of m) free i q + running_figure m (batch_of (instance_of m) free i q) bs) (suc (length bs))) e
-          ∙ cost_added (batch_weight m i q) (finish_of (instance_of m) free i q) (running_figure m (batch_of (instance_of m) free i q) bs) (length bs)
-          ∙ ap (λ (n : ℕ). batch_cost (scaled_weight (batch_weight m i q)) (finish_of (instance_of m) free i q) + n) (A.cost_is (batch_of (instance_of m) free i q) refl);
+      figure_is = λ p e.
+          ap (λ (j : ℕ). batch_weight m j q * finish_of (instance_of m) free i q + running_figure m (batch_of (instance_of m) free i q) bs) e
+          ∙ ap (λ (n : ℕ). batch_weight m i q * finish_of (instance_of m) free i q + n) (A.figure_is (batch_of (instance_of m) free i q) refl);
       early = (refl, A.early);
       finishes = (omega (arith, finish_most), A.finishes);
     } where
@@ -121,15 +120,15 @@ module _ {m : MosaicSection} (S : MosaicSound m) where
         | no y ↦ same (least_end x i free (omega arith)) (chosen_end x i free (omega arith)) (attains_none i free (omega arith))
       ]
 
-  -- the cost of one batch of all strips is a bound
-  pub cost_at_most : least_at (instance_of m) 0 0 ≤ most_strips * (figure_scale * most_weight) * latest most_strips + 1
-  unfolding instance_of scaled_weight
-  cost_at_most =
+  -- the figure of one batch of all strips is a bound
+  pub figure-most : least_at (instance_of m) 0 0 ≤ most_strips * most_weight * latest most_strips
+  unfolding instance_of
+  figure-most =
       let x = instance_of m in
       elim (dec_lt 0 m.strips) [
         | yes y ↦
-            let w : x.weight 0 m.strips ≤ most_strips * (figure_scale * most_weight) = omega (arith, batch_weight_most m S 0 m.strips, S.most_strips_holds) in
+            let w : x.weight 0 m.strips ≤ most_strips * most_weight = omega (arith, batch_weight_most m S 0 m.strips, S.most_strips_holds) in
             let f : finish_of x 0 0 m.strips ≤ latest most_strips = omega (arith, finish_most 0 m.strips 0 y (omega arith) (omega arith), S.most_strips_holds) in
-            omega (arith, least_one x 0 0 y, cost_most w f)
+            omega (arith, least_one x 0 0 y, mul-le-mul w f)
         | no y ↦ omega (arith, least_end x 0 0 (omega arith))
       ]

@@ -12,7 +12,7 @@ use Rattle.rules.specs.Mosaic.{no_batch}
 use Rattle.running.specs.Running.{batch_weight, BatchFollows, MosaicRuns, more}
 use Rattle.rules_laws.specs.Finish.{finish_mono}
 use Rattle.rules_laws.specs.MosaicRunning.{running_figure}
-use Rattle.rules.specs.FewestBatches.{lasts}
+use Rattle.mosaic.specs.Plan.{lasts}
 use Rattle.mosaic.specs.Laws.Attained.{AsEarly}
 
 -- each mount starts when the batch before it in the list, or b before the first, finishes

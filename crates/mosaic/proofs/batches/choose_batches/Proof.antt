@@ -6,10 +6,10 @@ use Rattle.mosaic.proofs.batches.choose_batches.Statement.{statement}
 use Rattle.mosaic.proofs.batches.choose_batches.Tie as tie
 
 abbrev invariant-loop : tie.invariant-loop
-invariant-loop rs sums weights scaled late s n plan₀ i₀ free₀ plan i free = PlanSoFar rs sums scaled s n plan i free
+invariant-loop rs sums weights late s n plan₀ i₀ free₀ plan i free = PlanSoFar rs sums weights s n plan i free
 
 abbrev decreases-loop : tie.decreases-loop
-decreases-loop rs sums weights scaled late s n plan₀ i₀ free₀ plan i free = n - i
+decreases-loop rs sums weights late s n plan₀ i₀ free₀ plan i free = n - i
 
 loop-holds : tie.Need-loop-init invariant-loop decreases-loop
 loop-holds c = search plan_start
@@ -64,12 +64,12 @@ shared-slice-read-weight-2 c = search rules
 
 sub-weight : tie.Need-overflow-sub-weight invariant-loop decreases-loop
 sub-weight c =
-    plan_weight c.before.before.before.before.before.before.before.before.before.before.before.before.before.before.requires c.before.before.before.before.before.before.before.before.loop.invariant
+    plan_weight c.before.before.before.before.before.before.before.before.before.before.before.before.before.requires c.before.before.before.before.before.before.before.before.loop.invariant
     c.before.before.before.before.before.before.before.loop-test.true c.before.before.before.before.before.before.first_batch.ensures
 
 add-batch-requires : tie.Need-add-batch-requires invariant-loop decreases-loop
 add-batch-requires c κs =
-    plan_add c.before.before.before.before.before.before.before.before.before.before.before.before.before.before.requires c.before.before.before.before.before.before.before.before.loop.invariant
+    plan_add c.before.before.before.before.before.before.before.before.before.before.before.before.before.requires c.before.before.before.before.before.before.before.before.loop.invariant
     c.before.before.before.before.before.before.before.loop-test.true c.before.before.before.before.before.before.first_batch.ensures _ c.before.before.before.before.greater.ensures
 
 loop-less : tie.Need-loop-smaller invariant-loop decreases-loop
@@ -77,7 +77,7 @@ loop-less c = search rules
 
 loop-again : tie.Need-loop-preserved invariant-loop decreases-loop
 loop-again c =
-    plan_step c.before.before.before.before.before.before.before.before.before.before.before.before.before.before.before.requires c.before.before.before.before.before.before.before.before.before.loop.invariant
+    plan_step c.before.before.before.before.before.before.before.before.before.before.before.before.before.before.requires c.before.before.before.before.before.before.before.before.before.loop.invariant
     c.before.before.before.before.before.before.before.before.loop-test.true c.before.before.before.before.before.before.before.first_batch.ensures c.before.before.before.before.before.greater.ensures
     c.add-batch.ensures
 

@@ -1,16 +1,16 @@
--- `prefix_sums` meets its contract. Invariant: the sum is that of the values passed, each times the factor, and so are the entries written.
+-- `prefix_sums` meets its contract. Invariant: the sum is that of the values passed, and so are the entries written.
 use mathlib.Core.Path.{refl}
 use Prim.Native.Nat.{◌-◌}
 use borrow.Author.Rules.{rules}
-use Rattle.mosaic.proofs.TimeLaws.{SumsSoFar, sums_start, sums_read, sums_product, sums_fits, sums_step, sums_end}
+use Rattle.mosaic.proofs.TimeLaws.{SumsSoFar, sums_start, sums_read, sums_fits, sums_step, sums_end}
 use Rattle.mosaic.proofs.ready.prefix_sums.Statement.{statement}
 use Rattle.mosaic.proofs.ready.prefix_sums.Tie as tie
 
 abbrev invariant-loop : tie.invariant-loop
-invariant-loop values factor sums₀ sum₀ j₀ sums sum j = SumsSoFar values factor sums sum j
+invariant-loop values sums₀ sum₀ j₀ sums sum j = SumsSoFar values sums sum j
 
 abbrev decreases-loop : tie.decreases-loop
-decreases-loop values factor sums₀ sum₀ j₀ sums sum j = 40 - j
+decreases-loop values sums₀ sum₀ j₀ sums sum j = 40 - j
 
 loop-holds : tie.Need-loop-init invariant-loop decreases-loop
 loop-holds c = sums_start c.requires _ refl refl
@@ -20,9 +20,6 @@ mul-sum c = search rules
 
 shared-slice-read-sum : tie.Need-shared-slice-read-sum invariant-loop decreases-loop
 shared-slice-read-sum c = search sums_read
-
-mul-sum-2 : tie.Need-overflow-mul-sum-2 invariant-loop decreases-loop
-mul-sum-2 c = search sums_product
 
 add-sum : tie.Need-overflow-add-sum invariant-loop decreases-loop
 add-sum c = search sums_fits
@@ -54,7 +51,6 @@ prefix-sums-spec =
     loop-holds
     mul-sum
     shared-slice-read-sum
-    mul-sum-2
     add-sum
     add-j
     mul-sums

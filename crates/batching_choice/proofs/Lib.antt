@@ -1,3 +1,0 @@
--- What the functions' proofs cite: laws over plain values, whose premises are the facts at hand there.
-mod CandidateLaws
-mod ChoiceLaws
