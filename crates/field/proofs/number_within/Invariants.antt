@@ -1,0 +1,14 @@
+-- `number_within` meets its contract. Invariant: the bytes from the one at `left` on have been added up. So the sum fits at every turn.
+use Prim.Native.Nat.{◌+◌, ◌-◌}
+use native.Mathlib.Omega.{arith}
+use borrow.Author.Rules.{rules}
+use Rattle.field.specs.Numbers.{Added, added_none, within_more, within_fits, added_all, scaled_fits}
+use Rattle.field.proofs.number_within.Reads as reads
+use Rattle.field.proofs.number_within.Lts as lts
+use Rattle.field.proofs.number_within.Given as goal
+
+abbrev pub invariant-loop-left : goal.invariant-loop-left
+invariant-loop-left l = Added l.s l.at l.width l.left l.sum
+
+abbrev pub decreases-loop-left : goal.decreases-loop-left
+decreases-loop-left l = l.left
