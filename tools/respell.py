@@ -40,9 +40,15 @@ def code(text, to):
     return PARTS.sub(turned, text)
 
 
+def source(text, to):
+    """Functions of src/ keep their names: a name that is in snake case already is one of specs/ or proofs/."""
+    return code(text, {name: new for name, new in to.items() if re.search("[A-Z-]", name)})
+
+
 def edit(text, to):
     lines = text.split("\n")
-    return "\n".join(code(line, to) if line.startswith(("old:", "new:")) else quoted(line, to) for line in lines)
+    turn = source if re.search(r"(?m)^file: *src/", text) else code
+    return "\n".join(turn(line, to) if line.startswith(("old:", "new:")) else quoted(line, to) for line in lines)
 
 
 def rename_contracts(root):
@@ -58,7 +64,7 @@ def main(argv):
     root = argv[0] if argv else "."
     to = names()
     rename_contracts(root)
-    kinds = (("crates/**/*.antt", code), ("crates/**/*.rt", code), ("crates/*/must-fail/*.edit", edit), ("*.md", quoted), ("docs/*.md", quoted))
+    kinds = (("crates/**/*.antt", code), ("crates/**/*.rt", source), ("crates/*/must-fail/*.edit", edit), ("*.md", quoted), ("docs/*.md", quoted))
     for pattern, turn in kinds:
         for path in glob.glob(f"{root}/{pattern}", recursive=True):
             if "/out/" in path:

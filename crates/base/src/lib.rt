@@ -6,7 +6,7 @@ ghost use Rattle.std.specs.Prelude.{◌≡◌, max, length, replicate};
 
 // The answer of a call: 0, 0 and the length written, or the number and place of its refusal and 0.
 #[repr(C)]
-#[derive(Drop)]
+#[derive(Clone, Copy)]
 pub struct Answer {
     pub number: u64,
     pub place: usize,

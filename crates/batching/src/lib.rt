@@ -16,7 +16,7 @@ const WIDTH: usize = 41;
 pub const LATE_LENGTH: usize = 1_640;
 
 // A batch that is taken: its last strip, and the least figure of the strips from its first one on.
-#[derive(Drop)]
+#[derive(Clone, Copy)]
 pub struct Choice {
     pub last: usize,
     pub figure: u64,

@@ -9,7 +9,7 @@ ghost use Rattle.field.specs.Put.{put};
 pub mod reader;
 
 // What stands at an offset of a row of fields.
-#[derive(Drop)]
+#[derive(Clone, Copy)]
 pub enum Field {
     End,
     // Under three bytes are left, or the content runs past the end.

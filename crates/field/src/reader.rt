@@ -5,7 +5,7 @@ ghost use Rattle.field.specs.Field.{field_at, end_of};
 
 use super::Field;
 
-#[derive(Drop)]
+#[derive(Clone, Copy)]
 pub struct Reader<'a> {
     pub sheet: &'a [u8],
     pub at: usize,

@@ -11,7 +11,7 @@ ghost use Rattle.flight.specs.Clauses.{SomeBlocks, PlanChosenPre, PlanInOrderPre
 use sheet::FlightSection;
 
 // A plan: whether its order is possible, its figure and order number, and the starts of the first and second pass of each block.
-#[derive(Drop)]
+#[derive(Clone, Copy)]
 pub struct FlightPlan {
     pub possible: bool,
     pub figure: u64,

@@ -7,7 +7,7 @@ ghost use Rattle.flight_bench.specs.Answered.{section_of, Answered};
 use sheet::FlightSection;
 
 #[repr(C)]
-#[derive(Drop)]
+#[derive(Clone, Copy)]
 pub struct FlightAnswer {
     pub figure: u64,
     pub order: u64,

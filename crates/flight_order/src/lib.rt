@@ -15,7 +15,7 @@ pub const MOST_PASSES: usize = 64;
 pub const MOST_NUMBERS: usize = 508;
 
 // A constraint: start[from] + up <= start[to] + down.
-#[derive(Drop)]
+#[derive(Clone, Copy)]
 pub struct Constraint {
     pub from: usize,
     pub to: usize,

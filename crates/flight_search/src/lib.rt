@@ -7,7 +7,7 @@ ghost use Rattle.flight_search.specs.Orders.{orders_of, free_section};
 ghost use Rattle.flight_search.specs.Clauses.{BlockTimes, SearchAllPre, TryOrderPre, SearchPre};
 
 // The best order so far, if one was possible.
-#[derive(Drop)]
+#[derive(Clone, Copy)]
 pub struct Incumbent {
     pub possible: bool,
     pub figure: u64,

@@ -12,7 +12,7 @@ pub mod caps;
 
 // Strips left, the time at which the scanner is free, the cost so far, the scanner list as a number in base 4 with the desks' numbers
 // as digits, and for each desk the time at which it is free and the strips taken.
-#[derive(Drop)]
+#[derive(Clone, Copy)]
 pub struct State {
     pub left: usize,
     pub time: u64,
@@ -23,7 +23,7 @@ pub struct State {
 }
 
 // The best complete list so far.
-#[derive(Drop)]
+#[derive(Clone, Copy)]
 pub struct Incumbent {
     pub figure: u64,
     pub path: u64,

@@ -17,7 +17,7 @@ use sheet_reader::read;
 
 // What the judge answers: number 0, place 0 and the figure of each section, 0 for an absent one; or the number and place of a fault and no figure.
 #[repr(C)]
-#[derive(Drop)]
+#[derive(Clone, Copy)]
 pub struct Judged {
     pub number: u64,
     pub place: usize,
@@ -27,7 +27,7 @@ pub struct Judged {
 }
 
 // What examining a plan gives: the judge's answer, and where the sections of the plan stand.
-#[derive(Drop)]
+#[derive(Clone, Copy)]
 pub struct Examined {
     pub judged: Judged,
     pub mosaic: Part,

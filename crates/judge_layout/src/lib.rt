@@ -18,7 +18,7 @@ use sheet::numbers::LAYOUT_WRONG;
 use sheet::tags::{PLAN_BATCH, PLAN_BLOCK, PLAN_FLIGHT, PLAN_MOSAIC, PLAN_SORTING, PLAN_STRIP};
 
 // A section of a plan: the place of its head, its members, and the place behind its last one. Where its head is not the one due, it is not right.
-#[derive(Drop)]
+#[derive(Clone, Copy)]
 pub struct Part {
     pub right: bool,
     pub head: usize,
@@ -27,14 +27,14 @@ pub struct Part {
 }
 
 // The number and place of a fault, 0 and 0 where there is none.
-#[derive(Drop)]
+#[derive(Clone, Copy)]
 pub struct Verdict {
     pub number: u64,
     pub place: usize,
 }
 
 // Whether a field of a tag and a content length stands at an offset.
-fn is_field_lem(plan: &[u8], at: usize, tag: u8, length: usize) -> bool
+fn is_field(plan: &[u8], at: usize, tag: u8, length: usize) -> bool
     ensures { result ≡ is_field (field_at plan.now at) tag length }
 {
     match field_at(plan, at) {
@@ -56,7 +56,7 @@ fn part_from(plan: &[u8], at: usize, head_length: usize, tag: u8, length: usize)
 {
     let mut end = at + (CONTENT + head_length);
     let mut members: usize = 0;
-    while is_field_lem(plan, end, tag, length) {
+    while is_field(plan, end, tag, length) {
         end += CONTENT + length;
         members += 1;
     }

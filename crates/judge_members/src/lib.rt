@@ -28,7 +28,7 @@ use sheet::desks::strips_in_all;
 use sheet::numbers::{FIGURE_UNTRUE, RULE_BROKEN};
 
 // How far the members of a section have been judged: the batch before, the desks, the figure so far.
-#[derive(Drop)]
+#[derive(Clone, Copy)]
 pub struct Progress {
     pub before: Batch,
     pub desks: Desks,

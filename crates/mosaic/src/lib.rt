@@ -12,7 +12,7 @@ use running::mosaic::setup_time;
 use sheet::MosaicSection;
 
 // A plan of the mosaic: its figure, and last strip, mount start and finish of each batch, in the first `batches` entries, with zeros after them.
-#[derive(Drop)]
+#[derive(Clone, Copy)]
 pub struct MosaicPlan {
     pub figure: u64,
     pub batches: usize,

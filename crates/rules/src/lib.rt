@@ -3,7 +3,7 @@
 #![tactic(auto)]
 
 // A batch of the mosaic: the number of its last strip, the start of its mount, its finish.
-#[derive(Drop)]
+#[derive(Clone, Copy)]
 pub struct Batch {
     pub last: u64,
     pub start: u64,
@@ -11,7 +11,7 @@ pub struct Batch {
 }
 
 // A strip of the sorting: its desk, its number within the desk, the start of its scan, the start of its desk job.
-#[derive(Drop)]
+#[derive(Clone, Copy)]
 pub struct Job {
     pub desk: u64,
     pub number: u64,
@@ -20,7 +20,7 @@ pub struct Job {
 }
 
 // A block of the flight: the start of its first pass and of its second.
-#[derive(Drop)]
+#[derive(Clone, Copy)]
 pub struct Passes {
     pub first: u64,
     pub second: u64,

@@ -6,7 +6,7 @@ pub mod mosaic;
 pub mod sorting;
 
 // How far a sorting has come: the strips each desk has had, from when it is free, and from when the scanner is.
-#[derive(Drop)]
+#[derive(Clone, Copy)]
 pub struct Desks {
     pub done: [u64; 3],
     pub free: [u64; 3],

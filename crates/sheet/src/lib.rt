@@ -8,7 +8,7 @@ pub mod sections;
 pub mod tags;
 
 // The mosaic section. Station k of strip j, both from 0, stands at 4 j + k. The weight of a strip that carries none is 1 (02, Req 09), here and in a sorting.
-#[derive(Drop)]
+#[derive(Clone, Copy)]
 pub struct MosaicSection {
     pub stations: usize,
     pub mount: u64,
@@ -19,7 +19,7 @@ pub struct MosaicSection {
 }
 
 // The sorting section. Strip k of desk d, both from 0, stands at 6 d + k.
-#[derive(Drop)]
+#[derive(Clone, Copy)]
 pub struct SortingSection {
     pub desks: usize,
     pub counts: [usize; 3],
@@ -29,7 +29,7 @@ pub struct SortingSection {
 }
 
 // A block of the flight: its two passes, and the window in which the delay between them lies.
-#[derive(Drop)]
+#[derive(Clone, Copy)]
 pub struct Block {
     pub first: u64,
     pub shortest: u64,
@@ -39,7 +39,7 @@ pub struct Block {
 
 // The flight section: the turn between passes; first pass, shortest delay, longest delay and second pass of each block; the order number where one is given;
 // and the place that is returned where no timetable is possible, that of the order field, or of the head where no order is given.
-#[derive(Drop)]
+#[derive(Clone, Copy)]
 pub struct FlightSection {
     pub blocks: usize,
     pub turn: u64,
@@ -53,7 +53,7 @@ pub struct FlightSection {
 }
 
 // A sheet that was read: number 0 and its sections, of which an absent one has no member; or the number and place of its refusal and no section.
-#[derive(Drop)]
+#[derive(Clone, Copy)]
 pub struct Sheet {
     pub number: u64,
     pub place: usize,
@@ -63,7 +63,7 @@ pub struct Sheet {
 }
 
 // How far a sheet is read: the next field's place, the section that is being read, its head's place and its members, and what is decoded.
-#[derive(Drop)]
+#[derive(Clone, Copy)]
 pub struct Reading {
     pub at: usize,
     pub section: u64,

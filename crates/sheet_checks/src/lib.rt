@@ -177,7 +177,7 @@ pub fn end_number(section: u64, members: usize) -> u64
 }
 
 // The place of a refusal: the section's head for 8 and 10, else the field.
-pub fn place_of_lem(number: u64, head: usize, at: usize) -> usize
+pub fn place_of(number: u64, head: usize, at: usize) -> usize
     ensures { result ≡ place_of number head at }
 {
     if number == NO_MEMBERS {

@@ -13,7 +13,7 @@ use sheet::tags::{
 
 // The length due: so many bytes; either of two lengths; or none, because the tag is not in the table, or is that of a strip and no head has this number of
 // stations.
-#[derive(Drop)]
+#[derive(Clone, Copy)]
 pub enum LengthDue {
     Bytes(usize),
     Either(usize, usize),

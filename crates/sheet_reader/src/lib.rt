@@ -10,11 +10,11 @@ use field::Field;
 use field::reader::{next_field, past, set_on};
 use sheet::numbers::FIELD_CUT;
 use sheet::{Reading, Sheet};
-use sheet_checks::{end_number, field_number, place_of_lem};
+use sheet_checks::{end_number, field_number, place_of};
 use sheet_decode::{accept, next_reading, refuse, start};
 
 // What a step of the reading leaves: whether a field is due next; if not, the number and place of the refusal, number 0 where there is none; and the reading.
-#[derive(Drop)]
+#[derive(Clone, Copy)]
 pub struct Step {
     pub more: bool,
     pub number: u64,
@@ -62,7 +62,7 @@ fn next_step(s: &[u8], step: Step, field: Field) -> Step
                 return Step {
                     more: false,
                     number,
-                    place: place_of_lem(number, st.head, st.at),
+                    place: place_of(number, st.head, st.at),
                     reading: st,
                 };
             }

@@ -11,7 +11,7 @@ mod writing;
 
 // A plan of the section: its figure, and the first `jobs` strips in scanner order, each with its desk, its number within the desk, the start of its scan and
 // the start of its desk job.
-#[derive(Drop)]
+#[derive(Clone, Copy)]
 pub struct SortingPlan {
     pub figure: u64,
     pub jobs: usize,

@@ -5,7 +5,7 @@ ghost use Rattle.sorting_search.specs.Found.{BestInterleavingPre, Found};
 
 // The figure and the number of the scanner list of an interleaving.
 #[repr(C)]
-#[derive(Drop)]
+#[derive(Clone, Copy)]
 pub struct Interleaving {
     pub figure: u64,
     pub path: u64,

@@ -1,0 +1,12 @@
+-- `choose_batch` meets its contract. Invariant: of the candidates from n down to q, the one taken is the one that the recursion takes.
+use native.Mathlib.Omega.{arith}
+use borrow.Author.Rules.{rules}
+use Rattle.batching.proofs.CandidateLaws.{from_candidate}
+use Rattle.batching.proofs.ChoiceLaws.{TakenSoFar, taken_start, taken_less, taken_more, taken_end}
+use Rattle.batching.proofs.choose_batch.Given as goal
+
+abbrev pub invariant-loop-q : goal.invariant-loop-q
+invariant-loop-q l = TakenSoFar l.rs l.sums l.weights l.s l.n l.free l.i l.q l.last l.least
+
+abbrev pub decreases-loop-q : goal.decreases-loop-q
+decreases-loop-q l = l.q

@@ -1,0 +1,11 @@
+-- `fill_row` meets its contract. Invariant: entries below p are of this block, those above still of the block with one batch more.
+use Prim.Native.Nat.{◌-◌}
+use borrow.Author.Rules.{rules}
+use Rattle.batching.proofs.RowLaws.{RowSoFar, row_start, row_sub, row_free, row_from, row_step, row_end}
+use Rattle.batching.proofs.fill_row.Given as goal
+
+abbrev pub invariant-loop-p : goal.invariant-loop-p
+invariant-loop-p l = RowSoFar l.rs l.sums l.weights l.initial.row l.row l.s l.n l.begin l.i l.lo l.p
+
+abbrev pub decreases-loop-p : goal.decreases-loop-p
+decreases-loop-p l = l.n - l.p

@@ -1,0 +1,13 @@
+-- `order_given` meets its contract: each way through its tests is one through the definition.
+use Rattle.base.specs.Branch.{flags}
+use Rattle.sheet.specs.Checks.{order_given}
+use borrow.Author.Rules.{rules}
+use Rattle.sheet_checks.proofs.order_given.Goals as goal
+
+pub returns-then-ends_section : goal.returns-then-ends_section
+unfolding order_given
+returns-then-ends_section c = search flags depth 14
+
+pub returns : goal.returns
+unfolding order_given
+returns c = search flags depth 14

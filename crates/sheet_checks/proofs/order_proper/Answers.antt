@@ -1,0 +1,13 @@
+-- `order_proper` meets its contract: each way through its tests is one through the definition.
+use Rattle.base.specs.Branch.{flags}
+use Rattle.sheet.specs.Checks.{order_proper}
+use borrow.Author.Rules.{rules}
+use Rattle.sheet_checks.proofs.order_proper.Goals as goal
+
+pub returns-then-tag-eq-FLIGHT_ORDER : goal.returns-then-tag-eq-FLIGHT_ORDER
+unfolding order_proper
+returns-then-tag-eq-FLIGHT_ORDER c = search flags depth 14
+
+pub returns : goal.returns
+unfolding order_proper
+returns c = search flags depth 14

@@ -1,0 +1,16 @@
+-- `sorting_bounds::scanner_bound::fill_scanner_table` meets its contract. The loop's invariant: the table is the definition's with the entries from k on.
+use Rattle.sorting_bounds.specs.ScannerTable.{Filling, filling_start, filling_enter, filling_more, filling_end}
+use native.Mathlib.Omega.{arith}
+use Rattle.sorting_bounds.proofs.scanner_bound.fill_scanner_table.Goals as goal
+
+pub loop-k-init : goal.loop-k-init
+loop-k-init c = search filling_start
+
+pub scanner_entry-v-requires : goal.scanner_entry-v-requires
+scanner_entry-v-requires c = search filling_enter
+
+pub loop-k-preserved : goal.loop-k-preserved
+loop-k-preserved c = search filling_more
+
+pub returns : goal.returns
+returns c = search filling_end
