@@ -34,6 +34,8 @@ use Rattle.rules_laws.specs.FlightRunning.{first_ended, second_start, end_is, ti
 
 -- a product of numbers that are not 0
 product_some : (x y : ℕ) → 1 ≤ x → 1 ≤ y → 1 ≤ x * y
+product_some zero y p q = absurd (omega arith)
+product_some (suc x) zero p q = absurd (omega arith)
 product_some (suc x) (suc y) p q = omega (arith, mul-le-mul_left (suc x) q)
 
 -- The mosaic.

@@ -6,8 +6,7 @@ use lib.Dec.{leb}
 use borrow.Author.Tests.{le-leb, lt-leb, eq-eqb, ne_eqb}
 use Rattle.sheet.specs.Limits.{ceiling}
 use Rattle.judge_rules.specs.Follows.{batch_in_time}
-use Rattle.judge_rules.proofs.batch_in_time.Statement.{statement}
-use Rattle.judge_rules.proofs.batch_in_time.Tie as tie
+use Rattle.judge_rules.proofs.batch_in_time.Goals as goal
 
 mount-early : (before start finish due : ℕ) → start < before → ◌≡◌ {A = Bool} false (batch_in_time before start finish due)
 unfolding batch_in_time
@@ -21,14 +20,11 @@ finish-true : (before start finish due : ℕ) → before ≤ start → finish �
 unfolding batch_in_time
 finish-true before start finish due b e = rw (le-leb _ _ b, eq-eqb _ _ e)
 
-returns : tie.Need-returns
-returns c = search mount-early
+pub returns-then-start-before : goal.returns-then-start-before
+returns-then-start-before c = search mount-early
 
-returns-2 : tie.Need-returns-2
-returns-2 c = search finish-untrue
+pub returns-then-finish-due : goal.returns-then-finish-due
+returns-then-finish-due c = search finish-untrue
 
-returns-3 : tie.Need-returns-3
-returns-3 c = search finish-true
-
-pub batch-in-time-spec : {M : Type 1} → statement M
-batch-in-time-spec = tie.close (tie.spec returns returns-2 returns-3)
+pub returns : goal.returns
+returns c = search finish-true

@@ -5,28 +5,24 @@ use Prim.Native.Nat.{ℕ, ◌≤◌, ◌<◌}
 use borrow.Author.Tests.{le-leb, lt-leb}
 use Rattle.base.specs.Branch.{branches}
 use Rattle.judge_rules.specs.Follows.{job_in_time}
-use Rattle.judge_rules.proofs.job_in_time.Statement.{statement}
-use Rattle.judge_rules.proofs.job_in_time.Tie as tie
+use Rattle.judge_rules.proofs.job_in_time.Goals as goal
 
 desk-taken : (scanner free scan scanned start finish : ℕ) → scanner ≤ scan → scanned ≤ start → start < free
     → ◌≡◌ {A = Bool} false (job_in_time scanner free scan scanned start finish)
 unfolding job_in_time
 desk-taken scanner free scan scanned start finish a b d = rw (le-leb _ _ a, le-leb _ _ b, lt-leb _ _ d)
 
-returns : tie.Need-returns
+pub returns-then-scan-scanner : goal.returns-then-scan-scanner
+unfolding job_in_time
+returns-then-scan-scanner c = search branches depth 14
+
+pub returns-then-start-scanned : goal.returns-then-start-scanned
+unfolding job_in_time
+returns-then-start-scanned c = search branches depth 14
+
+pub returns-then-start-free : goal.returns-then-start-free
+returns-then-start-free c = search desk-taken
+
+pub returns : goal.returns
 unfolding job_in_time
 returns c = search branches depth 14
-
-returns-2 : tie.Need-returns-2
-unfolding job_in_time
-returns-2 c = search branches depth 14
-
-returns-3 : tie.Need-returns-3
-returns-3 c = search desk-taken
-
-returns-4 : tie.Need-returns-4
-unfolding job_in_time
-returns-4 c = search branches depth 14
-
-pub job-in-time-spec : {M : Type 1} → statement M
-job-in-time-spec = tie.close (tie.spec returns returns-2 returns-3 returns-4)

@@ -6,8 +6,7 @@ use lib.Dec.{leb}
 use borrow.Author.Tests.{le-leb, lt-leb}
 use Rattle.sheet.specs.Limits.{ceiling}
 use Rattle.judge_rules.specs.Follows.{block_in_time}
-use Rattle.judge_rules.proofs.block_in_time.Statement.{statement}
-use Rattle.judge_rules.proofs.block_in_time.Tie as tie
+use Rattle.judge_rules.proofs.block_in_time.Goals as goal
 
 too-early : (earliest latest second end : ℕ) → second < earliest → ◌≡◌ {A = Bool} false (block_in_time earliest latest second end)
 unfolding block_in_time
@@ -21,14 +20,11 @@ in_window : (earliest latest second end : ℕ) → earliest ≤ second → secon
 unfolding block_in_time
 in_window earliest latest second end h k = rw (le-leb _ _ h, le-leb _ _ k)
 
-returns : tie.Need-returns
-returns c = search too-early
+pub returns-then-second-earliest : goal.returns-then-second-earliest
+returns-then-second-earliest c = search too-early
 
-returns-2 : tie.Need-returns-2
-returns-2 c = search too-late
+pub returns-then-latest-second : goal.returns-then-latest-second
+returns-then-latest-second c = search too-late
 
-returns-3 : tie.Need-returns-3
-returns-3 c = search in_window
-
-pub block-in-time-spec : {M : Type 1} → statement M
-block-in-time-spec = tie.close (tie.spec returns returns-2 returns-3)
+pub returns : goal.returns
+returns c = search in_window

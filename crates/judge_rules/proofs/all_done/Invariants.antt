@@ -1,0 +1,11 @@
+-- `all_done` meets its contract. Invariant: the desks before d have had all their strips.
+use Prim.Native.Nat.{◌-◌}
+use borrow.Author.Rules.{rules}
+use Rattle.judge_rules.specs.Laws.{DoneSoFar, done_none, done_more, done_wrong, done_all}
+use Rattle.judge_rules.proofs.all_done.Given as goal
+
+abbrev pub invariant-loop-d : goal.invariant-loop-d
+invariant-loop-d l = DoneSoFar l.counts l.done l.desks l.d
+
+abbrev pub decreases-loop-d : goal.decreases-loop-d
+decreases-loop-d l = l.desks - l.d
