@@ -32,7 +32,7 @@ def read():
     layers, rests = [], {}
     for line in (ROOT / "crates.txt").read_text().splitlines():
         layer = re.match(r"## ([^:]+): (.+)$", line)
-        crate = re.match(r"(\w+):(.*)$", line)
+        crate = re.match(r"(\w+)(?: staticlib)?:(.*)$", line)
         if layer:
             layers.append((layer.group(1), layer.group(2), []))
         elif crate:

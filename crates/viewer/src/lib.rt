@@ -1,4 +1,5 @@
-// The functions of the count viewer, which is written in C: thin, over the planner, the judge and the page. The working table is supplied here.
+// The functions of the count viewer, which is written in C: thin, over the planner, the judge and the page. The working table is supplied here. The crate
+// viewer_c exports them under the same names.
 #![tactic(auto)]
 
 ghost use Rattle.std.specs.Prelude.{◌≡◌};
@@ -11,8 +12,7 @@ use judge::Judged;
 use sheet::limits::TABLE_LENGTH;
 
 // Plans a sheet into a buffer.
-#[unsafe(no_mangle)]
-pub extern "C" fn sevulamon_plan(sheet: &[u8], plan: &mut [u8]) -> Answer
+pub fn sevulamon_plan(sheet: &[u8], plan: &mut [u8]) -> Answer
     ensures { Viewed sheet.now plan.old plan.new result }
 {
     let mut table = [0u64; TABLE_LENGTH];
@@ -20,16 +20,14 @@ pub extern "C" fn sevulamon_plan(sheet: &[u8], plan: &mut [u8]) -> Answer
 }
 
 // Judges a plan for a sheet.
-#[unsafe(no_mangle)]
-pub extern "C" fn sevulamon_judge(sheet: &[u8], plan: &[u8]) -> Judged
+pub fn sevulamon_judge(sheet: &[u8], plan: &[u8]) -> Judged
     ensures { result ≡ judged sheet.now plan.now }
 {
     judge::judge(sheet, plan)
 }
 
 // Prints a plan that the judge allows for a sheet into a page buffer.
-#[unsafe(no_mangle)]
-pub extern "C" fn sevulamon_page(sheet: &[u8], plan: &[u8], page: &mut [u8]) -> Answer
+pub fn sevulamon_page(sheet: &[u8], plan: &[u8], page: &mut [u8]) -> Answer
     ensures { Paged sheet.now plan.now page.old page.new result }
 {
     page::page(sheet, plan, page)

@@ -19,7 +19,7 @@ pub returns-then-f : goal.returns-then-f
 returns-then-f c = search head_given
 
 pub passes_in_order-requires-2 : goal.passes_in_order-requires-2
-passes_in_order-requires-2 c = order_asked _ _ _ _ c.proper.ensures c.if-not-proper.false c.requires
+passes_in_order-requires-2 c = search order_asked
 
 pub returns : goal.returns
 returns c = search head_free

@@ -1,0 +1,13 @@
+-- `flight_order::write_constraints` meets its contract. The loop's invariant: the first k rows are the first k constraints.
+use Prim.Native.Nat.{◌-◌}
+use borrow.Author.Rules.{rules}
+use lib.Seq.{lt-length-set}
+use Rattle.flight_order.specs.Constraints.{ordered_flight}
+use Rattle.flight_order.proofs.Writing.{Writing, write_start, write_more, write_end, row_1, row_2, row_3}
+use Rattle.flight_order.proofs.write_constraints.Given as goal
+
+abbrev pub invariant-loop-k : goal.invariant-loop-k
+invariant-loop-k l = Writing (ordered_flight l.n l.order l.turn l.first l.second l.shortest l.longest) l.initial.rows l.rows l.k l.count
+
+abbrev pub decreases-loop-k : goal.decreases-loop-k
+decreases-loop-k l = l.count - l.k

@@ -1,0 +1,20 @@
+-- `page_sections::print_jobs` meets its contract: the lines of the first i strips are stored.
+use Prim.Native.Nat.{◌-◌}
+use Rattle.page_sections.specs.Printed.{job_line_from}
+use Rattle.page_sections.specs.SectionLaws.{LinesStored, lines_none, lines_all, jobs_more}
+use borrow.Author.Rules.{rules}
+use Rattle.page_sections.proofs.print_jobs.Reads as reads
+use Rattle.page_sections.proofs.print_jobs.Lts as lts
+use Rattle.page_lines.proofs.put_job_line.Reads as put-job-line-reads
+use Rattle.plan_read.proofs.job_from.Reads as job-from-reads
+use Rattle.page_sections.proofs.print_jobs.Goals as goal
+
+pub loop-i-init : goal.loop-i-init
+loop-i-init c = search lines_none
+
+pub loop-i-preserved : goal.loop-i-preserved
+loop-i-preserved c = jobs_more _ _ _ _ _ _ _ _ _ c.loop-i.invariant c.loop-i-test.true
+    c.job_from-j.ensures c.put_job_line.ensures
+
+pub returns : goal.returns
+returns c = search lines_all
