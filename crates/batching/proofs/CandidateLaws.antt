@@ -8,37 +8,37 @@ use lib.ListN.{length, get_or}
 use Rattle.batching.specs.Least.{bench_start}
 use Rattle.batching.specs.Index.{least_at, open_at, closed_at}
 use Rattle.batching.specs.Caps.{finish_cap, weights_cap, batch_cap}
-use Rattle.batching.specs.Tables.{width, instance_in, Input, closedFigure, ClosedFigurePre, ChooseBatchPre, CandidatePre}
+use Rattle.batching.specs.Tables.{width, instance_in, Input, closed_figure, ClosedFigurePre, ChooseBatchPre, CandidatePre}
 use Rattle.batching.specs.Recursion.{start_in_time, start_late, least_open_lem, open_last, open_more}
 use Rattle.batching.specs.Bounds.{least_most}
 
 -- the sums of a batch's figure fit
 module _ {sums weights row : List ℕ} {begin i q : ℕ} (P : ClosedFigurePre sums weights row begin i q) where
-  product-max : (get_or weights q 0 - get_or weights i 0) * (begin + (get_or sums q 0 - get_or sums i 0)) ≤ batch_cap
-  product-max = mul-le-mul {n₂ = weights_cap} {m₂ = finish_cap} (omega (arith, P.most_weight_holds)) P.most_finish_holds
+  product_max : (get_or weights q 0 - get_or weights i 0) * (begin + (get_or sums q 0 - get_or sums i 0)) ≤ batch_cap
+  product_max = mul-le-mul {n₂ = weights_cap} {m₂ = finish_cap} (omega (arith, P.most_weight_holds)) P.most_finish_holds
 
   pub closed_product : (get_or weights q 0 - get_or weights i 0) * (begin + (get_or sums q 0 - get_or sums i 0)) < 2 ^ 64
-  closed_product = omega (arith, product-max)
+  closed_product = omega (arith, product_max)
 
   pub closed_sum : (get_or weights q 0 - get_or weights i 0) * (begin + (get_or sums q 0 - get_or sums i 0)) + get_or row q 0 < 2 ^ 64
-  closed_sum = omega (arith, product-max, P.most_rest)
+  closed_sum = omega (arith, product_max, P.most_rest)
 
-  pub closed_is : (get_or weights q 0 - get_or weights i 0) * (begin + (get_or sums q 0 - get_or sums i 0)) + get_or row q 0 ≡ closedFigure sums weights row begin i q
-  unfolding closedFigure
+  pub closed_is : (get_or weights q 0 - get_or weights i 0) * (begin + (get_or sums q 0 - get_or sums i 0)) + get_or row q 0 ≡ closed_figure sums weights row begin i q
+  unfolding closed_figure
   closed_is = refl
 
 -- where the row has what is least after the batch, that figure is the recursion's
-pub closed-figure-is : (rs sums weights row : List ℕ) (s n begin i q : ℕ)
+pub closed_figure_is : (rs sums weights row : List ℕ) (s n begin i q : ℕ)
     → get_or row q 0 ≡ least_at (instance_in rs sums weights s n) q (begin + (get_or sums q 0 - get_or sums i 0))
-    → closedFigure sums weights row begin i q ≡ closed_at (instance_in rs sums weights s n) begin i q
-unfolding closedFigure closed_at
-closed-figure-is rs sums weights row s n begin i q e = rw e
+    → closed_figure sums weights row begin i q ≡ closed_at (instance_in rs sums weights s n) begin i q
+unfolding closed_figure closed_at
+closed_figure_is rs sums weights row s n begin i q e = rw e
 
 -- and may be asked for
-pub closed-figure-pre : {rs sums weights row : List ℕ} {s n begin i q : ℕ} → Input rs sums weights s n → i ≤ q → q ≤ n → n < length row
+pub closed_figure_pre : {rs sums weights row : List ℕ} {s n begin i q : ℕ} → Input rs sums weights s n → i ≤ q → q ≤ n → n < length row
     → begin + (get_or sums q 0 - get_or sums i 0) ≤ finish_cap
     → get_or row q 0 ≡ least_at (instance_in rs sums weights s n) q (begin + (get_or sums q 0 - get_or sums i 0)) → ClosedFigurePre sums weights row begin i q
-closed-figure-pre {i = i} {q} I h k l f e = record {
+closed_figure_pre {i = i} {q} I h k l f e = record {
   rises = h;
   sums_long = omega (arith, I.sums_long);
   weights_long = omega (arith, I.weights_long);
@@ -56,12 +56,12 @@ module _ {rs sums weights late row : List ℕ} {s n free i q : ℕ} (P : Candida
 
   pub candidate_closed : ClosedFigurePre sums weights row (free + s) i q
   candidate_closed =
-      closed-figure-pre P.from.input (omega (arith, P.first)) P.last P.from.row_long
+      closed_figure_pre P.from.input (omega (arith, P.first)) P.last P.from.row_long
       (omega (arith, P.from.input.most_sum q P.last, P.from.input.most_mount, P.from.most_free_holds)) row_is
 
-  pub candidate_in_time : get_or rs (q - 1) 0 ≤ free + s → (r : ℕ) → r ≡ closedFigure sums weights row (free + s) i q
+  pub candidate_in_time : get_or rs (q - 1) 0 ≤ free + s → (r : ℕ) → r ≡ closed_figure sums weights row (free + s) i q
       → r ≡ closed_at (instance_in rs sums weights s n) (bench_start s free (get_or rs (q - 1) 0)) i q
-  candidate_in_time h r e = rw (start_in_time s free (get_or rs (q - 1) 0) h) (e ∙ closed-figure-is rs sums weights row s n (free + s) i q row_is)
+  candidate_in_time h r e = rw (start_in_time s free (get_or rs (q - 1) 0) h) (e ∙ closed_figure_is rs sums weights row s n (free + s) i q row_is)
 
   pub candidate_late : free + s < get_or rs (q - 1) 0
       → get_or late (width * i + q) 0 ≡ closed_at (instance_in rs sums weights s n) (bench_start s free (get_or rs (q - 1) 0)) i q

@@ -9,8 +9,8 @@ use lib.ListN.{length, get_or, set, length-set}
 use lib.Seq.{get_or-set_same, get_or-set_other}
 use Rattle.batching.specs.Index.{least_at, closed_at}
 use Rattle.batching.specs.Caps.{finish_cap}
-use Rattle.batching.specs.Tables.{width, instance_in, closedFigure, ClosedFigurePre, RowFilled, LateFrom, FillBlockPre, FillLateAfterPre, LateAfter, FillLatePre, LateFilled}
-use Rattle.batching.proofs.CandidateLaws.{closed-figure-is, closed-figure-pre}
+use Rattle.batching.specs.Tables.{width, instance_in, closed_figure, ClosedFigurePre, RowFilled, LateFrom, FillBlockPre, FillLateAfterPre, LateAfter, FillLatePre, LateFilled}
+use Rattle.batching.proofs.CandidateLaws.{closed_figure_is, closed_figure_pre}
 
 -- the batches of the strips after i up to q are done
 pub record LateSoFar (rs sums weights late₀ row₀ late row : List ℕ) (s n i q : ℕ) : Type 0 where
@@ -59,17 +59,17 @@ module _ {rs sums weights late₀ row₀ : List ℕ} {s n i : ℕ} (P : FillLate
 
         pub after_closed : ClosedFigurePre sums weights row₁ (get_or rs j 0) i (q + 1)
         after_closed =
-            closed-figure-pre P.input (omega (arith, M.from)) (omega arith) (omega (arith, P.row_long, M.row_len, R.len)) finish_most row_is
+            closed_figure_pre P.input (omega (arith, M.from)) (omega arith) (omega (arith, P.row_long, M.row_len, R.len)) finish_most row_is
 
     -- the batch that is due: its bench work waits for its last strip, q + 1
     abbrev begin : ℕ
     begin = get_or rs (q + 1 - 1) 0
 
-    module _ {row₁ : List ℕ} {x : ℕ} (R : RowFilled rs sums weights row row₁ s n begin i (q + 1)) (e : x ≡ closedFigure sums weights row₁ begin i (q + 1)) where
+    module _ {row₁ : List ℕ} {x : ℕ} (R : RowFilled rs sums weights row row₁ s n begin i (q + 1)) (e : x ≡ closed_figure sums weights row₁ begin i (q + 1)) where
       new_is : (p : ℕ) → p ≡ q + 1 → get_or (set late (width * i + (q + 1)) x) (width * i + p) 0 ≡ closed_at (instance_in rs sums weights s n) (get_or rs (p - 1) 0) i p
       new_is p z =
           rw z (get_or-set_same late (width * i + (q + 1)) x 0 (omega (arith, P.late_long, M.late_len, P.input.most_strips_holds)) ∙ e
-          ∙ closed-figure-is rs sums weights row₁ s n begin i (q + 1) (row_is (q + 1 - 1) R))
+          ∙ closed_figure_is rs sums weights row₁ s n begin i (q + 1) (row_is (q + 1 - 1) R))
 
       pub after_step : LateSoFar rs sums weights late₀ row₀ (set late (width * i + (q + 1)) x) row₁ s n i (q + 1)
       after_step = record {

@@ -45,8 +45,8 @@ pub record Ahead (rs sums weights late row : List ℕ) (s n free i : ℕ) : Type
   pub late_at : (q : ℕ) → i < q → q ≤ n → get_or late (width * i + q) 0 ≡ closed_at (instance_in rs sums weights s n) (get_or rs (q - 1) 0) i q
 
 -- the figure of the batch of the strips after i up to q whose bench work starts at `begin`, with what the row has after it
-unfoldable pub closedFigure : List ℕ → List ℕ → List ℕ → ℕ → ℕ → ℕ → ℕ
-closedFigure sums weights row begin i q = (get_or weights q 0 - get_or weights i 0) * (begin + (get_or sums q 0 - get_or sums i 0)) + get_or row q 0
+unfoldable pub closed_figure : List ℕ → List ℕ → List ℕ → ℕ → ℕ → ℕ → ℕ
+closed_figure sums weights row begin i q = (get_or weights q 0 - get_or weights i 0) * (begin + (get_or sums q 0 - get_or sums i 0)) + get_or row q 0
 
 -- what `closed_figure` asks: that the three lists reach so far, that the sums rise, and that a finish and what the row has are not too large
 pub record ClosedFigurePre (sums weights row : List ℕ) (begin i q : ℕ) : Type 0 where

@@ -7,7 +7,7 @@
 ghost use Rattle.std.specs.Prelude.{◌≡◌, ◌-◌, get_or};
 ghost use Rattle.batching.specs.Least.{bench_start};
 ghost use Rattle.batching.specs.Index.{closed_at};
-ghost use Rattle.batching.specs.Tables.{instance_in, closedFigure, ClosedFigurePre, CandidatePre, ChooseBatchPre, First, FillRowPre, RowFilled, FillBlockPre, FillLateAfterPre};
+ghost use Rattle.batching.specs.Tables.{instance_in, closed_figure, ClosedFigurePre, CandidatePre, ChooseBatchPre, First, FillRowPre, RowFilled, FillBlockPre, FillLateAfterPre};
 ghost use Rattle.batching.specs.Tables.{LateAfter, FillLatePre, LateFilled, FirstBatchPre};
 
 // The entries of a row, for the strips from 0 to 40, and of `late`, which has a row for each strip from 0 to 39.
@@ -25,7 +25,7 @@ pub struct Choice {
 // The figure of the batch of the strips after i up to q whose bench work starts at `begin`, with what the row has after it.
 fn closed_figure(sums: &[u64], weights: &[u64], row: &[u64], begin: u64, i: usize, q: usize) -> u64
     requires { ClosedFigurePre sums.now weights.now row.now begin i q }
-    ensures { result ≡ closedFigure sums.now weights.now row.now begin i q }
+    ensures { result ≡ closed_figure sums.now weights.now row.now begin i q }
 {
     let finish = begin + (sums[q] - sums[i]);
     let weight = weights[q] - weights[i];

@@ -858,9 +858,9 @@ member_is_thirteen : (sheet plan : List ℕ) (j : Judged) → j ≡ judged sheet
     → (k : ℕ) (st : Progress) → Judging (read_sheet sheet) plan section k st → k < (part_at (read_sheet sheet) plan section).members
     → (MemberFollows (read_sheet sheet) plan section k (member_place section (part_at (read_sheet sheet) plan section).head k) st → ⊥)
     → j ≡ turned_back rule_broken (member_place section (part_at (read_sheet sheet) plan section).head k)
-member_is_thirteen sheet plan j call sound laid section least most before there k st judging more not-followed =
+member_is_thirteen sheet plan j call sound laid section least most before there k st judging more not_followed =
     turns_back_for_its_fault sheet plan j call rule_broken _
-    (Fault.in_section section sound laid least most before there (SectionFault.at_member k st judging more not-followed refl refl))
+    (Fault.in_section section sound laid least most before there (SectionFault.at_member k st judging more not_followed refl refl))
 
 -- "a turn too short is 13 at the head": the sheet is sound, the plan laid out, no section before has a fault and every block follows, but some two passes of
 -- the plan are less than g apart. Then the judge gives 13 at the plan's flight head, before 14.

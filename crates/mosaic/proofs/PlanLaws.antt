@@ -81,12 +81,12 @@ module _ {m : MosaicSection} (S : MosaicSound m) {rs sums weights : List ℕ} (R
   }
 
   -- `late` holds zeros before it is filled
-  pub late-pre : FillLatePre rs sums weights (replicate late_length 0) s m.strips
-  late-pre = record { input = input_is; late_long = omega (arith, length-replicate {A = ℕ} late_length 0) }
+  pub late_pre : FillLatePre rs sums weights (replicate late_length 0) s m.strips
+  late_pre = record { input = input_is; late_long = omega (arith, length-replicate {A = ℕ} late_length 0) }
 
-  pub batches-pre : {late : List ℕ} → LateFilled rs sums weights (replicate late_length 0) late s m.strips
+  pub batches_pre : {late : List ℕ} → LateFilled rs sums weights (replicate late_length 0) late s m.strips
       → ChooseBatchesPre rs sums weights late s m.strips
-  batches-pre L = record { input = input_is; all = L.all; late_long = omega (arith, L.len, length-replicate {A = ℕ} late_length 0) }
+  batches_pre L = record { input = input_is; all = L.all; late_long = omega (arith, L.len, length-replicate {A = ℕ} late_length 0) }
 
   pub planned : {p : MosaicPlan} → BatchesTaken rs sums weights s m.strips p → Planned m p
   unfolding batches_of

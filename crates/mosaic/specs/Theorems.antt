@@ -19,7 +19,7 @@ use Rattle.rules_laws.specs.Equivalent as running
 use Rattle.rules_laws.specs.Fits.{mosaic_figure_least, batches_most}
 use Rattle.rules_laws.specs.MosaicRunning.{before_is}
 use Rattle.mosaic.specs.Laws.LowerBound.{lower_after}
-use Rattle.mosaic.specs.Laws.Attained.{AsEarly, latest, figure-most}
+use Rattle.mosaic.specs.Laws.Attained.{AsEarly, latest, figure_most}
 use Rattle.mosaic.specs.Laws.Whole.{least_is, attained, finish_at}
 use Rattle.mosaic.specs.Laws.Earliest.{early_start, earliest, earliest_figure}
 
@@ -71,7 +71,7 @@ module _ (m : MosaicSection) (S : MosaicSound m) where
 
   -- it has room in eight bytes
   pub mosaic_figure_most : least_figure m ≤ most_strips * most_weight * latest most_strips
-  mosaic_figure_most = rw (least_is m) (figure-most S)
+  mosaic_figure_most = rw (least_is m) (figure_most S)
 
   pub mosaic_count : length (chosen_batches m) ≤ m.strips
   mosaic_count = batches_most m (chosen_batches m) S mosaic_lawful

@@ -39,14 +39,14 @@ sheet_plan s = cond (eqb s.number 0) (cond (is_possible s.flight) (plan_bytes s 
 
 -- "The planner checks 1, 2, then each field": what a call with a plan buffer and a working table of these lengths answers
 unfoldable pub answer_of : List ℕ → ℕ → ℕ → Answer
-answer_of sheet planRoom tableRoom =
-    cond (ltb tableRoom table_length) (answer table_too_small 0 0)
-    (cond (ltb planRoom plan_length) (answer buffer_too_small 0 0) (sheet_answer (read_sheet sheet)))
+answer_of sheet plan_room table_room =
+    cond (ltb table_room table_length) (answer table_too_small 0 0)
+    (cond (ltb plan_room plan_length) (answer buffer_too_small 0 0) (sheet_answer (read_sheet sheet)))
 
 -- and the bytes that it writes
 unfoldable pub planned_bytes : List ℕ → ℕ → ℕ → List ℕ
-planned_bytes sheet planRoom tableRoom =
-    cond (ltb tableRoom table_length) [] (cond (ltb planRoom plan_length) [] (sheet_plan (read_sheet sheet)))
+planned_bytes sheet plan_room table_room =
+    cond (ltb table_room table_length) [] (cond (ltb plan_room plan_length) [] (sheet_plan (read_sheet sheet)))
 
 -- a table whose first n numbers are 0, the rest as it was
 unfoldable pub cleared_to : ℕ → List ℕ → List ℕ
@@ -54,8 +54,8 @@ cleared_to n table = zeros n ++ drop n table
 
 -- "Once 1 and 2 are passed, the first 6,400 numbers of the working table are zero after any call, the rest unchanged."
 unfoldable pub table_after : ℕ → List ℕ → List ℕ
-table_after planRoom table =
-    cond (ltb (length table) table_length) table (cond (ltb planRoom plan_length) table (cleared_to table_length table))
+table_after plan_room table =
+    cond (ltb (length table) table_length) table (cond (ltb plan_room plan_length) table (cleared_to table_length table))
 
 -- What a call does: its answer, the plan buffer with the plan at its start and behind it what stood there, and the table.
 pub record Called (sheet plan working plan_after table_end : List ℕ) (r : Answer) : Type 0 where

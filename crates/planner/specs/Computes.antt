@@ -7,7 +7,7 @@ use Rattle.running.specs.Running.{batch_weight}
 use Rattle.mosaic.specs.Least.{instance_of}
 use Rattle.mosaic.specs.Chosen.{chosen_batches}
 use Rattle.interleaving.specs.Search.{step_of, keep, over_desks, branch, search_from, start_state, first_best}
-use Rattle.sorting.specs.Plan.{instance_of as sortingInstance, listed_desk, reached, job_of, jobs_of_list, chosen_jobs}
+use Rattle.sorting.specs.Plan.{instance_of as sorting_instance, listed_desk, reached, job_of, jobs_of_list, chosen_jobs}
 use Rattle.difference.specs.System.{relax, relaxed, rounds, holds, least_values, solvable}
 use Rattle.flight_order.specs.Constraints.{constraint_of, least_starts, possible_in, order_figure}
 use Rattle.flight_order.specs.Timetable.{passes_with_starts, least_passes}
@@ -20,7 +20,7 @@ use Rattle.planner.specs.Theorems.{figure_of_mosaic, figure_of_sorting, figure_o
 unfoldable pub planner_computes : Unit {0}
 unfolding
     bench_start finish_of least_open least_from batch_of chosen_open chosen_from batch_weight instance_of chosen_batches
-    step_of keep over_desks branch search_from start_state first_best sortingInstance listed_desk reached job_of listed jobs_of_list chosen_jobs
+    step_of keep over_desks branch search_from start_state first_best sorting_instance listed_desk reached job_of listed jobs_of_list chosen_jobs
     relax relaxed rounds holds least_values solvable constraint_of least_starts possible_in order_figure passes_with_starts least_passes
     improves tried searched orders_of delays_fit one_by_one free_order chosen_order is_possible chosen_passes
     chosen_plan sheet_answer sheet_plan answer_of planned_bytes figure_of_mosaic figure_of_sorting figure_of_flight

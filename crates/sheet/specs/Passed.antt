@@ -79,7 +79,7 @@ passes s st tag len e z = passed_rows s st tag len (answer_passes _ _ _ (field_a
 -- a field that passes its checks has the values of its tag's content, each within its range
 pub within_by : {s : List ℕ} {st : Reading} {tag len : ℕ} {values : List Value} → Passed s st tag len
     → (Among len (lengths_due tag (table_of st)) → field_values s (st.at + 3) tag len (table_of st) ≡ values) → InRange values
-within_by p values-are = subst InRange (values-are p.length_ok) p.range_ok
+within_by p values_are = subst InRange (values_are p.length_ok) p.range_ok
 
 -- the first value of a field, and the others
 pub first_within : (v : Value) (values : List Value) → InRange (v ∷ values) → Within v

@@ -121,9 +121,9 @@ module _ {m : MosaicSection} (S : MosaicSound m) where
       ]
 
   -- the figure of one batch of all strips is a bound
-  pub figure-most : least_at (instance_of m) 0 0 ≤ most_strips * most_weight * latest most_strips
+  pub figure_most : least_at (instance_of m) 0 0 ≤ most_strips * most_weight * latest most_strips
   unfolding instance_of
-  figure-most =
+  figure_most =
       let x = instance_of m in
       elim (dec_lt 0 m.strips) [
         | yes y ↦
