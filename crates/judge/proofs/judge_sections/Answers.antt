@@ -4,6 +4,8 @@ use Prim.Native.Nat.{◌-◌}
 use borrow.Author.Rules.{rules}
 use Rattle.judge.specs.Loops.{Outer, outer_start, outer_end, outer_absent, Inner, inner_start, place_asked, member_asked, after_asked, inner_wrong}
 use Rattle.judge.specs.Loops.{inner_more, head_asked, head_wrong, inner_next}
+use Rattle.std.proofs.Math.Path.{ap}
+use Rattle.std.proofs.Math.Bool.{not}
 use Rattle.judge.proofs.judge_sections.Goals as goal
 
 pub sections-init : goal.sections-init
@@ -23,14 +25,14 @@ member_follows-requires c = search member_asked
 
 pub after_member-progress-requires : goal.after_member-progress-requires
 after_member-progress-requires c = after_asked _ _ _ _ _ _ c.loop-k.invariant c.loop-k-test.true _
-    c.member_place-place.ensures _ c.member_follows.ensures c.if-not-member_follows.false
+    c.member_place-place.ensures _ c.member_follows.ensures (ap not c.if-not-member_follows.false)
 
 pub overflow_add-k : goal.overflow_add-k
 overflow_add-k c = search index_fits
 
 pub loop-k-preserved : goal.loop-k-preserved
 loop-k-preserved c = inner_more _ _ _ _ _ _ c.loop-k.invariant c.loop-k-test.true _
-    c.member_place-place.ensures _ c.member_follows.ensures _ c.if-not-member_follows.false c.after_member-progress.ensures
+    c.member_place-place.ensures _ c.member_follows.ensures _ (ap not c.if-not-member_follows.false) c.after_member-progress.ensures
 
 pub head_number-number-requires : goal.head_number-number-requires
 head_number-number-requires c = search head_asked

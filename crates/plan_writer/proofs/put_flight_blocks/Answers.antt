@@ -6,8 +6,8 @@ use Rattle.plan_writer.proofs.put_flight_blocks.Goals as goal
 
 pub put_blocks-requires : goal.put_blocks-requires
 put_blocks-requires c = record {
-      first_long = omega (arith, slice-aggregate-put-blocks c);
-      second_long = omega (arith, slice-aggregate-put-blocks-2 c);
+      first_long = omega arith;
+      second_long = omega arith;
       room = search rules;
     }
 

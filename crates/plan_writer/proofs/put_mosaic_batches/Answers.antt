@@ -6,9 +6,9 @@ use Rattle.plan_writer.proofs.put_mosaic_batches.Goals as goal
 
 pub put_batches-requires : goal.put_batches-requires
 put_batches-requires c = record {
-      last_long = omega (arith, slice-aggregate-put-batches c);
-      start_long = omega (arith, slice-aggregate-put-batches-2 c);
-      finish_long = omega (arith, slice-aggregate-put-batches-3 c);
+      last_long = omega arith;
+      start_long = omega arith;
+      finish_long = omega arith;
       room = search rules;
     }
 

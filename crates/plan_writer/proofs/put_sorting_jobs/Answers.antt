@@ -6,10 +6,10 @@ use Rattle.plan_writer.proofs.put_sorting_jobs.Goals as goal
 
 pub put_jobs-requires : goal.put_jobs-requires
 put_jobs-requires c = record {
-      desk_long = omega (arith, slice-aggregate-put-jobs c);
-      number_long = omega (arith, slice-aggregate-put-jobs-2 c);
-      scan_long = omega (arith, slice-aggregate-put-jobs-3 c);
-      start_long = omega (arith, slice-aggregate-put-jobs-4 c);
+      desk_long = omega arith;
+      number_long = omega arith;
+      scan_long = omega arith;
+      start_long = omega arith;
       room = search rules;
     }
 
