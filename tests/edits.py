@@ -9,7 +9,7 @@ An edit of a definition (specs/, or a page of proofs/) or of a contract (require
     # false: `NAME` (FILE), in words.
 
     edits.py          checks every edit, and lists those of definitions and contracts
-    edits.py --logs   reads what the prover said of each edit in target/must-fail: the first thing that it refuses must be a fact that does not hold
+    edits.py --log F  reads what `rt ci` wrote into the file F of each edit: the first thing that is refused must be a fact that does not hold
 """
 import pathlib
 import re
@@ -32,15 +32,6 @@ PAGE = re.compile(r"specs/|proofs/[A-Z]\w*\.antt$")
 
 FALSE = re.compile(r"# false: `(?P<name>[^`]+)` \((?P<file>(?:specs|proofs|src)/[^)]+)\), \S.*\.$")
 
-# What the prover says of a fact that does not hold.
-REFUSED = (
-    "Every way was tried",
-    "does not follow from what it read",
-    "but this has type",
-    "does not hold (this comparison",
-    "the two indices are",
-)
-
 # What it says where it could not tell, or where a proof no longer fits the shape of the code or of the statement.
 SHOWS_NOTHING = (
     "Not every way was tried",
@@ -49,9 +40,14 @@ SHOWS_NOTHING = (
     "met a bound",
     "no verdict",
     "not yet determined",
-    "Need-",
-    "mir.Syntax.copy",
+    "only because a proof file names",
+    "only by a limit of the prover",
 )
+
+# What is written of an edit that was refused: the edit, and the first thing that the prover refused, cut after some columns.
+LINE = re.compile(r"rt: must-fail (?P<edit>\S+)\.edit: (?P<said>.*)$")
+AS_DUE = "refused, as it must be: "
+PLACE = re.compile(r"(?:note: )?(?:\./)?(?P<file>\S+?):\d+:\d+: (?:error: )?(?:`(?P<name>[^`]*)`)?")
 
 
 class Edit:
@@ -157,63 +153,38 @@ def faults(edit):
         yield "%s does not state %s" % (edit.false["file"], edit.false["name"])
 
 
-def first_refusal(log):
-    """The first thing that the prover refused by itself: the file below the edit's folder, the declaration, and what was said of it."""
-    said = re.split(r"^(?=\S+:\d+:\d+: (?:error|note): |note: |fn |struct |enum |library |logic)", log, flags=re.M)
-    for one in said:
-        own = re.match(r"\S+:\d+:\d+: error: |note: what antt said of a `search` in the proof that rattle made: ", one)
-        if own and "was not admitted" not in one:
-            path = re.search(r"/must-fail/[^/]+/[^/]+/([^:\s]+):\d+:\d+", one)
-            name = re.search(r"`([^`]*)`", one[own.end():])
-            return path.group(1) if path else "", name.group(1) if name else "", one
-    return "", "", ""
+def log_faults(edit, said):
+    """What is wrong with how an edit was refused, by what was written of it."""
+    if said is None:
+        yield "it was not tried"
+    elif not said.startswith(AS_DUE) or any(words in said for words in SHOWS_NOTHING):
+        yield "it is refused, and that shows nothing: %s" % said
+    elif edit.false:
+        place = PLACE.match(said.removeprefix(AS_DUE))
+        file, name = (place["file"], place["name"]) if place else ("", "")
+        if PAGE.match(edit.false["file"]) and (file, name) != (edit.false["file"], edit.false["name"]):
+            yield "it is refused at %s of %s, not at the statement that becomes false" % (name, file)
+        if edit.false["file"].startswith("src/") and file != edit.false["file"] and "/%s/" % edit.false["name"] not in file:
+            yield "it is refused in %s, not at the contract that becomes false" % file
 
 
-def is_function(kind):
-    """Whether a type, as it is printed, is one of functions: an arrow stands outside all brackets."""
-    depth = 0
-    for mark in kind:
-        depth += (mark in "({[") - (mark in ")}]")
-        if mark == "→" and depth == 0:
-            return True
-    return False
-
-
-def log_faults(edit):
-    """What is wrong with how an edit was refused."""
-    log = ROOT / "target/must-fail" / edit.name / ".log"
-    if not log.is_file():
-        yield "it was not tried: there is no %s" % log.relative_to(ROOT)
-        return
-    file, name, said = first_refusal(log.read_text(errors="replace"))
-    short = re.sub(r"`([^`]{60})[^`]*`", r"`\1..`", re.sub(r"\s+", " ", said))[:400]
-    if not any(words in said for words in REFUSED) or any(words in said for words in SHOWS_NOTHING):
-        yield "it is refused, and that shows nothing: %s" % short
-    found = re.search(r"expected type\s+`([^`]*)`.*but this has type\s+`([^`]*)`", said, re.S)
-    if found and is_function(found.group(2)) and not is_function(found.group(1)):
-        yield "it is refused for a missing argument: %s" % short
-    if edit.false and PAGE.match(edit.false["file"]) and (file, name) != (edit.false["file"], edit.false["name"]):
-        yield "it is refused at %s of %s, not at the statement that becomes false" % (name, file)
-    if edit.false and edit.false["file"].startswith("src/") and "/%s/" % edit.false["name"] not in file:
-        yield "it is refused in %s, not at the contract that becomes false" % file
-
-
-def main(read_logs):
+def main(log):
     edits = [Edit(path) for path in sorted(ROOT.glob("crates/*/must-fail/*.edit"))]
     apart = [edit for edit in edits if edit.false]
+    said = {line["edit"]: line["said"] for line in map(LINE.match, log.read_text(errors="replace").splitlines()) if line} if log else {}
     wrong = 0
     for edit in edits:
-        for fault in log_faults(edit) if read_logs else faults(edit):
+        for fault in log_faults(edit, said.get(edit.name)) if log else faults(edit):
             wrong += 1
             print("%s: %s" % (edit.name, fault))
-    if not read_logs:
+    if not log:
         print("edits of definitions and contracts, and the statement that becomes false:")
         for edit in apart:
             print("  %s: %s" % (edit.name, edit.lines[1].removeprefix("# false: ")))
-    what = "refused at a fact that does not hold" if read_logs else "of code, %d of definitions and contracts" % len(apart)
-    print("%d must-fail edits, %d %s, %d wrong" % (len(edits), len(edits) - (wrong if read_logs else len(apart)), what, wrong))
+    what = "refused at a fact that does not hold" if log else "of code, %d of definitions and contracts" % len(apart)
+    print("%d must-fail edits, %d %s, %d wrong" % (len(edits), len(edits) - (wrong if log else len(apart)), what, wrong))
     sys.exit(1 if wrong else 0)
 
 
 if __name__ == "__main__":
-    main(sys.argv[1:] == ["--logs"])
+    main(pathlib.Path(sys.argv[2]) if sys.argv[1:2] == ["--log"] else None)

@@ -37,10 +37,10 @@ bounds-values-j-then-values-j c = search to_below
 pub loop-k-preserved : goal.loop-k-preserved
 loop-k-preserved c =
     elim c.if-values-j.branch [
-        then-values-j w ↦ rw (w.values-is, w.held-is) (search broken_more)
+      | then-values-j w ↦ rw (w.values-is, w.held-is) (search broken_more)
       | else-values-j w ↦ rw (w.values-is, w.held-is)
           (held_more c.requires c.loop-k.invariant c.loop-k-test.true c.index-i.ensures c.index-j.ensures w.if-values-j.false)
-      ]
+    ]
 
 pub returns : goal.returns
 returns c = search turn_end

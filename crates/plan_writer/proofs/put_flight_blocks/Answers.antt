@@ -6,10 +6,10 @@ use Rattle.plan_writer.proofs.put_flight_blocks.Goals as goal
 
 pub put_blocks-requires : goal.put_blocks-requires
 put_blocks-requires c = record {
-      first_long = omega arith;
-      second_long = omega arith;
-      room = search rules;
-    }
+  first_long = omega arith;
+  second_long = omega arith;
+  room = search rules;
+}
 
 pub returns : goal.returns
 returns c = search blocks_stored

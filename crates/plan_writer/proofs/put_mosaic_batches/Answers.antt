@@ -6,11 +6,11 @@ use Rattle.plan_writer.proofs.put_mosaic_batches.Goals as goal
 
 pub put_batches-requires : goal.put_batches-requires
 put_batches-requires c = record {
-      last_long = omega arith;
-      start_long = omega arith;
-      finish_long = omega arith;
-      room = search rules;
-    }
+  last_long = omega arith;
+  start_long = omega arith;
+  finish_long = omega arith;
+  room = search rules;
+}
 
 pub returns : goal.returns
 returns c = search batches_stored

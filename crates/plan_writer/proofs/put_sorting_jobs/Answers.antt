@@ -6,12 +6,12 @@ use Rattle.plan_writer.proofs.put_sorting_jobs.Goals as goal
 
 pub put_jobs-requires : goal.put_jobs-requires
 put_jobs-requires c = record {
-      desk_long = omega arith;
-      number_long = omega arith;
-      scan_long = omega arith;
-      start_long = omega arith;
-      room = search rules;
-    }
+  desk_long = omega arith;
+  number_long = omega arith;
+  scan_long = omega arith;
+  start_long = omega arith;
+  room = search rules;
+}
 
 pub returns : goal.returns
 returns c = search jobs_stored

@@ -12,9 +12,9 @@ loop-j-init c = (omega arith, omega arith, costliest_first _ _)
 pub loop-j-preserved : goal.loop-j-preserved
 loop-j-preserved c =
     elim c.if-m-k.branch [
-        then-m-k w ↦ (omega arith, omega arith, w.w-is ∙ search costliest_next)
+      | then-m-k w ↦ (omega arith, omega arith, w.w-is ∙ search costliest_next)
       | else-m-k w ↦ (omega arith, omega arith, w.w-is ∙ search costliest_kept)
-      ]
+    ]
 
 pub returns : goal.returns
 returns c = costliest_all _ _ _ _ c.loop-j.invariant.2 c.loop-j.invariant.0 (omega arith) c.loop-j.invariant.1

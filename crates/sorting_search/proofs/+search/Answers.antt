@@ -21,12 +21,12 @@ search-r-requires t c = let p : c.loop-d.d < 3 = omega arith in (search (step_le
 pub loop-d-preserved : goal.loop-d-preserved
 loop-d-preserved t c =
     elim c.if-strip_left.branch [
-        then-strip_left w ↦
+      | then-strip_left w ↦
           branched_same w.m-is w.r-is
           (branched_yes c.loop-d.invariant (omega arith) (ltb-true _ _ (sym c.strip_left.ensures ∙ w.if-strip_left.true)) w.step-n.ensures w.search-r.ensures)
       | else-strip_left w ↦
           branched_same w.m-is w.r-is (branched_no c.loop-d.invariant (omega arith) (ltb-false _ _ (sym c.strip_left.ensures ∙ w.if-strip_left.false)))
-      ]
+    ]
 
 pub returns : goal.returns
 returns t c = search searched_all

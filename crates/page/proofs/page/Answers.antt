@@ -1,0 +1,20 @@
+-- `page::page` meets its contract: too small a buffer, then a plan that the judge does not allow, else the page.
+use Rattle.page.specs.PageLaws.{page_small, page_refused, print_asked, page_printed}
+use borrow.Author.Rules.{rules}
+use Rattle.page.proofs.page.Reads as reads
+use Rattle.page.proofs.page.Lts as lts
+use Rattle.judge.proofs.examine.Reads as examine-reads
+use Rattle.page.proofs.print_sections.Reads as print-sections-reads
+use Rattle.page.proofs.page.Goals as goal
+
+pub returns-then-page-lt-PAGE_LENGTH : goal.returns-then-page-lt-PAGE_LENGTH
+returns-then-page-lt-PAGE_LENGTH c = search page_small
+
+pub returns-then-e-ne0 : goal.returns-then-e-ne0
+returns-then-e-ne0 c = search page_refused
+
+pub print_sections-length-requires : goal.print_sections-length-requires
+print_sections-length-requires c = search print_asked
+
+pub returns : goal.returns
+returns c = search page_printed
