@@ -1,7 +1,7 @@
 /* Times the flight planner against plain C that does the same rounds over the same constraints and the same recursion over proper orders:
    8 blocks without an order and 32 blocks with one, with exact delays and with windows, without and with a turn. Where a longest delay is below the turn
    neither searches. Both must give the same answer.
-   rt staticlib flight_bench && gcc -O2 -Wall -Wextra -Werror -o target/bench_flight bench/flight.c target/staticlib/libflight_bench.a && target/bench_flight */
+   (cd crates/flight_bench && rt lib) && mkdir -p target && gcc -O2 -Wall -Wextra -Werror -o target/bench_flight bench/flight.c crates/flight_bench/out/libflight_bench.a && target/bench_flight */
 #include "flight.h"
 
 struct answer {

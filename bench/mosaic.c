@@ -1,5 +1,5 @@
 /* Times the mosaic planner against plain C with the same tables, at 10, 20 and 40 strips, without and with weights. Both must give the same figure.
-   rt staticlib mosaic_bench && gcc -O2 -Wall -Wextra -Werror -o target/bench_mosaic bench/mosaic.c target/staticlib/libmosaic_bench.a && target/bench_mosaic */
+   (cd crates/mosaic_bench && rt lib) && mkdir -p target && gcc -O2 -Wall -Wextra -Werror -o target/bench_mosaic bench/mosaic.c crates/mosaic_bench/out/libmosaic_bench.a && target/bench_mosaic */
 #include "mosaic.h"
 
 extern u64 mosaic_best(size_t stations, u64 mount, size_t strips, const u64 station[160], const u64 bench[40], const u64 weight[40]);

@@ -1,7 +1,7 @@
 /* Times the page call, sevulamon_page, against plain C that does the same work on the same bytes: the whole call, which judges the plan and prints it, and the
    printing alone, as the time of a page call less that of a judging call. Full plans (40 batches, 18 strips, 8 or 32 blocks), plans with few batches, small
    plans, and plans that are refused. Both must give the same answers and leave the same bytes in the buffer.
-   rt staticlib viewer && gcc -O2 -Wall -Wextra -Werror -Iinclude -o target/bench_page bench/page.c target/staticlib/libviewer.a && target/bench_page */
+   (cd crates/viewer_c && rt lib) && mkdir -p target && gcc -O2 -Wall -Wextra -Werror -Iinclude -o target/bench_page bench/page.c crates/viewer_c/out/libviewer_c.a && target/bench_page */
 #include "page.h"
 #include "sheet_writer.h"
 #include <string.h>

@@ -1,7 +1,7 @@
 /* Times the whole call, sevulamon_plan, against plain C that does the same work on the same bytes: full sheets (40 strips, 6 + 6 + 6 strips, 8 free
    blocks or 32 with an order, with exact delays and with windows, without and with a turn, without and with weights), a small sheet, and sheets that are
    refused. Both must give the same answer and leave the same bytes in the buffer.
-   rt staticlib viewer && gcc -O2 -Wall -Wextra -Werror -Iinclude -o target/bench_plan bench/plan.c target/staticlib/libviewer.a && target/bench_plan */
+   (cd crates/viewer_c && rt lib) && mkdir -p target && gcc -O2 -Wall -Wextra -Werror -Iinclude -o target/bench_plan bench/plan.c crates/viewer_c/out/libviewer_c.a && target/bench_plan */
 #include "plan.h"
 #include "sheet_writer.h"
 #include <string.h>

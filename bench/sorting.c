@@ -1,6 +1,6 @@
 /* Times the search of the sorting planner against plain C: the same search with the same cuts, and plain enumeration of all interleavings.
    Full sections of 6 + 6 + 6 strips, in families, without and with weights; all three must give the same figure and the same list.
-   rt staticlib sorting_bench && gcc -O2 -Wall -Wextra -Werror -o target/bench_sorting bench/sorting.c target/staticlib/libsorting_bench.a && target/bench_sorting
+   (cd crates/sorting_bench && rt lib) && mkdir -p target && gcc -O2 -Wall -Wextra -Werror -o target/bench_sorting bench/sorting.c crates/sorting_bench/out/libsorting_bench.a && target/bench_sorting
    Arguments: instances to a family, at most 100; the greatest time, 60,000 where none is given. */
 #include "sorting.h"
 

@@ -1,6 +1,6 @@
 -- The theorems on the flight's plan, for every sound flight section f. The program's promise is that its plan is `is_possible f`, `least_figure f`,
 -- `chosen_order f` and `chosen_passes f` (Choice.antt); the rules are those of crate rules.
-use Rattle.std.specs.Prelude.{◌≡◌, refl, Bool, true, false, List, ℕ, ◌+◌, ◌-◌, ◌*◌, ◌≤◌, ◌<◌}
+use Rattle.std.specs.Prelude.{◌≡◌, refl, Bool, true, false, List, ℕ, ◌+◌, ◌*◌, ◌≤◌, ◌<◌}
 use Rattle.std.proofs.Common.{sym, ◌∙◌, true≢false, arith}
 use Rattle.sheet.specs.Sound.{FlightSound}
 use Rattle.sheet.specs.declared.FlightSection.{FlightSection}

@@ -22,8 +22,6 @@ use Rattle.rules.specs.Flight.{flight_figure}
 use Rattle.rules.specs.Plan.{members_bytes, batch_bytes, mosaic_bytes, job_bytes, sorting_bytes, passes_bytes, flight_bytes, if_present, plan_bytes, PlanLawful, Allowed}
 use Rattle.plan_read.specs.PlanRead.{figure_from, order_from, batch_from, job_from, passes_from, members_from, batches_from, jobs_from, blocks_from}
 use Rattle.running.specs.Running.{MosaicRunsUnder, MosaicRuns, free_desks, AllDone, SortingRuns, FlightRuns}
-use Rattle.rules.specs.declared.Batch.{Batch}
-use Rattle.rules.specs.declared.Job.{Job}
 use Rattle.rules.specs.declared.Passes.{Passes}
 use Rattle.plan_format.specs.ByteLaws.{AreBytes}
 use Rattle.plan_format.specs.Format.{Form, content_length, size_of, form_bytes, mosaic_head_form, batch_form, sorting_head_form, job_form, flight_head_form, passes_form}

@@ -1,5 +1,5 @@
 -- What a plan states. Where the judge finds no fault, the figures that it gives are those of the timetables stated; and an allowed plan states itself.
-use Rattle.std.specs.Prelude.{ℕ, ◌+◌, ◌*◌, ◌^◌, ◌≤◌, ◌≡◌, Bool, List, []}
+use Rattle.std.specs.Prelude.{ℕ, ◌+◌, ◌*◌, ◌^◌, ◌≡◌, Bool, List}
 use Rattle.std.proofs.Math.Path.{refl, sym}
 use Rattle.std.proofs.Common.{ap, ◌∙◌}
 use Rattle.std.proofs.Math.Bool.{true, false, cond}
@@ -13,9 +13,6 @@ use Rattle.rules.specs.Mosaic.{mosaic_figure}
 use Rattle.rules.specs.Sorting.{sorting_figure}
 use Rattle.rules.specs.Flight.{flight_figure}
 use Rattle.rules.specs.Plan.{Plan, plan_bytes, PlanLawful}
-use Rattle.rules.specs.declared.Batch.{Batch}
-use Rattle.rules.specs.declared.Job.{Job}
-use Rattle.rules.specs.declared.Passes.{Passes}
 use Rattle.plan_format.specs.Format.{size_of, mosaic_head_form, batch_form, sorting_head_form, job_form}
 use Rattle.plan_read.specs.PlanRead.{order_from, batches_from, jobs_from}
 use Rattle.rules_laws.specs.Fits.{batches_most, jobs_all}

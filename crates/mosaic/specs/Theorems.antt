@@ -1,6 +1,6 @@
 -- The theorems of the mosaic planner, for every sound section m: the batching taken is lawful, has the least figure of all timetables (any batching, any idle
 -- time, any ceiling), starts each mount when the batch before finishes, as early as its batches allow, and finishes below the ceiling.
-use Rattle.std.specs.Prelude.{◌≡◌, List, [], ◌∷◌, ℕ, ◌*◌, ◌-◌, ◌≤◌, ◌<◌, length, get_or}
+use Rattle.std.specs.Prelude.{◌≡◌, List, [], ◌∷◌, ℕ, ◌*◌, ◌≤◌, ◌<◌, length, get_or}
 use Rattle.std.proofs.Math.Path.{refl}
 use Rattle.std.proofs.Common.{◌∙◌, arith}
 use Rattle.base.specs.LeastFigure.{NoLarger}

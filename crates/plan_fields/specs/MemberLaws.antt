@@ -1,6 +1,5 @@
 -- The loops over members: the first i are stored, each right behind the one before, since all of a kind are of one size.
-use Rattle.std.specs.Prelude.{ℕ, zero, suc, ◌+◌, ◌*◌, ◌≤◌, ◌<◌, ◌≡◌, refl, List, ◌++◌, length, get_or}
-use Rattle.std.proofs.Common.{sym, ap, ◌∙◌, length-append, arith, add-one, mul-suc, mul-zero}
+use Rattle.std.specs.Prelude.{ℕ, ◌+◌, ◌*◌, ◌≤◌, ◌<◌, ◌≡◌, refl, List, length, get_or}
 use Rattle.field.specs.Put.{put}
 use Rattle.field.specs.Members.{members_to, Storing, storing_none, storing_more, storing_all}
 use Rattle.plan_format.specs.Format.{size_of, batch_form, job_form, passes_form}

@@ -1,5 +1,5 @@
 -- What each function stores, and what it asks. The layout itself is that of crate rules (specs/Plan.antt).
-use Rattle.std.specs.Prelude.{ℕ, zero, suc, ◌+◌, ◌*◌, ◌≤◌, List, [], ◌∷◌, ◌++◌, length, get_or, take}
+use Rattle.std.specs.Prelude.{ℕ, ◌+◌, ◌*◌, ◌≤◌, List, [], ◌∷◌, ◌++◌, length, get_or, take}
 use Rattle.field.specs.Bytes.{bytes_of}
 use Rattle.plan_format.specs.Format.{Form, content_length, size_of, numbers_bytes, batch_form, job_form, passes_form}
 use Rattle.rules.specs.declared.Batch.{Batch}

@@ -1,5 +1,5 @@
 -- The sections of a plan stored one behind the other are the plan, and the buffer has room for each.
-use Rattle.std.specs.Prelude.{ℕ, ◌≡◌, List, ◌++◌, length}
+use Rattle.std.specs.Prelude.{ℕ, ◌≡◌, List, length}
 use Rattle.std.proofs.Common.{ap, ◌∙◌, arith}
 use Rattle.field.specs.Put.{length_put, Written, then_written}
 use Rattle.sheet.specs.Sound.{strips_in_all}

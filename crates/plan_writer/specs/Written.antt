@@ -1,5 +1,5 @@
 -- What each function of the writer asks and leaves. The layout itself is that of crate rules (specs/Plan.antt).
-use Rattle.std.specs.Prelude.{ℕ, ◌+◌, ◌*◌, ◌≤◌, ◌≡◌, List, ◌++◌, length}
+use Rattle.std.specs.Prelude.{ℕ, ◌+◌, ◌*◌, ◌≤◌, List, ◌++◌, length}
 use Rattle.sheet.specs.Limits.{most_strips, most_desks, most_strips_of_desk, most_blocks, plan_length}
 use Rattle.sheet.specs.Sound.{SortingSound, strips_in_all}
 use Rattle.sheet.specs.declared.Sheet.{Sheet}

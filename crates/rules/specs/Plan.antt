@@ -1,5 +1,5 @@
 -- The plan: its bytes, and when it is allowed (01, "The plan" and "The three sets of rules").
-use Rattle.std.specs.Prelude.{ℕ, ◌+◌, ◌≡◌, cond, List, [], ◌∷◌, ◌++◌, ltb}
+use Rattle.std.specs.Prelude.{ℕ, ◌≡◌, cond, List, [], ◌∷◌, ◌++◌, ltb}
 use Rattle.plan_format.specs.Format.{form_bytes, mosaic_head_form, batch_form, sorting_head_form, job_form, flight_head_form, passes_form, refusal_form}
 use Rattle.sheet.specs.Limits.{ceiling}
 use Rattle.sheet.specs.Read.{read_sheet}

@@ -1,11 +1,10 @@
 -- The loop of `read`: the reader stands on the same sheet, and where a field is due, at the offset of the reading. So the field that it gives is the one that
 -- the step is to take, and behind it the reader stands where the next reading does.
 use Prim.Native.Nat.{ℕ, ◌<◌}
-use Rattle.std.specs.Prelude.{◌≡◌, List, length}
-use Rattle.std.proofs.Math.Path.{refl, ap, subst}
+use Rattle.std.specs.Prelude.{◌≡◌, List}
+use Rattle.std.proofs.Math.Path.{ap, subst}
 use Rattle.std.proofs.Common.{sym, ◌∙◌}
 use Rattle.std.proofs.Math.Bool.{true, false}
-use native.Mathlib.Omega.{arith}
 use Rattle.field.specs.Field.{field_at, end_of}
 use Rattle.field.specs.declared.Field.{Field}
 use Rattle.sheet.specs.Read.{read_sheet}

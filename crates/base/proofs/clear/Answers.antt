@@ -1,8 +1,5 @@
 -- `base::clear` meets its contract: after z turns the first z values are 0.
-use Prim.Native.Nat.{◌-◌}
-use borrow.Author.Rules.{rules}
-use lib.ListN.{length}
-use Rattle.base.proofs.Clearing.{Cleared, cleared_none, cleared_more, cleared_all}
+use Rattle.base.proofs.Clearing.{cleared_none, cleared_more, cleared_all}
 use Rattle.base.proofs.clear.Goals as goal
 
 pub loop-z-init : goal.loop-z-init

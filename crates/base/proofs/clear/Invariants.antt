@@ -1,8 +1,7 @@
 -- `base::clear` meets its contract: after z turns the first z values are 0.
 use Prim.Native.Nat.{◌-◌}
-use borrow.Author.Rules.{rules}
 use lib.ListN.{length}
-use Rattle.base.proofs.Clearing.{Cleared, cleared_none, cleared_more, cleared_all}
+use Rattle.base.proofs.Clearing.{Cleared}
 use Rattle.base.proofs.clear.Given as goal
 
 abbrev pub invariant-loop-z : goal.invariant-loop-z

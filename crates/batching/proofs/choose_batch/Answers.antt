@@ -1,8 +1,7 @@
 -- `choose_batch` meets its contract. Invariant: of the candidates from n down to q, the one taken is the one that the recursion takes.
 use native.Mathlib.Omega.{arith}
-use borrow.Author.Rules.{rules}
 use Rattle.batching.proofs.CandidateLaws.{from_candidate}
-use Rattle.batching.proofs.ChoiceLaws.{TakenSoFar, taken_start, taken_less, taken_more, taken_end}
+use Rattle.batching.proofs.ChoiceLaws.{taken_start, taken_less, taken_more, taken_end}
 use Rattle.batching.proofs.choose_batch.Goals as goal
 
 pub candidate-least-requires : goal.candidate-least-requires

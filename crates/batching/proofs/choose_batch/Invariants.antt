@@ -1,8 +1,5 @@
 -- `choose_batch` meets its contract. Invariant: of the candidates from n down to q, the one taken is the one that the recursion takes.
-use native.Mathlib.Omega.{arith}
-use borrow.Author.Rules.{rules}
-use Rattle.batching.proofs.CandidateLaws.{from_candidate}
-use Rattle.batching.proofs.ChoiceLaws.{TakenSoFar, taken_start, taken_less, taken_more, taken_end}
+use Rattle.batching.proofs.ChoiceLaws.{TakenSoFar}
 use Rattle.batching.proofs.choose_batch.Given as goal
 
 abbrev pub invariant-loop-q : goal.invariant-loop-q

@@ -1,6 +1,5 @@
 -- `closed_figure` meets its contract: the sums fit, and the figure is the definition.
 use Rattle.batching.proofs.CandidateLaws.{closed_product, closed_sum, closed_is}
-use borrow.Author.Rules.{rules}
 use Rattle.batching.proofs.closed_figure.Goals as goal
 
 pub overflow_mul-result : goal.overflow_mul-result

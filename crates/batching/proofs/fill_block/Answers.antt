@@ -1,8 +1,7 @@
 -- `fill_block` meets its contract. Invariant: the row from p on is done, at the time of as many mounts.
 use mathlib.Core.Path.{◌∙◌}
 use lib.ListN.{length-set}
-use borrow.Author.Rules.{rules}
-use Rattle.batching.proofs.BlockLaws.{BlockSoFar, block_mounts, block_at, block_start, block_sub, block_row, block_step, block_end}
+use Rattle.batching.proofs.BlockLaws.{block_mounts, block_at, block_start, block_sub, block_row, block_step, block_end}
 use Rattle.batching.proofs.fill_block.Goals as goal
 
 pub overflow_mul-at : goal.overflow_mul-at

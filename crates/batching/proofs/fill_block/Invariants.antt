@@ -1,8 +1,5 @@
 -- `fill_block` meets its contract. Invariant: the row from p on is done, at the time of as many mounts.
-use mathlib.Core.Path.{◌∙◌}
-use lib.ListN.{length-set}
-use borrow.Author.Rules.{rules}
-use Rattle.batching.proofs.BlockLaws.{BlockSoFar, block_mounts, block_at, block_start, block_sub, block_row, block_step, block_end}
+use Rattle.batching.proofs.BlockLaws.{BlockSoFar}
 use Rattle.batching.proofs.fill_block.Given as goal
 
 abbrev pub invariant-loop-p : goal.invariant-loop-p

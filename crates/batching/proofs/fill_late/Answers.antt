@@ -2,7 +2,7 @@
 use mathlib.Core.Path.{refl}
 use native.Mathlib.Omega.{arith}
 use borrow.Author.Rules.{rules}
-use Rattle.batching.proofs.LateLaws.{AllSoFar, all_start, all_after, all_step, all_end}
+use Rattle.batching.proofs.LateLaws.{all_start, all_after, all_step, all_end}
 use Rattle.batching.proofs.fill_late.Goals as goal
 
 pub loop-i-init : goal.loop-i-init

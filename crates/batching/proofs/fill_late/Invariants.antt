@@ -1,8 +1,5 @@
 -- `fill_late` meets its contract. Invariant: the batches of the strips after i or a later strip are done.
-use mathlib.Core.Path.{refl}
-use native.Mathlib.Omega.{arith}
-use borrow.Author.Rules.{rules}
-use Rattle.batching.proofs.LateLaws.{AllSoFar, all_start, all_after, all_step, all_end}
+use Rattle.batching.proofs.LateLaws.{AllSoFar}
 use Rattle.batching.proofs.fill_late.Given as goal
 
 abbrev pub invariant-loop-i : goal.invariant-loop-i

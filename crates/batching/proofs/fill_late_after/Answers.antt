@@ -1,7 +1,5 @@
 -- `fill_late_after` meets its contract. Invariant: the batches of the strips after i up to q are done.
-use Prim.Native.Nat.{◌-◌}
-use borrow.Author.Rules.{rules}
-use Rattle.batching.proofs.LateLaws.{LateSoFar, after_start, after_block, after_closed, after_step, after_end}
+use Rattle.batching.proofs.LateLaws.{after_start, after_block, after_closed, after_step, after_end}
 use Rattle.batching.proofs.fill_late_after.Goals as goal
 
 pub loop-q-init : goal.loop-q-init

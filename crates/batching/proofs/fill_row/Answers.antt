@@ -1,7 +1,5 @@
 -- `fill_row` meets its contract. Invariant: entries below p are of this block, those above still of the block with one batch more.
-use Prim.Native.Nat.{◌-◌}
-use borrow.Author.Rules.{rules}
-use Rattle.batching.proofs.RowLaws.{RowSoFar, row_start, row_sub, row_free, row_from, row_step, row_end}
+use Rattle.batching.proofs.RowLaws.{row_start, row_sub, row_free, row_from, row_step, row_end}
 use Rattle.batching.proofs.fill_row.Goals as goal
 
 pub loop-p-init : goal.loop-p-init

@@ -1,7 +1,6 @@
 -- `fill_row` meets its contract. Invariant: entries below p are of this block, those above still of the block with one batch more.
 use Prim.Native.Nat.{◌-◌}
-use borrow.Author.Rules.{rules}
-use Rattle.batching.proofs.RowLaws.{RowSoFar, row_start, row_sub, row_free, row_from, row_step, row_end}
+use Rattle.batching.proofs.RowLaws.{RowSoFar}
 use Rattle.batching.proofs.fill_row.Given as goal
 
 abbrev pub invariant-loop-p : goal.invariant-loop-p

@@ -1,8 +1,5 @@
 -- `put_columns` meets its contract. Invariant: the columns from `left` on are stored, and `next` is the column left of them.
-use Prim.Native.Nat.{◌<◌}
-use native.Mathlib.Omega.{arith}
-use borrow.Author.Rules.{rules}
-use Rattle.decimal.specs.Storing.{Stored, stored_none, stored_more, stored_all}
+use Rattle.decimal.specs.Storing.{Stored}
 use Rattle.decimal.proofs.put_columns.Given as goal
 
 abbrev pub invariant-loop-left : goal.invariant-loop-left

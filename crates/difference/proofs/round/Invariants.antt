@@ -1,9 +1,6 @@
 -- `difference::round` meets its contract. The loop's invariant: the values are those after the first k constraints, and `held` is whether these held at entry.
-use mathlib.Core.Logic.{⊎_elim}
 use Prim.Native.Nat.{◌-◌}
-use borrow.Author.Rules.{rules}
 use Rattle.difference.specs.Rows.{RoundTurn}
-use Rattle.difference.proofs.Steps.{turn_start, turn_end, from_below, to_below, from_scaled, to_scaled, wanted_fits, had_fits, held_more, broken_more}
 use Rattle.difference.proofs.round.Given as goal
 
 abbrev pub invariant-loop-k : goal.invariant-loop-k

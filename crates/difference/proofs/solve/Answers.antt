@@ -1,8 +1,5 @@
 -- `difference::solve` meets its contract. The loop's invariant: the values are those after r rounds, none of which began at a solution.
 -- A round that began at a solution ends all; after as many rounds as variables there is none.
-use Prim.Native.Nat.{◌-◌}
-use borrow.Author.Rules.{rules}
-use Rattle.difference.specs.Rows.{system_of, InRounds}
 use Rattle.difference.proofs.Steps.{rounds_start, rounds_same_length, round_ready, round_same_length, go_on, stop, give_up}
 use Rattle.difference.proofs.solve.Goals as goal
 

@@ -2,7 +2,6 @@
 use native.Mathlib.Omega.{arith}
 use mathlib.Core.Path.{refl}
 use Rattle.field.specs.Numbers.{byte_read, past_read}
-use borrow.Author.Rules.{rules}
 use Rattle.field.proofs.byte.Goals as goal
 
 pub overflow_cast-result : goal.overflow_cast-result

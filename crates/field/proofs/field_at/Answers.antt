@@ -1,7 +1,6 @@
 -- `field_at` meets its contract: each way through its tests tells what stands at the offset, as in the definition.
 use Rattle.field.specs.Fields.{field_end, field_short, field_past, field_whole}
 use native.Mathlib.Omega.{arith}
-use borrow.Author.Rules.{rules}
 use Rattle.field.proofs.field_at.Goals as goal
 
 pub returns-then-s-at : goal.returns-then-s-at

@@ -1,8 +1,6 @@
 -- `number` meets its contract. Within the row it is `number_within`; else, invariant: the bytes from the one at `left` on have been added up. So the value fits at every turn.
 use Rattle.field.specs.Numbers.{scaled_fits}
-use native.Mathlib.Omega.{arith}
-use borrow.Author.Rules.{rules}
-use Rattle.field.specs.Numbers.{Added, added_none, added_more, added_fits, added_all, past_read}
+use Rattle.field.specs.Numbers.{added_none, added_more, added_fits, added_all, past_read}
 use Rattle.field.proofs.number.Goals as goal
 
 pub returns-then-s-at : goal.returns-then-s-at

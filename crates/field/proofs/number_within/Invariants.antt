@@ -1,10 +1,5 @@
 -- `number_within` meets its contract. Invariant: the bytes from the one at `left` on have been added up. So the sum fits at every turn.
-use Prim.Native.Nat.{◌+◌, ◌-◌}
-use native.Mathlib.Omega.{arith}
-use borrow.Author.Rules.{rules}
-use Rattle.field.specs.Numbers.{Added, added_none, within_more, within_fits, added_all, scaled_fits}
-use Rattle.field.proofs.number_within.Reads as reads
-use Rattle.field.proofs.number_within.Lts as lts
+use Rattle.field.specs.Numbers.{Added}
 use Rattle.field.proofs.number_within.Given as goal
 
 abbrev pub invariant-loop-left : goal.invariant-loop-left

@@ -1,7 +1,6 @@
 -- `put_number` meets its contract. Invariant: the first `done` bytes are stored, and `rest` is the number without them.
 use Prim.Native.Nat.{◌-◌}
-use borrow.Author.Rules.{rules}
-use Rattle.field.specs.Numbers.{Storing, storing_none, storing_more, storing_all}
+use Rattle.field.specs.Numbers.{Storing}
 use Rattle.field.proofs.put_number.Given as goal
 
 abbrev pub invariant-loop-done : goal.invariant-loop-done

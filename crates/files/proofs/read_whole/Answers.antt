@@ -1,8 +1,4 @@
 -- `read_whole` meets its contract. Invariant: what was read lies within the buffer.
-use Prim.Native.Nat.{◌-◌, ◌≤◌}
-use mathlib.Core.Path.{◌≡◌}
-use lib.ListN as lists
-use borrow.Author.Rules.{rules}
 use Rattle.files.specs.Input.{whole_none, whole_read, whole_ended}
 use Rattle.files.proofs.read_whole.Goals as goal
 

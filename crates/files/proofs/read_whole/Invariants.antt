@@ -2,8 +2,6 @@
 use Prim.Native.Nat.{◌-◌, ◌≤◌}
 use mathlib.Core.Path.{◌≡◌}
 use lib.ListN as lists
-use borrow.Author.Rules.{rules}
-use Rattle.files.specs.Input.{whole_none, whole_read, whole_ended}
 use Rattle.files.proofs.read_whole.Given as goal
 
 abbrev pub invariant-loop-length : goal.invariant-loop-length

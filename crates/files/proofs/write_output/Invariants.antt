@@ -1,6 +1,5 @@
 -- `write_output` meets its contract. Invariant: at most all bytes are written.
 use Prim.Native.Nat.{◌-◌, ◌≤◌}
-use borrow.Author.Rules.{rules}
 use lib.ListN.{length}
 use Rattle.files.proofs.write_output.Given as goal
 

@@ -1,6 +1,5 @@
 -- `flight::choose_order` meets its contract: the given order, or the one that the search takes; where no order is possible, none is searched for.
 use Rattle.flight.proofs.Planning.{given_order, order_unsearched, searched_order, block_times, shortest_within, longest_within}
-use borrow.Author.Rules.{rules}
 use Rattle.flight.proofs.choose_order.Goals as goal
 
 pub returns-then-f : goal.returns-then-f

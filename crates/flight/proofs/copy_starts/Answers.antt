@@ -1,7 +1,5 @@
 -- `flight::copy_starts` meets its contract. The loop's invariant: the first i starts are copied, and zeros stand after them.
-use Prim.Native.Nat.{◌-◌}
-use borrow.Author.Rules.{rules}
-use Rattle.flight.proofs.Copying.{Copying, copy_start, copy_more, copy_end}
+use Rattle.flight.proofs.Copying.{copy_start, copy_more, copy_end}
 use Rattle.flight.proofs.copy_starts.Goals as goal
 
 pub loop-i-init : goal.loop-i-init

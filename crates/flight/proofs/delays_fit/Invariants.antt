@@ -1,7 +1,6 @@
 -- `flight::delays_fit` meets its contract. Invariant: the first i longest delays are at least the turn.
 use Prim.Native.Nat.{◌-◌}
-use borrow.Author.Rules.{rules}
-use Rattle.flight.proofs.Delays.{FitSoFar, fit_none, delay_known, fit_more, fit_wrong, fit_all}
+use Rattle.flight.proofs.Delays.{FitSoFar}
 use Rattle.flight.proofs.delays_fit.Given as goal
 
 abbrev pub invariant-loop-i : goal.invariant-loop-i

@@ -1,7 +1,5 @@
 -- `flight::one_by_one` meets its contract. Invariant: the order of the first i blocks one after the other.
-use Prim.Native.Nat.{◌-◌}
-use borrow.Author.Rules.{rules}
-use Rattle.flight.proofs.Delays.{OrderSoFar, order_none, position_known, order_low, order_more, order_all}
+use Rattle.flight.proofs.Delays.{order_none, position_known, order_low, order_more, order_all}
 use Rattle.flight.proofs.one_by_one.Goals as goal
 
 pub loop-i-init : goal.loop-i-init

@@ -1,5 +1,4 @@
 -- `flight::plan_blocks` meets its contract: the parts that are lent have the lengths that are asked.
-use borrow.Author.Rules.{rules}
 use Rattle.flight.proofs.Planning.{rows_part, starts_part, plan_chosen_pre}
 use Rattle.flight.proofs.plan_blocks.Goals as goal
 

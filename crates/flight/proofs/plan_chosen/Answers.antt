@@ -1,5 +1,4 @@
 -- `flight::plan_chosen` meets its contract: the plan in the chosen order.
-use borrow.Author.Rules.{rules}
 use Rattle.flight.proofs.Planning.{plan_in_order_pre, plan_chosen}
 use Rattle.flight.proofs.plan_chosen.Goals as goal
 

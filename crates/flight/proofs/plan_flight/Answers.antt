@@ -1,5 +1,4 @@
 -- `flight::plan_flight` meets its contract: with no block every definition gives nothing, and otherwise the local arrays are room enough.
-use borrow.Author.Rules.{rules}
 use Rattle.flight.proofs.Planning.{plan_none}
 use Rattle.flight.proofs.plan_flight.Goals as goal
 

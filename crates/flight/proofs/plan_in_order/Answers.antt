@@ -1,5 +1,4 @@
 -- `flight::plan_in_order` meets its contract: the starts are the least ones, and the last pass gives the figure.
-use borrow.Author.Rules.{rules}
 use Rattle.flight.proofs.Planning.{least_starts_pre, plan_figure_fits, plan_made}
 use Rattle.flight.proofs.plan_in_order.Goals as goal
 

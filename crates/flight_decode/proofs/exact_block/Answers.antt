@@ -1,6 +1,5 @@
 -- `exact_block` meets its contract: the three numbers are read where the definition reads them.
 use Rattle.flight_decode.specs.FlightLaws.{exact_block_is}
-use borrow.Author.Rules.{rules}
 use Rattle.flight_decode.proofs.exact_block.Goals as goal
 
 pub returns : goal.returns

@@ -3,7 +3,6 @@ use Rattle.base.specs.Branch.{branches}
 use Rattle.sheet.specs.Decode.{next_flight}
 use Rattle.flight_decode.specs.Pre.{block_fits, window_block_fits}
 use Rattle.flight_decode.specs.FlightLaws.{exact_block_next, window_block_next}
-use borrow.Author.Rules.{rules}
 use Rattle.flight_decode.proofs.next_flight.Goals as goal
 
 pub returns-then-tag-eq-FLIGHT_HEAD : goal.returns-then-tag-eq-FLIGHT_HEAD

@@ -1,6 +1,5 @@
 -- `turn_of` meets its contract: an empty head means 0, another has the number read.
 use Rattle.flight_decode.specs.FlightLaws.{no_turn, turn_read}
-use borrow.Author.Rules.{rules}
 use Rattle.flight_decode.proofs.turn_of.Goals as goal
 
 pub returns-then-length-eq0 : goal.returns-then-length-eq0

@@ -1,6 +1,5 @@
 -- `window_block` meets its contract: the four numbers are read where the definition reads them.
 use Rattle.flight_decode.specs.FlightLaws.{window_block_is}
-use borrow.Author.Rules.{rules}
 use Rattle.flight_decode.proofs.window_block.Goals as goal
 
 pub returns : goal.returns

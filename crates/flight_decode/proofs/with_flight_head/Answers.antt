@@ -1,7 +1,6 @@
 -- `with_flight_head` meets its contract: the definition, with the turn read.
 use Rattle.sheet.specs.Decode.{zeros}
 use Rattle.flight_decode.specs.FlightLaws.{flight_head_is}
-use borrow.Author.Rules.{rules}
 use Rattle.flight_decode.proofs.with_flight_head.Goals as goal
 
 pub returns : goal.returns

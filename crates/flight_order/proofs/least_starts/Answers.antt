@@ -1,5 +1,4 @@
 -- `flight_order::least_starts` meets its contract: the rows that were written are the flight's constraints, and solving them gives its least starts.
-use borrow.Author.Rules.{rules}
 use Rattle.flight_order.proofs.Writing.{rows_fit, rows_least}
 use Rattle.flight_order.proofs.least_starts.Goals as goal
 

@@ -1,9 +1,6 @@
 -- `flight_order::write_constraints` meets its contract. The loop's invariant: the first k rows are the first k constraints.
-use Prim.Native.Nat.{◌-◌}
-use borrow.Author.Rules.{rules}
 use lib.Seq.{lt-length-set}
-use Rattle.flight_order.specs.Constraints.{ordered_flight}
-use Rattle.flight_order.proofs.Writing.{Writing, write_start, write_more, write_end, row_1, row_2, row_3}
+use Rattle.flight_order.proofs.Writing.{write_start, write_more, write_end, row_1, row_2, row_3}
 use Rattle.flight_order.proofs.write_constraints.Goals as goal
 
 pub loop-k-init : goal.loop-k-init

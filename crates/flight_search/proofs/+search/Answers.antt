@@ -1,7 +1,6 @@
 -- `flight_search::search`: each of the four ways is a step of the definition.
 use native.Mathlib.Omega.{arith}
-use borrow.Author.Rules.{rules}
-use Rattle.flight_search.proofs.Searching.{try_order_pre, firsts_few, append_within, append_short, first_search_pre, only_second_search_pre}
+use Rattle.flight_search.proofs.Searching.{try_order_pre, firsts_few, first_search_pre, only_second_search_pre}
 use Rattle.flight_search.proofs.Searching.{second_search_pre, only_second, only_first, first_then_second, search_end}
 use Rattle.flight_search.proofs.+search.Goals as goal
 

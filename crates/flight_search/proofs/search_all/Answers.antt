@@ -1,5 +1,4 @@
 -- `flight_search::search_all` meets its contract: the parts that are lent have the lengths that are asked, and the search starts at the empty beginning.
-use borrow.Author.Rules.{rules}
 use Rattle.flight_search.proofs.Rooms.{rows_part, starts_part, root_search_pre}
 use Rattle.flight_search.proofs.search_all.Goals as goal
 

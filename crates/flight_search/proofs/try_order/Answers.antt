@@ -1,5 +1,4 @@
 -- `flight_search::try_order` meets its contract: the order is not possible, or is no better than the incumbent, or replaces it.
-use borrow.Author.Rules.{rules}
 use Rattle.flight_search.proofs.Trying.{least_starts_pre, figure_fits, try_impossible, try_first, tries}
 use Rattle.flight_search.proofs.try_order.Goals as goal
 

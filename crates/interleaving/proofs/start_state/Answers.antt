@@ -3,7 +3,6 @@ use Rattle.interleaving.specs.Search.{start_state}
 use Rattle.interleaving.specs.Consistent.{start_sum}
 use mathlib.Core.Path.{refl}
 use native.Mathlib.Omega.{arith}
-use borrow.Author.Rules.{rules}
 use Rattle.interleaving.proofs.start_state.Goals as goal
 
 pub overflow_add-result : goal.overflow_add-result

@@ -3,7 +3,6 @@
 use Rattle.interleaving.specs.Caps.{step_pre_capped, greater_capped, weighted_capped}
 use Rattle.interleaving.specs.SearchLaws.{step_is}
 use native.Mathlib.Omega.{arith}
-use borrow.Author.Rules.{rules}
 use Rattle.interleaving.proofs.step.Goals as goal
 
 pub overflow_add-at : goal.overflow_add-at

@@ -1,7 +1,6 @@
 -- `examine` meets its contract: a fault of the sheet is handed on; else the sheet is sound, and the plan is examined by it.
 use Rattle.judge.specs.Loops.{sheet_sound}
 use Rattle.judge.specs.Examined.{sheet_refused, sheet_examined}
-use borrow.Author.Rules.{rules}
 use Rattle.judge.proofs.examine.Goals as goal
 
 pub returns-then-s-ne0 : goal.returns-then-s-ne0

@@ -1,7 +1,6 @@
 -- `examine_plan` meets its contract: the sections are found one behind the other, and the plan is judged by them.
 use Rattle.judge.specs.Loops.{sorting_at_lem, flight_at_lem}
 use Rattle.judge.specs.Examined.{plan_examined}
-use borrow.Author.Rules.{rules}
 use Rattle.judge.proofs.examine_plan.Goals as goal
 
 pub sorting_part-sorting-requires : goal.sorting_part-sorting-requires

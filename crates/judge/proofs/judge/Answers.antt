@@ -1,6 +1,5 @@
 -- `judge` meets its contract: it answers what examining the plan finds.
 use Rattle.judge.specs.Examined.{judged_by}
-use borrow.Author.Rules.{rules}
 use Rattle.judge.proofs.judge.Goals as goal
 
 pub returns : goal.returns

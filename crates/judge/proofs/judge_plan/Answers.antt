@@ -1,6 +1,5 @@
 -- `judge_plan` meets its contract: the layout goes first, then the sections; where neither has a fault, the stated figures are handed out.
 use Rattle.judge.specs.Loops.{stated_mosaic, stated_sorting, stated_flight, layout_wrong_lem, section_wrong, all_right}
-use borrow.Author.Rules.{rules}
 use Rattle.judge.proofs.judge_plan.Goals as goal
 
 pub returns-then-layout-ne0 : goal.returns-then-layout-ne0

@@ -1,6 +1,5 @@
 -- `clear_at` meets its contract: the end and the turn.
 use Rattle.judge_flight.specs.Laws.{clear_told, turn_fits}
-use borrow.Author.Rules.{rules}
 use Rattle.judge_flight.proofs.clear_at.Goals as goal
 
 pub overflow_add-result : goal.overflow_add-result

@@ -1,9 +1,7 @@
 -- `flight_figure` meets its contract. Invariant: `greatest` is the latest end of the passes before p.
-use Prim.Native.Nat.{◌-◌, ◌*◌}
-use mathlib.Core.Path.{◌≡◌, refl}
+use mathlib.Core.Path.{refl}
 use borrow.Author.Rules.{rules}
-use Rattle.plan_read.specs.PlanRead.{blocks_from}
-use Rattle.judge_flight.specs.Laws.{LatestSoFar, latest_none, latest_more, latest_asked, latest_all}
+use Rattle.judge_flight.specs.Laws.{latest_none, latest_more, latest_asked, latest_all}
 use Rattle.judge_flight.proofs.flight_figure.Goals as goal
 
 pub loop-p-init : goal.loop-p-init

@@ -1,6 +1,5 @@
 -- `flight_head` meets its contract: members, order number and passes are tested in the order of the definition.
 use Rattle.judge_flight.specs.Laws.{members_wrong, proper_wrong, order_asked, given_wrong, head_given, head_free}
-use borrow.Author.Rules.{rules}
 use Rattle.judge_flight.proofs.flight_head.Goals as goal
 
 pub returns-then-members-f : goal.returns-then-members-f

@@ -1,6 +1,5 @@
 -- `pass_end` meets its contract: start and time of a pass are small enough to be added.
 use Rattle.judge_flight.specs.Laws.{end_told}
-use borrow.Author.Rules.{rules}
 use Rattle.judge_flight.proofs.pass_end.Goals as goal
 
 pub returns : goal.returns

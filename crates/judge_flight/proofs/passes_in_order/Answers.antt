@@ -1,10 +1,8 @@
 -- `passes_in_order` meets its contract. Invariant: the passes at positions up to k come one after another in the order, none before the turn after the one
 -- before is over.
-use Prim.Native.Nat.{◌-◌, ◌*◌}
-use mathlib.Core.Path.{◌≡◌, refl}
+use mathlib.Core.Path.{refl}
 use borrow.Author.Rules.{rules}
-use Rattle.plan_read.specs.PlanRead.{blocks_from}
-use Rattle.judge_flight.specs.Laws.{OrderedSoFar, ordered_none, ordered_more, ordered_wrong, ordered_all, this_position, next_position, next_start}
+use Rattle.judge_flight.specs.Laws.{ordered_none, ordered_more, ordered_wrong, ordered_all, this_position, next_position, next_start}
 use Rattle.judge_flight.specs.Laws.{this_end}
 use Rattle.judge_flight.proofs.passes_in_order.Goals as goal
 

@@ -1,6 +1,5 @@
 -- `is_field_lem` meets its contract: each way through the match tells whether the due field stands there.
 use Rattle.judge_layout.specs.Laws.{found_none, found_cut, found_other, found_same}
-use borrow.Author.Rules.{rules}
 use Rattle.judge_layout.proofs.is_field.Goals as goal
 
 pub returns-then-t-tag : goal.returns-then-t-tag

@@ -1,9 +1,6 @@
 -- `part_from` meets its contract. Invariant: so many members stand behind the head, and `end` is the offset behind them.
-use Rattle.judge_layout.specs.Laws.{counted_fits}
 use Prim.Native.Nat.{◌+◌, ◌-◌}
-use mathlib.Core.Path.{refl}
-use borrow.Author.Rules.{rules}
-use Rattle.judge_layout.specs.Laws.{Counted, counted_none, counted_within, counted_more, counted_all, counted_less}
+use Rattle.judge_layout.specs.Laws.{Counted}
 use Rattle.judge_layout.proofs.part_from.Given as goal
 
 abbrev pub invariant-loop-end : goal.invariant-loop-end

@@ -1,6 +1,5 @@
 -- `part_of` meets its contract: an absent section, a wrong head and a right one are the three cases of the definition.
 use Rattle.judge_layout.specs.Laws.{part_absent, part_wrong, part_right, part_asked}
-use borrow.Author.Rules.{rules}
 use Rattle.judge_layout.proofs.part_of.Goals as goal
 
 pub returns-then-not-present : goal.returns-then-not-present

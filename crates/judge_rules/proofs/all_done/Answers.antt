@@ -1,7 +1,5 @@
 -- `all_done` meets its contract. Invariant: the desks before d have had all their strips.
-use Prim.Native.Nat.{◌-◌}
-use borrow.Author.Rules.{rules}
-use Rattle.judge_rules.specs.Laws.{DoneSoFar, done_none, done_more, done_wrong, done_all}
+use Rattle.judge_rules.specs.Laws.{done_none, done_more, done_wrong, done_all}
 use Rattle.judge_rules.proofs.all_done.Goals as goal
 
 pub loop-d-init : goal.loop-d-init

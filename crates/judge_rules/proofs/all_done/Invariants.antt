@@ -1,7 +1,6 @@
 -- `all_done` meets its contract. Invariant: the desks before d have had all their strips.
 use Prim.Native.Nat.{◌-◌}
-use borrow.Author.Rules.{rules}
-use Rattle.judge_rules.specs.Laws.{DoneSoFar, done_none, done_more, done_wrong, done_all}
+use Rattle.judge_rules.specs.Laws.{DoneSoFar}
 use Rattle.judge_rules.proofs.all_done.Given as goal
 
 abbrev pub invariant-loop-d : goal.invariant-loop-d

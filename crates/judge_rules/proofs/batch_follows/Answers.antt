@@ -1,6 +1,5 @@
 -- `batch_follows` meets its contract: a batch that rises has a finish to compare with; one that does not is refused first.
 use Rattle.judge_rules.specs.Laws.{batch_wrong, batch_due, batch_right}
-use borrow.Author.Rules.{rules}
 use Rattle.judge_rules.proofs.batch_follows.Goals as goal
 
 pub returns-then-not-batch_in_run : goal.returns-then-not-batch_in_run

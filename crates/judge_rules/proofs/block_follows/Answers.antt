@@ -1,7 +1,6 @@
 -- `block_follows` meets its contract: a block past the last is refused first; else its earliest and latest starts are small enough to be added up.
 use native.Mathlib.Omega.{arith}
 use Rattle.judge_rules.specs.Laws.{block_past, block_due, flown_fits, earliest_fits, latest_fits, end_fits}
-use borrow.Author.Rules.{rules}
 use Rattle.judge_rules.proofs.block_follows.Goals as goal
 
 pub returns-then-f-i : goal.returns-then-f-i

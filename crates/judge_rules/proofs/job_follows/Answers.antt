@@ -1,6 +1,5 @@
 -- `job_follows` meets its contract: a strip that is in turn has times to compare with; one that is not is refused first.
 use Rattle.judge_rules.specs.Laws.{done_few, job_wrong, job_slot, job_right}
-use borrow.Author.Rules.{rules}
 use Rattle.judge_rules.proofs.job_follows.Goals as goal
 
 pub job_in_turn-requires : goal.job_in_turn-requires

@@ -5,7 +5,6 @@ use Prim.Native.Nat.{ℕ, ◌+◌, ◌≤◌}
 use borrow.Author.Tests.{le-leb, ne_eqb}
 use Rattle.base.specs.Branch.{branches}
 use Rattle.judge_rules.specs.Follows.{job_in_turn}
-use borrow.Author.Rules.{rules}
 use Rattle.judge_rules.proofs.job_in_turn.Goals as goal
 
 not-next : (desks strips done desk number : ℕ) → 1 ≤ desk → desk ≤ desks → (number ≡ done + 1 → ⊥)

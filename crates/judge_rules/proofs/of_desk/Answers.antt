@@ -1,6 +1,5 @@
 -- `of_desk` meets its contract: the value of a desk that there is, and 0 of any other.
 use Rattle.judge_rules.specs.Laws.{desk_there, desk_none}
-use borrow.Author.Rules.{rules}
 use Rattle.judge_rules.proofs.of_desk.Goals as goal
 
 pub returns-then-d-lt3 : goal.returns-then-d-lt3

@@ -1,6 +1,5 @@
 -- `plan_mosaic` meets its contract: the tables are filled and read with the times and weights of the section, and the instance that these give agrees with it.
 use Rattle.mosaic.proofs.PlanLaws.{bench_pre, weight_pre, late_pre, batches_pre, planned}
-use borrow.Author.Rules.{rules}
 use Rattle.mosaic.proofs.plan_mosaic.Goals as goal
 
 pub prefix_sums-sums-requires : goal.prefix_sums-sums-requires

@@ -1,5 +1,5 @@
 -- The rules' quantities: bounds of ready times and bench sums.
-use Rattle.std.specs.Prelude.{ℕ, ◌+◌, ◌*◌, ◌-◌, ◌≤◌}
+use Rattle.std.specs.Prelude.{ℕ, ◌+◌, ◌*◌, ◌≤◌}
 use Rattle.std.proofs.Math.ListN.{get_or}
 use Rattle.sheet.specs.Limits.{most_time}
 use Rattle.sheet.specs.Sound.{MosaicSound}

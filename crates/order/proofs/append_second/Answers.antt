@@ -1,5 +1,4 @@
 -- `order::append_second` meets its contract: the shift is 2 ^ k, and the sum is below 2 ^ (k + 1).
-use borrow.Author.Rules.{rules}
 use Rattle.order.specs.Ones.{shifted_one, second_fits}
 use Rattle.order.proofs.append_second.Goals as goal
 

@@ -1,6 +1,5 @@
 -- `order::bit` meets its contract: a 64-bit number has no bit from 64 on.
 use mathlib.Core.Path.{sym}
-use borrow.Author.Rules.{rules}
 use Rattle.order.specs.Seconds.{bit_above}
 use Rattle.order.proofs.bit.Goals as goal
 

@@ -1,5 +1,4 @@
 -- `order::pass_at` meets its contract: the bit decides, and the count of second passes is at most the position.
-use borrow.Author.Rules.{rules}
 use Rattle.order.specs.PassLaws.{second_fits, second_pass, first_pass}
 use Rattle.order.proofs.pass_at.Goals as goal
 

@@ -1,7 +1,6 @@
 -- `order::seconds_before` meets its contract: the ones of the whole number are the second passes of every beginning of 64 passes or more,
 -- and those of the masked number are the second passes of its beginning.
 use native.Mathlib.Omega.{arith}
-use borrow.Author.Rules.{rules}
 use Rattle.order.specs.Ones.{shifted_positive, ones_masked, ones_masked_fits, ones_whole, ones_fits}
 use Rattle.order.proofs.seconds_before.Goals as goal
 

@@ -1,5 +1,4 @@
 -- `order::time_of` meets its contract: both branches of the definition.
-use borrow.Author.Rules.{rules}
 use Rattle.order.specs.PassLaws.{first_time, second_time}
 use Rattle.order.proofs.time_of.Goals as goal
 

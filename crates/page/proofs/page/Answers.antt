@@ -1,10 +1,5 @@
 -- `page::page` meets its contract: too small a buffer, then a plan that the judge does not allow, else the page.
 use Rattle.page.specs.PageLaws.{page_small, page_refused, print_asked, page_printed}
-use borrow.Author.Rules.{rules}
-use Rattle.page.proofs.page.Reads as reads
-use Rattle.page.proofs.page.Lts as lts
-use Rattle.judge.proofs.examine.Reads as examine-reads
-use Rattle.page.proofs.print_sections.Reads as print-sections-reads
 use Rattle.page.proofs.page.Goals as goal
 
 pub returns-then-page-lt-PAGE_LENGTH : goal.returns-then-page-lt-PAGE_LENGTH

@@ -1,11 +1,5 @@
 -- `page::print_sections` meets its contract: the sections are stored one behind the other.
 use Rattle.page.specs.PageLaws.{sorting_asked, flight_asked, sections_stored}
-use borrow.Author.Rules.{rules}
-use Rattle.page.proofs.print_sections.Reads as reads
-use Rattle.page.proofs.print_sections.Lts as lts
-use Rattle.page_sections.proofs.print_flight.Reads as print-flight-reads
-use Rattle.page_sections.proofs.print_mosaic.Reads as print-mosaic-reads
-use Rattle.page_sections.proofs.print_sorting.Reads as print-sorting-reads
 use Rattle.page.proofs.print_sections.Goals as goal
 
 pub print_sorting-flight_at-requires : goal.print_sorting-flight_at-requires

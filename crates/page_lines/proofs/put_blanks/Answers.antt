@@ -1,8 +1,5 @@
 -- `page_lines::put_blanks` meets its contract: four spaces stored one behind the other.
 use Rattle.page_lines.specs.LineLaws.{second_blank, third_blank, fourth_blank, blanks_stored}
-use borrow.Author.Rules.{rules}
-use Rattle.page_lines.proofs.put_blanks.Reads as reads
-use Rattle.page_lines.proofs.put_blanks.Lts as lts
 use Rattle.page_lines.proofs.put_blanks.Goals as goal
 
 pub bounds-page-at-2 : goal.bounds-page-at-2

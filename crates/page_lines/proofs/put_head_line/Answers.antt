@@ -1,9 +1,5 @@
 -- `page_lines::put_head_line` meets its contract: the letter, the figure and the line feed, one behind the other.
 use Rattle.page_lines.specs.LineLaws.{head_room, head_feed, head_kept, head_stored}
-use borrow.Author.Rules.{rules}
-use Rattle.page_lines.proofs.put_head_line.Reads as reads
-use Rattle.page_lines.proofs.put_head_line.Lts as lts
-use Rattle.decimal.proofs.put_columns.Reads as put-columns-reads
 use Rattle.page_lines.proofs.put_head_line.Goals as goal
 
 pub put_columns-requires : goal.put_columns-requires

@@ -1,9 +1,5 @@
 -- `page_lines::put_job_line` meets its contract: the line of a strip is a member line with its numbers.
 use Rattle.page_lines.specs.LineLaws.{job_stored}
-use borrow.Author.Rules.{rules}
-use Rattle.page_lines.proofs.put_job_line.Reads as reads
-use Rattle.page_lines.proofs.put_job_line.Lts as lts
-use Rattle.page_lines.proofs.put_member_line.Reads as put-member-line-reads
 use Rattle.page_lines.proofs.put_job_line.Goals as goal
 
 pub returns : goal.returns

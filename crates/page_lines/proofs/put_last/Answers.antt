@@ -1,9 +1,5 @@
 -- `page_lines::put_last` meets its contract: two times and the line feed, one behind the other.
 use Rattle.page_lines.specs.LineLaws.{last_feed, last_kept, last_stored}
-use borrow.Author.Rules.{rules}
-use Rattle.page_lines.proofs.put_last.Reads as reads
-use Rattle.page_lines.proofs.put_last.Lts as lts
-use Rattle.decimal.proofs.put_columns.Reads as put-columns-reads
 use Rattle.page_lines.proofs.put_last.Goals as goal
 
 pub bounds-page-at : goal.bounds-page-at

@@ -1,12 +1,7 @@
 -- `page_sections::print_batches` meets its contract: the lines of the first i batches are stored.
 use Prim.Native.Nat.{◌-◌}
 use Rattle.page_sections.specs.Printed.{batch_line_from}
-use Rattle.page_sections.specs.SectionLaws.{LinesStored, lines_none, lines_all, batches_more}
-use borrow.Author.Rules.{rules}
-use Rattle.page_sections.proofs.print_batches.Reads as reads
-use Rattle.page_sections.proofs.print_batches.Lts as lts
-use Rattle.page_lines.proofs.put_batch_line.Reads as put-batch-line-reads
-use Rattle.plan_read.proofs.batch_from.Reads as batch-from-reads
+use Rattle.page_sections.specs.SectionLaws.{LinesStored}
 use Rattle.page_sections.proofs.print_batches.Given as goal
 
 abbrev pub invariant-loop-i : goal.invariant-loop-i

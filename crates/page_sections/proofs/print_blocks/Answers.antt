@@ -1,12 +1,5 @@
 -- `page_sections::print_blocks` meets its contract: the lines of the first i blocks are stored.
-use Prim.Native.Nat.{◌-◌}
-use Rattle.page_sections.specs.Printed.{block_line_from}
-use Rattle.page_sections.specs.SectionLaws.{LinesStored, lines_none, lines_all, blocks_more}
-use borrow.Author.Rules.{rules}
-use Rattle.page_sections.proofs.print_blocks.Reads as reads
-use Rattle.page_sections.proofs.print_blocks.Lts as lts
-use Rattle.page_lines.proofs.put_block_line.Reads as put-block-line-reads
-use Rattle.plan_read.proofs.passes_from.Reads as passes-from-reads
+use Rattle.page_sections.specs.SectionLaws.{lines_none, lines_all, blocks_more}
 use Rattle.page_sections.proofs.print_blocks.Goals as goal
 
 pub loop-i-init : goal.loop-i-init

@@ -1,10 +1,5 @@
 -- `page_sections::print_sorting` meets its contract: its head line and the lines of its members, one behind the other, or nothing.
 use Rattle.page_sections.specs.SectionLaws.{sorting_absent, sorting_stored}
-use borrow.Author.Rules.{rules}
-use Rattle.page_sections.proofs.print_sorting.Reads as reads
-use Rattle.page_sections.proofs.print_sorting.Lts as lts
-use Rattle.page_lines.proofs.put_head_line.Reads as put-head-line-reads
-use Rattle.page_sections.proofs.print_jobs.Reads as print-jobs-reads
 use Rattle.page_sections.proofs.print_sorting.Goals as goal
 
 pub returns-then-part-lt1 : goal.returns-then-part-lt1

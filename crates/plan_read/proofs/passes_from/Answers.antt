@@ -1,6 +1,5 @@
 -- `plan_read::passes_from` meets its contract: the numbers that are read are those of the passes.
 use Rattle.plan_read.specs.Laws.{passes_read}
-use borrow.Author.Rules.{rules}
 use Rattle.plan_read.proofs.passes_from.Goals as goal
 
 pub returns : goal.returns

@@ -1,6 +1,5 @@
 -- `plan_read::sorting_figure_from` meets its contract: the first number of the head.
 use Rattle.plan_read.specs.Laws.{sorting_figure_read}
-use borrow.Author.Rules.{rules}
 use Rattle.plan_read.proofs.sorting_figure_from.Goals as goal
 
 pub returns : goal.returns

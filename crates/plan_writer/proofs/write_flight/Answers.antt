@@ -1,6 +1,5 @@
 -- `plan_writer::write_flight` meets its contract: an absent section stores nothing, a present one its head and its blocks.
 use Rattle.plan_writer.specs.SectionLaws.{flight_absent, flight_written}
-use borrow.Author.Rules.{rules}
 use Rattle.plan_writer.proofs.write_flight.Goals as goal
 
 pub returns-then-n-lt1 : goal.returns-then-n-lt1

@@ -1,6 +1,5 @@
 -- `plan_writer::write_mosaic` meets its contract: an absent section stores nothing, a present one its head and its batches.
 use Rattle.plan_writer.specs.SectionLaws.{mosaic_absent, mosaic_written}
-use borrow.Author.Rules.{rules}
 use Rattle.plan_writer.proofs.write_mosaic.Goals as goal
 
 pub returns-then-strips-lt1 : goal.returns-then-strips-lt1

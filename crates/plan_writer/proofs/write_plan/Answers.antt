@@ -1,6 +1,5 @@
 -- `plan_writer::write_plan` meets its contract: there is room behind each section, and the joined sections are the plan.
 use Rattle.plan_writer.specs.PlanLaws.{sorting_room, flight_room, plan_written}
-use borrow.Author.Rules.{rules}
 use Rattle.plan_writer.proofs.write_plan.Goals as goal
 
 pub write_sorting-flight_at-requires : goal.write_sorting-flight_at-requires

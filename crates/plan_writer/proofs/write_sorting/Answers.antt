@@ -1,6 +1,5 @@
 -- `plan_writer::write_sorting` meets its contract: an absent section stores nothing, a present one its head and its jobs.
 use Rattle.plan_writer.specs.SectionLaws.{sorting_absent, sorting_written}
-use borrow.Author.Rules.{rules}
 use Rattle.plan_writer.proofs.write_sorting.Goals as goal
 
 pub returns-then-strips-lt1 : goal.returns-then-strips-lt1

@@ -4,7 +4,6 @@ use Rattle.sheet.specs.Read.{end_number, end_checks}
 use Rattle.sheet.specs.Rows.{first_failure}
 use Rattle.sheet.specs.RowLaws.{test_fails, test_passes}
 use Rattle.sheet_checks.specs.NumberLaws.{rows}
-use borrow.Author.Rules.{rules}
 use Rattle.sheet_checks.proofs.end_number.Goals as goal
 
 pub returns-then-members-lt1 : goal.returns-then-members-lt1

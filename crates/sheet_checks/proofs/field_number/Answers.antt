@@ -1,7 +1,6 @@
 -- `field_number` meets its contract: the first test that fails gives its number, in the order of the rows.
 use Rattle.sheet.specs.Read.{field_number, field_checks}
 use Rattle.sheet_checks.specs.NumberLaws.{rows}
-use borrow.Author.Rules.{rules}
 use Rattle.sheet_checks.proofs.field_number.Goals as goal
 
 pub returns-then-not-section_filled : goal.returns-then-not-section_filled

@@ -9,7 +9,6 @@ use Rattle.sheet.specs.Tags.{mosaic_head_tag, mosaic_strip_tag, sorting_head_tag
 use Rattle.sheet.specs.Tags.{flight_window_block_tag}
 use Rattle.sheet.specs.Sections.{in_sorting, in_flight}
 use Rattle.sheet.specs.Checks.{order_permitted, permitted}
-use borrow.Author.Rules.{rules}
 use Rattle.sheet_checks.proofs.is_permitted.Goals as goal
 
 sorting_head_lem : (tag section members : ℕ) → tag ≡ sorting_head_tag → ltb section in_sorting ≡ permitted tag section members

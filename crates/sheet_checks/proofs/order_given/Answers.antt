@@ -1,7 +1,6 @@
 -- `order_given` meets its contract: each way through its tests is one through the definition.
 use Rattle.base.specs.Branch.{flags}
 use Rattle.sheet.specs.Checks.{order_given}
-use borrow.Author.Rules.{rules}
 use Rattle.sheet_checks.proofs.order_given.Goals as goal
 
 pub returns-then-ends_section : goal.returns-then-ends_section

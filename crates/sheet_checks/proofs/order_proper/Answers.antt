@@ -1,7 +1,6 @@
 -- `order_proper` meets its contract: each way through its tests is one through the definition.
 use Rattle.base.specs.Branch.{flags}
 use Rattle.sheet.specs.Checks.{order_proper}
-use borrow.Author.Rules.{rules}
 use Rattle.sheet_checks.proofs.order_proper.Goals as goal
 
 pub returns-then-tag-eq-FLIGHT_ORDER : goal.returns-then-tag-eq-FLIGHT_ORDER

@@ -1,7 +1,6 @@
 -- `section_filled` meets its contract: each way through its tests is one through the definition.
 use Rattle.base.specs.Branch.{flags}
 use Rattle.sheet.specs.Checks.{section_filled}
-use borrow.Author.Rules.{rules}
 use Rattle.sheet_checks.proofs.section_filled.Goals as goal
 
 pub returns-then-section-eq-NO_SECTION : goal.returns-then-section-eq-NO_SECTION

@@ -1,6 +1,5 @@
 -- `window_ordered` meets its contract: the two numbers that are read are the bounds of the window; a field of another tag has none.
 use Rattle.sheet_checks.specs.NumberLaws.{window_read, no_window}
-use borrow.Author.Rules.{rules}
 use Rattle.sheet_checks.proofs.window_ordered.Goals as goal
 
 pub returns-then-tag-eq-FLIGHT_WINDOW_BLOCK : goal.returns-then-tag-eq-FLIGHT_WINDOW_BLOCK

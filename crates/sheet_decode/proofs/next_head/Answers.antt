@@ -5,7 +5,6 @@ use Prim.Native.Nat.{ℕ}
 use Rattle.base.specs.Branch.{flags}
 use Rattle.sheet.specs.Checks.{ends_section}
 use Rattle.sheet.specs.Decode.{next_head}
-use borrow.Author.Rules.{rules}
 use Rattle.sheet_decode.proofs.next_head.Goals as goal
 
 new-head : (tag head at : ℕ) (r : Bool) → r ≡ ends_section tag → r ≡ true → at ≡ next_head tag head at

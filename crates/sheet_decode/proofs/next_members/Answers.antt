@@ -1,7 +1,6 @@
 -- `next_members` meets its contract: each way through its tests is one through the definition.
 use Rattle.base.specs.Branch.{flags}
 use Rattle.sheet.specs.Decode.{next_members}
-use borrow.Author.Rules.{rules}
 use Rattle.sheet_decode.proofs.next_members.Goals as goal
 
 pub returns-then-ends_section : goal.returns-then-ends_section

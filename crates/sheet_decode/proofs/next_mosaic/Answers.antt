@@ -2,7 +2,6 @@
 use Rattle.base.specs.Branch.{branches}
 use Rattle.sheet.specs.Decode.{next_mosaic}
 use Rattle.sheet_decode.specs.Pre.{strip_pre}
-use borrow.Author.Rules.{rules}
 use Rattle.sheet_decode.proofs.next_mosaic.Goals as goal
 
 pub returns-then-tag-eq-MOSAIC_HEAD : goal.returns-then-tag-eq-MOSAIC_HEAD

@@ -1,6 +1,5 @@
 -- `next_reading` meets its contract: each section, and the reading's own numbers, after the field.
 use Rattle.sheet_decode.specs.DecodeLaws.{reading_is}
-use borrow.Author.Rules.{rules}
 use Rattle.sheet_decode.proofs.next_reading.Goals as goal
 
 pub returns : goal.returns

@@ -3,7 +3,6 @@ use Rattle.base.specs.Branch.{branches}
 use Rattle.sheet.specs.Decode.{next_sorting}
 use Rattle.sheet_decode.specs.Pre.{desk_pre}
 use Rattle.sheet_decode.specs.DecodeLaws.{sorting_strip_is}
-use borrow.Author.Rules.{rules}
 use Rattle.sheet_decode.proofs.next_sorting.Goals as goal
 
 pub returns-then-tag-eq-SORTING_HEAD : goal.returns-then-tag-eq-SORTING_HEAD

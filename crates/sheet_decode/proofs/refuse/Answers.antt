@@ -1,6 +1,5 @@
 -- `refuse` meets its contract: it is the definition, field by field.
 use Rattle.sheet_decode.specs.DecodeLaws.{refused_is}
-use borrow.Author.Rules.{rules}
 use Rattle.sheet_decode.proofs.refuse.Goals as goal
 
 pub returns : goal.returns

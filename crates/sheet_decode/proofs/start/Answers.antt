@@ -1,6 +1,5 @@
 -- `start` meets its contract: it is the definition, field by field.
 use Rattle.sheet_decode.specs.DecodeLaws.{start_is}
-use borrow.Author.Rules.{rules}
 use Rattle.sheet_decode.proofs.start.Goals as goal
 
 pub returns : goal.returns

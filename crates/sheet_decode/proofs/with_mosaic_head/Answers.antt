@@ -1,7 +1,6 @@
 -- `with_mosaic_head` meets its contract: the numbers read are those of the definition.
 use Rattle.sheet_decode.specs.DecodeLaws.{mosaic_head_is}
 use Rattle.sheet.specs.Decode.{zeros}
-use borrow.Author.Rules.{rules}
 use Rattle.sheet_decode.proofs.with_mosaic_head.Goals as goal
 
 pub returns : goal.returns

@@ -1,7 +1,5 @@
 -- `with_station_times` meets its contract. Invariant: the first k station times are stored.
-use Prim.Native.Nat.{◌-◌}
-use borrow.Author.Rules.{rules}
-use Rattle.sheet_decode.specs.DecodeLaws.{TimesStored, stored_none, stored_more, stored_all}
+use Rattle.sheet_decode.specs.DecodeLaws.{stored_none, stored_more, stored_all}
 use Rattle.sheet_decode.proofs.with_station_times.Goals as goal
 
 pub loop-k-init : goal.loop-k-init

@@ -1,7 +1,6 @@
 -- `with_station_times` meets its contract. Invariant: the first k station times are stored.
 use Prim.Native.Nat.{◌-◌}
-use borrow.Author.Rules.{rules}
-use Rattle.sheet_decode.specs.DecodeLaws.{TimesStored, stored_none, stored_more, stored_all}
+use Rattle.sheet_decode.specs.DecodeLaws.{TimesStored}
 use Rattle.sheet_decode.proofs.with_station_times.Given as goal
 
 abbrev pub invariant-loop-k : goal.invariant-loop-k

@@ -2,7 +2,6 @@
 use Rattle.sheet.specs.FieldTable.{flight_block, values_of}
 use Rattle.sheet.specs.Checks.{value_number}
 use Rattle.sheet_ranges.specs.RangeLaws.{value_fails, value_passes, value_last}
-use borrow.Author.Rules.{rules}
 use Rattle.sheet_ranges.proofs.flight_block_number.Goals as goal
 
 pub returns-then-of_first-ne0 : goal.returns-then-of_first-ne0

@@ -1,6 +1,5 @@
 -- `flight_head_number` meets its contract: an empty head has no value, one with a turn has one.
 use Rattle.sheet_ranges.specs.RangeLaws.{empty_head, turn_head}
-use borrow.Author.Rules.{rules}
 use Rattle.sheet_ranges.proofs.flight_head_number.Goals as goal
 
 pub returns-then-length-eq0 : goal.returns-then-length-eq0

@@ -1,7 +1,5 @@
 -- `mosaic_strip_number` meets its contract. Invariant: the first k station times pass, and the values from k on decide.
-use Prim.Native.Nat.{◌-◌}
-use Rattle.sheet_ranges.specs.RangeLaws.{TimesPassed, times_none, times_wrong, times_more, times_bench}
-use borrow.Author.Rules.{rules}
+use Rattle.sheet_ranges.specs.RangeLaws.{times_none, times_wrong, times_more, times_bench}
 use Rattle.sheet_ranges.proofs.mosaic_strip_number.Goals as goal
 
 pub loop-k-init : goal.loop-k-init

@@ -2,7 +2,6 @@
 use Rattle.sheet.specs.FieldTable.{sorting_head, values_of}
 use Rattle.sheet.specs.Checks.{value_number}
 use Rattle.sheet_ranges.specs.RangeLaws.{value_last}
-use borrow.Author.Rules.{rules}
 use Rattle.sheet_ranges.proofs.sorting_head_number.Goals as goal
 
 pub returns : goal.returns

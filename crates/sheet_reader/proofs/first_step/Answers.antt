@@ -1,6 +1,5 @@
 -- `first_step` meets its contract: the reading starts at the sheet's first byte.
 use Rattle.sheet_reader.specs.Loop.{first_step_is}
-use borrow.Author.Rules.{rules}
 use Rattle.sheet_reader.proofs.first_step.Goals as goal
 
 pub returns : goal.returns

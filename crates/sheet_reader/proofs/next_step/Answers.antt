@@ -1,6 +1,5 @@
 -- `next_step` meets its contract: each way out is the step that the definition gives for the field.
 use Rattle.sheet_reader.specs.Loop.{field_pre, progress_pre, step_at_end, step_at_cut, step_at_refused, step_at_next}
-use borrow.Author.Rules.{rules}
 use Rattle.sheet_reader.proofs.next_step.Goals as goal
 
 pub field_number-number-requires : goal.field_number-number-requires

@@ -1,8 +1,7 @@
 -- `sorting_labels::clear_labels` meets its contract. The loop's invariant: the table with the numbers passed cleared.
-use Rattle.sorting_labels.specs.Labels.{Clearing, clearing_none, clearing_more, clearing_all}
+use Rattle.sorting_labels.specs.Labels.{Clearing}
 use Rattle.sorting_bounds.specs.Layout.{labels_length}
 use Prim.Native.Nat.{◌-◌}
-use native.Mathlib.Omega.{arith}
 use Rattle.sorting_labels.proofs.clear_labels.Given as goal
 
 abbrev pub invariant-loop-i : goal.invariant-loop-i

@@ -1,7 +1,6 @@
 -- `sorting_labels::costliest_label` meets its contract. The loop's invariant: the first costliest of the labels passed.
-use Rattle.sorting_labels.specs.Labels.{costliest_of, costliest_first, costliest_next, costliest_kept, costliest_all}
-use mathlib.Core.Path.{◌≡◌, ◌∙◌}
-use Prim.Native.Nat.{◌≤◌, ◌<◌, ◌-◌}
+use Rattle.sorting_labels.specs.Labels.{costliest_first, costliest_next, costliest_kept, costliest_all}
+use mathlib.Core.Path.{◌∙◌}
 use native.Mathlib.Omega.{arith}
 use Rattle.sorting_labels.proofs.costliest_label.Goals as goal
 use Rattle.sorting_labels.proofs.costliest_label.Goals.{then-m-k, else-m-k}

@@ -1,9 +1,7 @@
 -- `sorting_labels::costliest_label` meets its contract. The loop's invariant: the first costliest of the labels passed.
-use Rattle.sorting_labels.specs.Labels.{costliest_of, costliest_first, costliest_next, costliest_kept, costliest_all}
-use mathlib.Core.Path.{◌≡◌, ◌∙◌}
-use mathlib.Core.Logic.{⊎_elim}
+use Rattle.sorting_labels.specs.Labels.{costliest_of}
+use mathlib.Core.Path.{◌≡◌}
 use Prim.Native.Nat.{◌≤◌, ◌<◌, ◌-◌}
-use native.Mathlib.Omega.{arith}
 use Rattle.sorting_labels.proofs.costliest_label.Given as goal
 
 abbrev pub invariant-loop-j : goal.invariant-loop-j

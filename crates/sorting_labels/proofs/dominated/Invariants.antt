@@ -1,9 +1,8 @@
 -- `sorting_labels::dominated` meets its contract. The loop's invariant: no label passed dominates the state.
-use Rattle.sorting_labels.specs.Labels.{dominated_by, dominated_none, dominated_not, dominated_at, dominated_all}
+use Rattle.sorting_labels.specs.Labels.{dominated_by}
 use mathlib.Core.Path.{◌≡◌}
 use mathlib.Core.Bool.{false}
-use Prim.Native.Nat.{◌≤◌, ◌<◌, ◌-◌}
-use native.Mathlib.Omega.{arith}
+use Prim.Native.Nat.{◌≤◌, ◌-◌}
 use Rattle.sorting_labels.proofs.dominated.Given as goal
 
 abbrev pub invariant-loop-j : goal.invariant-loop-j

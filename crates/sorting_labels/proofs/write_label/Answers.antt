@@ -1,7 +1,6 @@
 -- `sorting_labels::write_label` meets its contract: four stores, as the definition has them.
 use lib.ListN.{length-set}
 use native.Mathlib.Omega.{arith}
-use borrow.Author.Rules.{rules}
 use Rattle.sorting_labels.proofs.write_label.Goals as goal
 
 pub bounds-m-a-2 : goal.bounds-m-a-2

@@ -1,7 +1,6 @@
 -- `sorting_search::best_interleaving` meets its contract: the table holds at the start, and the search from the greedy figure plus one returns
 -- what it returns from no incumbent.
 use Rattle.sorting_search.specs.Found.{lower_bound_pre_start, search_pre_start, found}
-use borrow.Author.Rules.{rules}
 use Rattle.sorting_search.proofs.best_interleaving.Goals as goal
 
 pub greedy-g-requires : goal.greedy-g-requires

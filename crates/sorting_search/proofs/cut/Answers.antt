@@ -1,6 +1,5 @@
 -- `sorting_search::cut` meets its contract: each of its three tests is one law.
 use Rattle.sorting_search.specs.Table.{cut_by_scanner, cut_by_label, cut_by_desks, cut_by_none}
-use borrow.Author.Rules.{rules}
 use Rattle.sorting_search.proofs.cut.Goals as goal
 
 pub returns-then-figure-by_scanner : goal.returns-then-figure-by_scanner

@@ -1,6 +1,5 @@
 -- `add_batch` meets its contract: the stores change no batch before.
 use Rattle.mosaic.proofs.BatchLaws.{plan_added}
-use borrow.Author.Rules.{rules}
 use Rattle.mosaic.proofs.batches.add_batch.Goals as goal
 
 pub returns : goal.returns

@@ -1,7 +1,6 @@
 -- `choose_batches` meets its contract. Invariant: the batches written, with those that the recursion takes after them, are all that it takes.
 use Prim.Native.Nat.{◌-◌}
-use borrow.Author.Rules.{rules}
-use Rattle.mosaic.proofs.BatchLaws.{PlanSoFar, plan_start, plan_mounted, plan_first, plan_sub, plan_finish, plan_weight, plan_add, plan_step, plan_end}
+use Rattle.mosaic.proofs.BatchLaws.{PlanSoFar}
 use Rattle.mosaic.proofs.batches.choose_batches.Given as goal
 
 abbrev pub invariant-loop-i : goal.invariant-loop-i

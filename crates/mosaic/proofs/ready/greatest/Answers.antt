@@ -4,7 +4,6 @@ use mathlib.Core.Path.{◌≡◌}
 use mathlib.Core.Path.{refl}
 use native.Mathlib.Omega.{arith}
 use Rattle.base.specs.Sums.{greatest_over}
-use borrow.Author.Rules.{rules}
 use Rattle.mosaic.proofs.ready.greatest.Goals as goal
 
 pub returns-then-stations-eq0 : goal.returns-then-stations-eq0

@@ -1,8 +1,6 @@
 -- `prefix_sums` meets its contract. Invariant: the sum is that of the values passed, and so are the entries written.
 use mathlib.Core.Path.{refl}
-use Prim.Native.Nat.{◌-◌}
-use borrow.Author.Rules.{rules}
-use Rattle.mosaic.proofs.TimeLaws.{SumsSoFar, sums_start, sums_read, sums_fits, sums_step, sums_end}
+use Rattle.mosaic.proofs.TimeLaws.{sums_start, sums_read, sums_fits, sums_step, sums_end}
 use Rattle.mosaic.proofs.ready.prefix_sums.Goals as goal
 
 pub loop-j-init : goal.loop-j-init

@@ -1,8 +1,6 @@
 -- `ready_times` meets its contract. Invariant: the four sums are those of the strips passed, and so are the entries written.
 use mathlib.Core.Path.{refl}
-use Prim.Native.Nat.{◌-◌}
-use borrow.Author.Rules.{rules}
-use Rattle.mosaic.proofs.TimeLaws.{TimesSoFar, times_start, fits_a, fits_b, fits_c, fits_d, times_stations, times_step, times_end}
+use Rattle.mosaic.proofs.TimeLaws.{times_start, fits_a, fits_b, fits_c, fits_d, times_stations, times_step, times_end}
 use Rattle.mosaic.proofs.ready.ready_times.Goals as goal
 
 pub loop-j-init : goal.loop-j-init

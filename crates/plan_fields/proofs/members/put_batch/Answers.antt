@@ -1,6 +1,5 @@
 -- `plan_fields::members::put_batch` meets its contract: the stores one behind the other are the batch's field.
 use Rattle.plan_fields.specs.FieldLaws.{batch_stored}
-use borrow.Author.Rules.{rules}
 use Rattle.plan_fields.proofs.members.put_batch.Goals as goal
 
 pub returns : goal.returns

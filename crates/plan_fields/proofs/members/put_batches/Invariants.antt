@@ -3,8 +3,6 @@ use Prim.Native.Nat.{◌-◌}
 use Rattle.field.specs.Members.{Storing}
 use Rattle.rules.specs.Plan.{batch_bytes}
 use Rattle.plan_fields.specs.Stored.{batch_in}
-use Rattle.plan_fields.specs.MemberLaws.{batches_none, batches_more, batches_all}
-use borrow.Author.Rules.{rules}
 use Rattle.plan_fields.proofs.members.put_batches.Given as goal
 
 abbrev pub invariant-loop-i : goal.invariant-loop-i

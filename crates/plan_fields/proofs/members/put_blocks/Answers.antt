@@ -1,10 +1,5 @@
 -- `plan_fields::members::put_blocks` meets its contract: the first i blocks are stored.
-use Prim.Native.Nat.{◌-◌}
-use Rattle.field.specs.Members.{Storing}
-use Rattle.rules.specs.Plan.{passes_bytes}
-use Rattle.plan_fields.specs.Stored.{passes_in}
 use Rattle.plan_fields.specs.MemberLaws.{blocks_none, blocks_more, blocks_all}
-use borrow.Author.Rules.{rules}
 use Rattle.plan_fields.proofs.members.put_blocks.Goals as goal
 
 pub loop-i-init : goal.loop-i-init

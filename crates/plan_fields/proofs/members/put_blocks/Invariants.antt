@@ -3,8 +3,6 @@ use Prim.Native.Nat.{◌-◌}
 use Rattle.field.specs.Members.{Storing}
 use Rattle.rules.specs.Plan.{passes_bytes}
 use Rattle.plan_fields.specs.Stored.{passes_in}
-use Rattle.plan_fields.specs.MemberLaws.{blocks_none, blocks_more, blocks_all}
-use borrow.Author.Rules.{rules}
 use Rattle.plan_fields.proofs.members.put_blocks.Given as goal
 
 abbrev pub invariant-loop-i : goal.invariant-loop-i

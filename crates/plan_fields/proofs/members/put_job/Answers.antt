@@ -1,6 +1,5 @@
 -- `plan_fields::members::put_job` meets its contract: the stores one behind the other are the job's field.
 use Rattle.plan_fields.specs.FieldLaws.{job_stored}
-use borrow.Author.Rules.{rules}
 use Rattle.plan_fields.proofs.members.put_job.Goals as goal
 
 pub returns : goal.returns

@@ -1,10 +1,5 @@
 -- `plan_fields::members::put_jobs` meets its contract: the first i jobs are stored.
-use Prim.Native.Nat.{◌-◌}
-use Rattle.field.specs.Members.{Storing}
-use Rattle.rules.specs.Plan.{job_bytes}
-use Rattle.plan_fields.specs.Stored.{job_in}
 use Rattle.plan_fields.specs.MemberLaws.{jobs_none, jobs_more, jobs_all}
-use borrow.Author.Rules.{rules}
 use Rattle.plan_fields.proofs.members.put_jobs.Goals as goal
 
 pub loop-i-init : goal.loop-i-init

@@ -3,8 +3,6 @@ use Prim.Native.Nat.{◌-◌}
 use Rattle.field.specs.Members.{Storing}
 use Rattle.rules.specs.Plan.{job_bytes}
 use Rattle.plan_fields.specs.Stored.{job_in}
-use Rattle.plan_fields.specs.MemberLaws.{jobs_none, jobs_more, jobs_all}
-use borrow.Author.Rules.{rules}
 use Rattle.plan_fields.proofs.members.put_jobs.Given as goal
 
 abbrev pub invariant-loop-i : goal.invariant-loop-i

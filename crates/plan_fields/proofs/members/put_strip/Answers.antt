@@ -1,6 +1,5 @@
 -- `plan_fields::members::put_strip` meets its contract: the stores one behind the other begin a job's field.
 use Rattle.plan_fields.specs.FieldLaws.{strip_stored}
-use borrow.Author.Rules.{rules}
 use Rattle.plan_fields.proofs.members.put_strip.Goals as goal
 
 pub returns : goal.returns

@@ -1,6 +1,5 @@
 -- `plan_fields::tag::put_tag` meets its contract: the tag, and the content length behind it.
 use Rattle.plan_fields.specs.FieldLaws.{tag_room, tag_kept, tag_stored}
-use borrow.Author.Rules.{rules}
 use Rattle.plan_fields.proofs.tag.put_tag.Goals as goal
 
 pub put_number-requires : goal.put_number-requires

@@ -1,8 +1,7 @@
 -- `ready_time` meets its contract. Invariant: `greatest` is the greatest sum of the first k stations.
 use Prim.Native.Nat.{◌-◌}
-use borrow.Author.Rules.{rules}
-use Rattle.running.specs.FunctionLaws.{Greatest, greatest_none, greatest_more, greatest_all}
-use mathlib.Core.Path.{◌≡◌, refl}
+use Rattle.running.specs.FunctionLaws.{Greatest}
+use mathlib.Core.Path.{◌≡◌}
 use Rattle.running.proofs.mosaic.ready_time.Given as goal
 
 abbrev pub invariant-loop-k : goal.invariant-loop-k

@@ -1,9 +1,5 @@
 -- `station_sum` meets its contract. Invariant: `sum` is the sum of the first i times of the station, each at most the greatest time.
-use Prim.Native.Nat.{◌+◌, ◌-◌, ◌*◌}
-use lib.ListN.{get_or}
-use native.Mathlib.Omega.{arith}
-use Rattle.running.specs.FunctionLaws.{Summed, sum_none, station_more, station_fits, station_all}
-use Rattle.sheet.specs.Limits.{most_time}
+use Rattle.running.specs.FunctionLaws.{sum_none, station_more, station_fits, station_all}
 use Rattle.running.proofs.mosaic.station_sum.Goals as goal
 
 pub loop-i-init : goal.loop-i-init

@@ -1,10 +1,5 @@
 -- `sum_after` meets its contract. Invariant: `sum` is the sum of the first k values, each at most the greatest time.
-use Prim.Native.Nat.{◌+◌, ◌-◌}
-use lib.ListN.{get_or}
-use native.Mathlib.Omega.{arith}
-use borrow.Author.Rules.{rules}
-use Rattle.running.specs.FunctionLaws.{Summed, sum_none, after_more, after_fits, after_all}
-use Rattle.sheet.specs.Limits.{most_time}
+use Rattle.running.specs.FunctionLaws.{sum_none, after_more, after_fits, after_all}
 use Rattle.running.proofs.mosaic.sum_after.Goals as goal
 
 pub loop-k-init : goal.loop-k-init

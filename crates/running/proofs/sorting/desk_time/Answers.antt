@@ -1,6 +1,5 @@
 -- `desk_time` meets its contract: a strip of a sound section has its slot in the array.
 use Rattle.running.specs.FunctionLaws.{desk_told}
-use borrow.Author.Rules.{rules}
 use Rattle.running.proofs.sorting.desk_time.Goals as goal
 
 pub returns : goal.returns

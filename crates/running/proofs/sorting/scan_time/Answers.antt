@@ -1,6 +1,5 @@
 -- `scan_time` meets its contract: a strip of a sound section has its slot in the array.
 use Rattle.running.specs.FunctionLaws.{scan_told}
-use borrow.Author.Rules.{rules}
 use Rattle.running.proofs.sorting.scan_time.Goals as goal
 
 pub returns : goal.returns

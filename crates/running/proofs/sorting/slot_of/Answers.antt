@@ -1,6 +1,5 @@
 -- `slot_of` meets its contract: a strip that a section may have has its slot.
 use Rattle.running.specs.FunctionLaws.{slot_told}
-use borrow.Author.Rules.{rules}
 use Rattle.running.proofs.sorting.slot_of.Goals as goal
 
 pub returns : goal.returns

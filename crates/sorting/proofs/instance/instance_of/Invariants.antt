@@ -1,7 +1,6 @@
 -- `sorting::instance::instance_of` meets its contract. The loop's invariant: the counts, and the times and weights written so far.
-use Rattle.sorting.specs.Instance.{Timed, timed_start, timed_more, timed_end}
+use Rattle.sorting.specs.Instance.{Timed}
 use Prim.Native.Nat.{◌-◌}
-use borrow.Author.Rules.{rules}
 use Rattle.sorting.proofs.instance.instance_of.Given as goal
 
 abbrev pub invariant-loop-k : goal.invariant-loop-k

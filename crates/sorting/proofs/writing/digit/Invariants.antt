@@ -1,8 +1,6 @@
 -- `sorting::writing::digit` meets its contract. The loop's invariant: the rest is the number without its last i digits.
-use Rattle.sorting.specs.Writing.{digit_start, digit_more, digit_end}
 use Prim.Native.Nat.{◌-◌, ◌/◌, ◌^◌, ◌≤◌}
 use mathlib.Core.Path.{◌≡◌}
-use native.Mathlib.Omega.{arith}
 use Rattle.sorting.proofs.writing.digit.Given as goal
 
 abbrev pub invariant-loop-i : goal.invariant-loop-i

@@ -1,7 +1,5 @@
 -- `sorting::writing::with_job` meets its contract: four stores at the plan's end. The step's caps keep the sums from wrapping.
 use Rattle.sorting.specs.Writing.{with_job_is}
-use native.Mathlib.Omega.{arith}
-use borrow.Author.Rules.{rules}
 use Rattle.sorting.proofs.writing.with_job.Goals as goal
 
 pub returns : goal.returns

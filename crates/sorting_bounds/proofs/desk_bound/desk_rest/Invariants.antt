@@ -1,12 +1,9 @@
 -- `sorting_bounds::desk_bound::desk_rest` meets its contract. The loop's invariant: what is summed and what is left are together the whole rest;
 -- each strip adds at most `rest_span`.
-use Rattle.sorting_bounds.specs.DeskBound.{alone_sum, desk_rest, RestSoFar, rest_none, rest_more, rest_all, rest_small, strip_small, greater_small}
-use Rattle.sorting_bounds.specs.DeskBound.{weighted_small}
+use Rattle.sorting_bounds.specs.DeskBound.{alone_sum, RestSoFar}
 use lib.ListN.{get_or}
-use borrow.Author.Rules.{rules}
-use mathlib.Core.Path.{◌≡◌, refl}
+use mathlib.Core.Path.{◌≡◌}
 use Prim.Native.Nat.{◌-◌}
-use native.Mathlib.Omega.{arith}
 use Rattle.sorting_bounds.proofs.desk_bound.desk_rest.Given as goal
 
 abbrev pub invariant-loop-i : goal.invariant-loop-i

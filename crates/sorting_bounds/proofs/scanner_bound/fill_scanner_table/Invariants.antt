@@ -1,6 +1,5 @@
 -- `sorting_bounds::scanner_bound::fill_scanner_table` meets its contract. The loop's invariant: the table is the definition's with the entries from k on.
-use Rattle.sorting_bounds.specs.ScannerTable.{Filling, filling_start, filling_enter, filling_more, filling_end}
-use native.Mathlib.Omega.{arith}
+use Rattle.sorting_bounds.specs.ScannerTable.{Filling}
 use Rattle.sorting_bounds.proofs.scanner_bound.fill_scanner_table.Given as goal
 
 abbrev pub invariant-loop-k : goal.invariant-loop-k

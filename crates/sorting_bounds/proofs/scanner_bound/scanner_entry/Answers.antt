@@ -2,7 +2,6 @@
 use Rattle.sorting_bounds.specs.ScannerTable.{enter_first, enter_second, enter_third, entry_none, entry_some}
 use mathlib.Core.Path.{refl}
 use native.Mathlib.Omega.{arith}
-use borrow.Author.Rules.{rules}
 use Rattle.sorting_bounds.proofs.scanner_bound.scanner_entry.Goals as goal
 
 pub returns-then-jobs-a : goal.returns-then-jobs-a

@@ -1,7 +1,6 @@
 -- `sorting_bounds::scanner_bound::through` meets its contract: the two cases of the definition. The entry behind is at most `entry_cap`, so that no sum wraps.
 use Rattle.sorting_bounds.specs.ScannerTable.{strip_sums, through_none, through_some}
 use native.Mathlib.Omega.{arith}
-use borrow.Author.Rules.{rules}
 use Rattle.sorting_bounds.proofs.scanner_bound.through.Goals as goal
 
 pub returns-then-jobs-d : goal.returns-then-jobs-d

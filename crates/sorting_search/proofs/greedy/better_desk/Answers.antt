@@ -1,6 +1,5 @@
 -- `sorting_search::greedy::better_desk` meets its contract: both desks have a strip left where they are compared.
 use Rattle.sorting_search.specs.Greedy.{serve_if, lower_bound_pre_step, better_other, better_chosen, better_none}
-use borrow.Author.Rules.{rules}
 use Rattle.sorting_search.proofs.greedy.better_desk.Goals as goal
 
 pub lower_bound-by_chosen-requires : goal.lower_bound-by_chosen-requires

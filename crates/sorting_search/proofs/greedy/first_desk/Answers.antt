@@ -1,6 +1,5 @@
 -- `sorting_search::greedy::first_desk` meets its contract: each way out is one law.
 use Rattle.sorting_search.specs.Greedy.{first_is_0, first_is_1, first_is_2}
-use borrow.Author.Rules.{rules}
 use Rattle.sorting_search.proofs.greedy.first_desk.Goals as goal
 
 pub returns-then-strip_left : goal.returns-then-strip_left

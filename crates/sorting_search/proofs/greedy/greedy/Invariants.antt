@@ -1,6 +1,5 @@
 -- `sorting_search::greedy::greedy` meets its contract. The loop's invariant: the greedy list of the present state is the rest of that of the first.
-use Rattle.sorting_search.specs.Greedy.{Leads, leads_start, leads_going, leads_serves, leads_step, leads_less, leads_end}
-use native.Mathlib.Omega.{arith}
+use Rattle.sorting_search.specs.Greedy.{Leads}
 use Rattle.sorting_search.proofs.greedy.greedy.Given as goal
 
 abbrev pub invariant-loop-t : goal.invariant-loop-t
