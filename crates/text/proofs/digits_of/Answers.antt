@@ -1,5 +1,4 @@
 -- `digits_of` meets its contract: a number of 64 bits has at most 20 digits.
-use borrow.Author.Rules.{rules}
 use Rattle.text.specs.Text.{digits_few}
 use Rattle.text.proofs.digits_of.Goals as goal
 

@@ -1,8 +1,5 @@
 -- `put_bytes` meets its contract. Invariant: the first `done` bytes are stored.
-use Prim.Native.Nat.{◌-◌}
-use borrow.Author.Rules.{rules}
-use lib.ListN.{length}
-use Rattle.text.specs.Text.{Storing, storing_none, storing_more, storing_all}
+use Rattle.text.specs.Text.{storing_none, storing_more, storing_all}
 use Rattle.text.proofs.put_bytes.Goals as goal
 
 pub loop-done-init : goal.loop-done-init

@@ -1,5 +1,4 @@
 -- `put_decimal` meets its contract: the digits stand behind the name.
-use borrow.Author.Rules.{rules}
 use Rattle.text.specs.Text.{decimal_put}
 use Rattle.text.proofs.put_decimal.Goals as goal
 
