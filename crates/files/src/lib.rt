@@ -20,6 +20,9 @@ pub struct Received {
     pub failed: bool,
 }
 
+// How many bytes of an input a program reads at most.
+pub const LARGEST_INPUT: usize = 65_536;
+
 // The error of an argument that is missing, and of one that is longer than any file's name, as the system counts them.
 const INVALID_ARGUMENT: i32 = 22;
 

@@ -1,5 +1,4 @@
 -- `put_reply` meets its contract: what an accepted call wrote stays, and the field of a refusal is what is put.
-use borrow.Author.Rules.{rules}
 use Rattle.reply.specs.Reply.{reply_kept, reply_refused}
 use Rattle.reply.proofs.put_reply.Goals as goal
 
