@@ -1,7 +1,6 @@
 -- `report_all` meets its contract. Only that it ends is shown: each turn moves on in the row of cases.
 use Prim.Native.Nat.{◌-◌}
 use lib.ListN.{length}
-use borrow.Author.Rules.{rules}
 use Rattle.judge_cases.proofs.report_all.Given as goal
 
 abbrev pub invariant-loop-at : goal.invariant-loop-at

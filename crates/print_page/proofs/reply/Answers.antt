@@ -1,6 +1,5 @@
 -- `print_page::reply` meets its contract: what the call leaves, and what is put for its answer.
 use Rattle.print_page.specs.Laws.{page_asked, page_replied}
-use borrow.Author.Rules.{rules}
 use Rattle.print_page.proofs.reply.Goals as goal
 
 pub put_reply-requires : goal.put_reply-requires
