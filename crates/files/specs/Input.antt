@@ -1,8 +1,9 @@
--- What of a buffer counts after reading. Which bytes a read delivers is C's, and no definition can say it.
-use Rattle.std.specs.Prelude.{ℕ, ◌+◌, ◌≤◌, ◌≡◌, refl, true, false, List, take}
+-- What of a buffer counts after reading. Which bytes a read of the system delivers no definition can say: `GivesAll` speaks of readers that say it.
+use Rattle.std.specs.Prelude.{ℕ, ◌+◌, ◌≤◌, ◌≡◌, refl, true, false, List, take, Option, Result, Ok, Err, IfSome}
 use Rattle.std.proofs.Common.{sym, arith, length-take-le}
 use Rattle.std.proofs.Math.ListN as lists
 use Rattle.io.specs.Counts.{IsPrefixLen}
+use Rattle.std.specs.declared.io.Error.{Error}
 use Rattle.files.specs.declared.Received.{Received}
 
 -- one read: what was read before it stays, and what it adds lies within the buffer
@@ -14,10 +15,19 @@ pub record Piece (at : ℕ) (before after : List ℕ) (r : Received) : Type 0 wh
 abbrev pub nothing : Received
 nothing = record { length = 0; failed = true }
 
+-- what a read is to a program: the number of its bytes, or a failure
+abbrev pub received : Result ℕ Error → Received
+received (Ok n) = record { length = n; failed = false }
+received (Err e) = nothing
+
 -- a whole input: at most as many bytes as the buffer has, and none where it failed
 pub record Whole (buffer : List ℕ) (r : Received) : Type 0 where
   pub counts : IsPrefixLen r.length buffer
   pub none : r.failed ≡ true → r.length ≡ 0
+
+-- Of a reader whose bytes are known, what counts of the buffer is all of them, or as many as the buffer takes.
+abbrev pub GivesAll : Option (List ℕ) → List ℕ → Received → Type 0
+GivesAll known buffer r = r.failed ≡ false → IfSome known (λ xs. take r.length buffer ≡ take (lists.length buffer) xs)
 
 pub whole_none : (buffer : List ℕ) (r : Received) → r ≡ nothing → Whole buffer r
 whole_none buffer r e = rw e (record { counts = (omega arith, refl); none = λ h. refl })

@@ -2,9 +2,10 @@
 // Of each file at most the first 65,536 bytes are read. A file that cannot be read gets a message on standard error, and no figures.
 #![tactic(auto)]
 
+use files::LARGEST_INPUT;
 use text::{put_bytes, put_decimal};
 
-fn report(sheet: &[u8], plan: &[u8]) {
+fn report(rt: &HostRuntime, sheet: &[u8], plan: &[u8]) {
     let judged = judge::judge(sheet, plan);
     let mut out = [0u8; 160];
     let mut at = put_decimal(&mut out, 0, b"number ", judged.number);
@@ -13,24 +14,35 @@ fn report(sheet: &[u8], plan: &[u8]) {
     at = put_decimal(&mut out, at, b"\nsorting ", judged.sorting);
     at = put_decimal(&mut out, at, b"\nflight ", judged.flight);
     at = put_bytes(&mut out, at, b"\n");
-    files::write_output(b"judge_plan", &out[..at]);
+    files::write_output(
+        &mut rt.stderr(),
+        &mut rt.stdout(),
+        b"judge_plan",
+        &out[..at],
+    );
 }
 
-fn main() {
-    if !files::started_with(os::arg_count(), 3, b"usage: judge_plan SHEET PLAN\n") {
+fn main(rt: HostRuntime) {
+    let mut err = rt.stderr();
+    if !files::started_with(
+        &mut err,
+        files::word_count(&rt),
+        3,
+        b"usage: judge_plan SHEET PLAN\n",
+    ) {
         return;
     }
-    let mut sheet = io::large_buffer();
-    let sheet_read = files::read_argument(b"judge_plan", 1, b"SHEET", &mut sheet);
+    let mut sheet = [0u8; LARGEST_INPUT];
+    let sheet_read = files::read_argument(&rt, &mut err, b"judge_plan", 1, b"SHEET", &mut sheet);
     if sheet_read.failed {
         return;
     }
-    let mut plan = io::large_buffer();
-    let plan_read = files::read_argument(b"judge_plan", 2, b"PLAN", &mut plan);
+    let mut plan = [0u8; LARGEST_INPUT];
+    let plan_read = files::read_argument(&rt, &mut err, b"judge_plan", 2, b"PLAN", &mut plan);
     if plan_read.failed {
         return;
     }
     let sheet_length = sheet_read.length;
     let plan_length = plan_read.length;
-    report(&sheet[..sheet_length], &plan[..plan_length]);
+    report(&rt, &sheet[..sheet_length], &plan[..plan_length]);
 }

@@ -5,6 +5,7 @@ ghost use Rattle.reply.specs.Reply.{Replied};
 ghost use Rattle.planner.specs.Outcomes.{Large};
 ghost use Rattle.plan_sheet.specs.Reply.{sheet_reply};
 
+use files::LARGEST_INPUT;
 use reply::put_reply;
 use sheet::limits::{PLAN_LENGTH, TABLE_LENGTH};
 
@@ -17,12 +18,24 @@ fn reply(sheet: &[u8], out: &mut [u8], table: &mut [u64]) -> usize
     put_reply(out, answer)
 }
 
-fn main() {
-    if !files::started_with(os::arg_count(), 1, b"usage: plan_sheet < SHEET > PLAN\n") {
+fn main(rt: HostRuntime) {
+    let mut err = rt.stderr();
+    if !files::started_with(
+        &mut err,
+        files::word_count(&rt),
+        1,
+        b"usage: plan_sheet < SHEET > PLAN\n",
+    ) {
         return;
     }
-    let mut buffer = io::large_buffer();
-    let input = files::read_whole(0, b"plan_sheet", b"standard input", &mut buffer);
+    let mut buffer = [0u8; LARGEST_INPUT];
+    let input = files::read_whole(
+        &mut err,
+        &mut rt.stdin(),
+        b"plan_sheet",
+        b"standard input",
+        &mut buffer,
+    );
     if input.failed {
         return;
     }
@@ -30,5 +43,5 @@ fn main() {
     let mut out = [0u8; PLAN_LENGTH];
     let mut table = [0u64; TABLE_LENGTH];
     let written = reply(&buffer[..length], &mut out, &mut table);
-    files::write_output(b"plan_sheet", &out[..written]);
+    files::write_output(&mut err, &mut rt.stdout(), b"plan_sheet", &out[..written]);
 }

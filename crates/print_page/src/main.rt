@@ -7,6 +7,7 @@ ghost use Rattle.reply.specs.Reply.{Replied};
 ghost use Rattle.sheet.specs.Limits.{page_length};
 ghost use Rattle.print_page.specs.Reply.{page_reply};
 
+use files::LARGEST_INPUT;
 use reply::put_reply;
 use sheet::limits::PAGE_LENGTH;
 
@@ -19,17 +20,23 @@ fn reply(sheet: &[u8], plan: &[u8], out: &mut [u8]) -> usize
     put_reply(out, answer)
 }
 
-fn main() {
-    if !files::started_with(os::arg_count(), 3, b"usage: print_page SHEET PLAN\n") {
+fn main(rt: HostRuntime) {
+    let mut err = rt.stderr();
+    if !files::started_with(
+        &mut err,
+        files::word_count(&rt),
+        3,
+        b"usage: print_page SHEET PLAN\n",
+    ) {
         return;
     }
-    let mut sheet = io::large_buffer();
-    let sheet_read = files::read_argument(b"print_page", 1, b"SHEET", &mut sheet);
+    let mut sheet = [0u8; LARGEST_INPUT];
+    let sheet_read = files::read_argument(&rt, &mut err, b"print_page", 1, b"SHEET", &mut sheet);
     if sheet_read.failed {
         return;
     }
-    let mut plan = io::large_buffer();
-    let plan_read = files::read_argument(b"print_page", 2, b"PLAN", &mut plan);
+    let mut plan = [0u8; LARGEST_INPUT];
+    let plan_read = files::read_argument(&rt, &mut err, b"print_page", 2, b"PLAN", &mut plan);
     if plan_read.failed {
         return;
     }
@@ -37,5 +44,5 @@ fn main() {
     let plan_length = plan_read.length;
     let mut out = [0u8; PAGE_LENGTH];
     let written = reply(&sheet[..sheet_length], &plan[..plan_length], &mut out);
-    files::write_output(b"print_page", &out[..written]);
+    files::write_output(&mut err, &mut rt.stdout(), b"print_page", &out[..written]);
 }

@@ -1,15 +1,11 @@
--- `read_whole` meets its contract. Invariant: what was read lies within the buffer.
-use Rattle.files.specs.Input.{whole_none, whole_read, whole_ended}
+-- `read_whole` meets its contract: what each read adds stands behind what was read before.
+use Rattle.std.proofs.Common.{rules}
+use Rattle.files.proofs.Reading.{consumes_more}
 use Rattle.files.proofs.read_whole.Goals as goal
 
-pub returns-then-file-lt0 : goal.returns-then-file-lt0
-returns-then-file-lt0 c = search whole_none
-
-pub returns-then-piece : goal.returns-then-piece
-returns-then-piece c = search whole_none
-
-pub returns-after-loop-length : goal.returns-after-loop-length
-returns-after-loop-length c = search whole_read
-
-pub returns-then-more-eq0 : goal.returns-then-more-eq0
-returns-then-more-eq0 c = search whole_ended
+pub loop-length-preserved : goal.loop-length-preserved
+loop-length-preserved g c = record {
+  within = search rules;
+  long = search rules;
+  consumed = consumes_more _ _ _ _ _ _ _ c.in-Ok.ensures.piece.kept c.loop-length.invariant.consumed c.in-Ok.ensures.bytes.0;
+}
