@@ -22,37 +22,43 @@ use Rattle.sheet.specs.Tags.{flight_window_block_tag, plan_mosaic_tag, plan_sort
 use Rattle.sheet.specs.Refusals.{length_wrong, out_of_range, order_impossible, buffer_too_small, layout_wrong, rule_broken, figure_untrue, time_too_large, time_of_zero}
 use Rattle.sheet.specs.Refusals.{longest_below_shortest}
 use Rattle.sheet.specs.Read.{read_sheet}
-use Rattle.sheet.specs.Theorems.{read_sound}
+use Rattle.sheet.proofs.Theorems.{read_sound}
 use Rattle.sheet.specs.Among.{Among}
 use Rattle.sheet.specs.FieldTable.{Between, TableRow, field_table, table_of, length_of, lengths_due, turn_flight_head, Value, values_of}
-use Rattle.sheet.specs.Contents.{RowOfLength, head_lengths, head_length_lem, flight_head_values_lem}
+use Rattle.sheet.specs.Contents.{RowOfLength}
+use Rattle.sheet.proofs.Contents.{head_lengths, head_length_lem, flight_head_values_lem}
 use Rattle.sheet.specs.Causes.{NoMembers, OrderMissing, Permitted, FirstOut, CountOutOfRange, TimeTooLarge, TimeOfZero, TooMany, field_rows, rows_at}
 use Rattle.sheet.specs.Table.{Reached, RefusedFor, RefusedForContent, RefusedForValue, RefusedForLongestBelowShortest}
 use Rattle.sheet.specs.Rows.{row_at}
-use Rattle.sheet.specs.Decided.{whole_at_not_cut}
-use Rattle.sheet.specs.Theorems.{at_field}
-use Rattle.sheet.specs.Refused.{sound_exactly, not_eleven}
-use Rattle.sheet.specs.Values.{count_exactly, too_large_exactly, zero_exactly, window_exactly}
+use Rattle.sheet.proofs.Decided.{whole_at_not_cut}
+use Rattle.sheet.proofs.Theorems.{at_field}
+use Rattle.sheet.proofs.Refused.{sound_exactly, not_eleven}
+use Rattle.sheet.proofs.Values.{count_exactly, too_large_exactly, zero_exactly, window_exactly}
 use Rattle.sheet.specs.Sections.{in_flight}
 use Rattle.sheet.specs.Checks.{ends_section}
 use Rattle.sheet.specs.Decode.{zeros, exact_block, next_members}
-use Rattle.sheet.specs.Stores.{length_zeros}
+use Rattle.sheet.proofs.Stores.{length_zeros}
 use Rattle.sheet.specs.Sound.{SheetSound, strips_in_all}
-use Rattle.sheet.specs.FlightPlaces.{FieldRead, HeadRead, head_read, order_read, block_at, BlockRead, block_read}
+use Rattle.sheet.specs.FlightPlaces.{FieldRead, HeadRead, block_at, BlockRead}
+use Rattle.sheet.proofs.FlightPlaces.{head_read, order_read, block_read}
 use Rattle.sheet.specs.MovedPlaces.{moved_place, SameButPlaces}
-use Rattle.sheet.specs.AbsentWeight.{StripAt, without_weight, with_weight_one, absent_weight}
-use Rattle.sheet.specs.Weights.{WeightOut, weight_refused, MosaicWeightRead, SortingWeightRead, mosaic_weight_read, sorting_weight_read, Unweighted}
-use Rattle.sheet.specs.Weights.{unweighted_mosaic, unweighted_sorting}
-use Rattle.sheet.specs.WrittenZero.{with_empty_head, with_written_zero, written_zero}
-use Rattle.sheet.specs.OneValue.{with_exact_delay, with_one_value, one_value}
+use Rattle.sheet.specs.AbsentWeight.{StripAt, without_weight, with_weight_one}
+use Rattle.sheet.proofs.AbsentWeight.{absent_weight}
+use Rattle.sheet.specs.Weights.{WeightOut, MosaicWeightRead, SortingWeightRead, Unweighted}
+use Rattle.sheet.proofs.Weights.{weight_refused, mosaic_weight_read, sorting_weight_read}
+use Rattle.sheet.proofs.Weights.{unweighted_mosaic, unweighted_sorting}
+use Rattle.sheet.specs.WrittenZero.{with_empty_head, with_written_zero}
+use Rattle.sheet.proofs.WrittenZero.{written_zero}
+use Rattle.sheet.specs.OneValue.{with_exact_delay, with_one_value}
+use Rattle.sheet.proofs.OneValue.{one_value}
 use Rattle.sheet.specs.SectionLaws.{BlockSound}
 use Rattle.sheet.specs.declared.Block.{Block}
 use Rattle.sheet.specs.declared.Reading.{Reading}
 use Rattle.sheet.specs.declared.FlightSection.{FlightSection}
 use Rattle.sheet.specs.declared.Sheet.{Sheet}
 use Rattle.sheet_lengths.specs.Lengths.{lengths_given, GivesLength}
-use Rattle.sheet_lengths.specs.Theorems.{row_length, length_row, sole_row_length, head_lengths_due, strip_lengths_due, desk_strip_lengths_due, no_length}
-use Rattle.sheet_lengths.specs.Theorems.{other_tag_none, other_count_none}
+use Rattle.sheet_lengths.proofs.Theorems.{row_length, length_row, sole_row_length, head_lengths_due, strip_lengths_due, desk_strip_lengths_due, no_length}
+use Rattle.sheet_lengths.proofs.Theorems.{other_tag_none, other_count_none}
 use Rattle.sheet_lengths.specs.declared.LengthDue.{LengthDue}
 use Rattle.sheet_lengths.specs.declared.LengthDue.TheVariants.{Bytes, Either, None}
 use Rattle.order.specs.Order.{Proper}
@@ -70,44 +76,61 @@ use Rattle.rules.specs.Plan.{Plan, members_bytes, batch_bytes, job_bytes, mosaic
 use Rattle.plan_format.specs.Format.{size_of, flight_head_form, numbers_bytes, form_bytes}
 use Rattle.plan_format.specs.ByteLaws.{AreBytes}
 use Rattle.plan_read.specs.PlanRead.{batch_from, passes_from, blocks_from}
-use Rattle.rules_laws.specs.FlightRunning.{all_apart}
-use Rattle.rules_laws.specs.Turns.{NextApart, neighbours_apart, neighbours_enough}
-use Rattle.rules_laws.specs.Delays.{with_delays, DelaysChosen, exact_delay, choice_kept, kept_choice, same_order, same_figure}
-use Rattle.rules_laws.specs.Mounts.{MountsWait, waiting_obeys, MountsMoved, moved_obeys, moved_figure}
-use Rattle.rules_laws.specs.Determined.{plan_most, plan_determined}
-use Rattle.rules_laws.specs.Fits.{mosaic_figure_most, sorting_figure_most}
-use Rattle.rules_laws.specs.Present.{present_some}
-use Rattle.rules_laws.specs.Unweighted.{completion_sum, finish_sum, mosaic_unweighted, sorting_unweighted}
+use Rattle.rules_laws.proofs.FlightRunning.{all_apart}
+use Rattle.rules_laws.specs.Turns.{NextApart}
+use Rattle.rules_laws.proofs.Turns.{neighbours_apart, neighbours_enough}
+use Rattle.rules_laws.specs.Delays.{with_delays, DelaysChosen}
+use Rattle.rules_laws.proofs.Delays.{exact_delay, kept_choice, same_order, same_figure}
+use Rattle.rules_laws.proofs.Delays.{choice_kept}
+use Rattle.rules_laws.specs.Mounts.{MountsWait, MountsMoved}
+use Rattle.rules_laws.proofs.Mounts.{waiting_obeys, moved_obeys, moved_figure}
+use Rattle.rules_laws.proofs.Determined.{plan_most, plan_determined}
+use Rattle.rules_laws.proofs.Fits.{mosaic_figure_most}
+use Rattle.rules_laws.proofs.SortingFits.{sorting_figure_most}
+use Rattle.rules_laws.proofs.Present.{present_some}
+use Rattle.rules_laws.specs.Unweighted.{completion_sum, finish_sum}
+use Rattle.rules_laws.proofs.Unweighted.{mosaic_unweighted, sorting_unweighted}
 use Rattle.judge.specs.Judged.{part_at, turned_back, found, judged}
 use Rattle.judge_members.specs.Members.{present, member_place}
 use Rattle.judge_members.specs.declared.Progress.{Progress}
 use Rattle.judge_laws.specs.Due.{DueUpTo, LayoutFault, LaidOut}
-use Rattle.judge_laws.specs.HeadLength.{EightByteHead, another_length_not_due}
+use Rattle.judge_laws.specs.HeadLength.{EightByteHead}
+use Rattle.judge_laws.proofs.HeadLength.{another_length_not_due}
 use Rattle.judge.specs.declared.Judged.{Judged}
 use Rattle.judge_laws.specs.Fault.{MemberFollows, HeadFollows, SectionFault, Fault}
 use Rattle.judge_laws.specs.Fault.{Reached as Judging}
-use Rattle.judge_laws.specs.OtherPlace.{same_judged, same_refused}
-use Rattle.judge_laws.specs.Theorems.{FiguresTrue, FiguresGiven, judge_allows, allowed_judged, allowed_found, allowed_stated, judged_figures, figures_given}
-use Rattle.judge_laws.specs.Theorems.{fault_judged, judged_fault, judged_sheet_only}
+use Rattle.judge_laws.proofs.OtherPlace.{same_judged, same_refused}
+use Rattle.judge_laws.specs.Theorems.{FiguresTrue, FiguresGiven}
+use Rattle.judge_laws.proofs.Theorems.{judge_allows, allowed_judged, allowed_found, allowed_stated, judged_figures, figures_given}
+use Rattle.judge_laws.proofs.Theorems.{fault_judged, judged_fault, judged_sheet_only}
 use Rattle.mosaic.specs.Plan.{lasts}
-use Rattle.mosaic.specs.Theorems.{mosaic_ceiling, mosaic_mounts}
-use Rattle.sorting.specs.Theorems.{sorting_ceiling}
+use Rattle.mosaic.proofs.Theorems.{mosaic_ceiling, mosaic_mounts}
+use Rattle.sorting.proofs.Theorems.{sorting_ceiling}
 use Rattle.flight.specs.Chosen.{LongestBelowTurn}
 use Rattle.flight.specs.Choice.{one_by_one, chosen_order}
 use Rattle.flight.specs.Theorems.{flight_ceiling, flight_figure_lem, flight_least, flight_unsearched}
 use Rattle.planner.specs.Call.{chosen_plan, sheet_answer, answer_of, cleared_to, table_after, Called}
-use Rattle.planner.specs.Outcomes.{Large, Accepted, call_accepted, call_refused, call_small, call_cleared, our_bytes}
-use Rattle.planner.specs.TurnedBack.{TurnedBack, turned_back_lem, turned_back_only, eleven_only, sheet_only, else_accepted}
-use Rattle.planner.specs.Theorems.{figure_of_mosaic, figure_of_sorting, figure_of_flight, Least, Impossible, plan_lawful, plan_least_mosaic, plan_least_sorting}
-use Rattle.planner.specs.OtherPlace.{moved_answer, same_answer, same_buffer, same_table}
-use Rattle.planner.specs.Theorems.{NoTimetable, NoProperOrder, free_impossible_exactly, plan_least_flight, plan_early_mosaic, plan_early_sorting, plan_early_flight, plan_earliest, plan_taken, taken_determined}
+use Rattle.planner.specs.Outcomes.{Large, Accepted, our_bytes}
+use Rattle.planner.proofs.Outcomes.{call_accepted, call_refused, call_small, call_cleared}
+use Rattle.planner.specs.TurnedBack.{TurnedBack}
+use Rattle.planner.proofs.TurnedBack.{turned_back_lem, turned_back_only, eleven_only, sheet_only, else_accepted}
+use Rattle.planner.specs.Theorems.{figure_of_mosaic, figure_of_sorting, figure_of_flight, Least, Impossible}
+use Rattle.planner.proofs.Theorems.{plan_lawful, plan_least_mosaic, plan_least_sorting}
+use Rattle.planner.specs.OtherPlace.{moved_answer}
+use Rattle.planner.proofs.OtherPlace.{same_answer, same_buffer, same_table}
+use Rattle.planner.specs.Theorems.{NoTimetable, NoProperOrder}
+use Rattle.planner.proofs.Theorems.{free_impossible_exactly, plan_least_flight, plan_early_mosaic, plan_early_sorting, plan_early_flight, plan_earliest, plan_taken, taken_determined}
 use Rattle.viewer.specs.Viewed.{Viewed}
 use Rattle.page.specs.Page.{page_lines, page_bytes}
 use Rattle.page.specs.Call.{page_of, Paged}
-use Rattle.page_laws.specs.Lines.{InLines, page_in_lines, page_length_lem, page_most}
-use Rattle.page_laws.specs.Uncut.{PageUncut, page_uncut}
-use Rattle.page_laws.specs.Determined.{page_determines}
-use Rattle.page_laws.specs.Outcomes.{PagePrinted, page_accepted, page_left, page_too_small, page_not_allowed, page_allowed, page_judge_only}
+use Rattle.page_laws.specs.Lines.{InLines}
+use Rattle.page_laws.proofs.Lines.{page_in_lines, page_length_lem}
+use Rattle.page_laws.proofs.Room.{page_most}
+use Rattle.page_laws.specs.Uncut.{PageUncut}
+use Rattle.page_laws.proofs.Uncut.{page_uncut}
+use Rattle.page_laws.proofs.Determined.{page_determines}
+use Rattle.page_laws.specs.Outcomes.{PagePrinted}
+use Rattle.page_laws.proofs.Outcomes.{page_accepted, page_left, page_too_small, page_not_allowed, page_allowed, page_judge_only}
 
 -- TERMS.
 
@@ -254,7 +277,14 @@ module _ (sheet plan table plan_after table_end : List ℕ) (r : Answer) (call :
   module _ (ours : AllowedFor sheet (written r plan_after)) (q : List ℕ) (a : AllowedFor sheet q) where
     -- .. and so "no allowed plan of the sheet has a smaller figure in any section;"
     pub no_smaller_figure : NoneLarger (read_sheet sheet) ours.allowed.plan a.allowed.plan
-    no_smaller_figure = no_smaller_figure_at_all ours ceiling a.allowed.plan a.allowed.lawful
+    unfolding Least
+    no_smaller_figure =
+        rw (ours_chosen ours)
+        (record {
+          mosaic = plan_least_mosaic sheet accepted.sound ceiling a.allowed.plan a.allowed.lawful;
+          sorting = plan_least_sorting sheet accepted.sound ceiling a.allowed.plan a.allowed.lawful;
+          flight = plan_least_flight sheet accepted.sound ceiling a.allowed.plan a.allowed.lawful;
+        })
 
     best_exactly : (figure : Sheet → Plan → ℕ) → Least figure (read_sheet sheet) (chosen_plan (read_sheet sheet))
         → BestExactly figure sheet (written r plan_after) q ours a
@@ -388,7 +418,7 @@ module _ (sheet : List ℕ) (sound : (read_sheet sheet).number ≡ 0) where
       enough : (c : ℕ) (ps : List Passes) → FlightKept (read_sheet sheet).flight c ps
           → NoLarger (FlightKept (read_sheet sheet).flight ceiling) (flight_figure (read_sheet sheet).flight) ps
       enough c ps k =
-          let w = ceiling_enough_flight c k.order ps k.under k.kept k.allowed.proper in
+          let w = flight_ceiling (read_sheet sheet).flight whole.flight k.order ps k.under k.kept k.allowed.proper in
           record {
             timetable = w.timetable;
             obeys = record { order = k.order; allowed = k.allowed; under = w.obeys.0; kept = w.obeys.1 };
@@ -399,7 +429,7 @@ module _ (sheet : List ℕ) (sound : (read_sheet sheet).number ≡ 0) where
   pub impossible_at_all : Impossible (read_sheet sheet) → (c w : ℕ) (ps : List Passes) → OrderAllowed (read_sheet sheet).flight w
       → FlightUnder c (read_sheet sheet).flight ps → Keeps (read_sheet sheet).flight w ps → ⊥
   impossible_at_all none c w ps allowed law kept =
-      let q = ceiling_enough_flight c w ps law kept allowed.proper in
+      let q = flight_ceiling (read_sheet sheet).flight whole.flight w ps law kept allowed.proper in
       possible none q.timetable q.obeys.0 q.obeys.1
     where
       possible : Impossible (read_sheet sheet) → (qs : List Passes) → FlightLawful (read_sheet sheet).flight qs → Keeps (read_sheet sheet).flight w qs → ⊥
@@ -521,7 +551,7 @@ module _ (sheet plan table plan_after table_end : List ℕ) (r : Answer) (call :
       ++ sorting_fields (read_sheet sheet).sorting js
       ++ flight_fields (read_sheet sheet).flight ours.allowed.plan.order ours.allowed.plan.passes
   unfolding plan_bytes
-  sorting_bytes_determined js taken = rw (sorting_determined js taken) ours.allowed.layout
+  sorting_bytes_determined js taken = rw (taken_determined sheet ours.sound js ours.allowed.plan.jobs taken sorting_is_taken) ours.allowed.layout
 
 -- "Same sheet, same scanner list": whoever plans, two allowed plans of one sheet whose sortings are each what is to be taken have the same bytes there.
 pub same_sheet_same_list : (sheet p q : List ℕ) (a : AllowedFor sheet p) (b : AllowedFor sheet q) → SortingTaken (read_sheet sheet).sorting a.allowed.plan.jobs
@@ -597,15 +627,14 @@ module _ (sheet plan page page_after : List ℕ) (r : Answer) (call : Paged shee
   abbrev pub PagedForValue : ℕ → (Value → Type 0) → Type 0
   PagedForValue number Out = PagedFor number (RefusedForValue sheet Out)
 
-  paged_for : (number : ℕ) (Why : ℕ → Type 0) → buffer_too_small < number → JudgedFor sheet plan (judged sheet plan) refl number Why → PagedFor number Why
+  page_says : (number : ℕ) (Why : ℕ → Type 0) → buffer_too_small < number → JudgedFor sheet plan (judged sheet plan) refl number Why
+      → (page_length ≤ length page → (place : ℕ) → Why place → r ≡ answer number place 0) × (r.number ≡ number → (page_length ≤ length page) × Why r.place)
   unfolding turned_back
-  paged_for number Why more judging =
-      record {
-        always = λ large place f. comes_back large place (judging.always place f);
-        only =
-            λ e. let p = page_judge_only sheet plan page page_after r call number more e in
-            (p.0, rw p.2 (judging.only p.1));
-      }
+  page_says number Why more judging = (
+    λ large place f. comes_back large place (judging.always place f),
+    λ e. let p = page_judge_only sheet plan page page_after r call number more e in
+    (p.0, rw p.2 (judging.only p.1)),
+  )
     where
       comes_back : page_length ≤ length page → (place : ℕ) → judged sheet plan ≡ turned_back number place → r ≡ answer number place 0
       comes_back large place e =
@@ -613,14 +642,26 @@ module _ (sheet plan page page_after : List ℕ) (r : Answer) (call : Paged shee
           let p : (judged sheet plan).place ≡ place = ap (λ (j : Judged). j.place) e in
           page_not_allowed sheet plan page page_after r call large (λ z. omega arith) ∙ ap₂ (λ m q. answer m q 0) n p
 
+  paged_for : (number : ℕ) (Why : ℕ → Type 0) → buffer_too_small < number → JudgedFor sheet plan (judged sheet plan) refl number Why → PagedFor number Why
+  paged_for number Why more judging = let w = page_says number Why more judging in record { always = w.0; only = w.1 }
+
   pub paged_six : PagedForValue out_of_range CountOutOfRange
-  paged_six = paged_for out_of_range (RefusedForValue sheet CountOutOfRange) (omega arith) (judged_six sheet plan (judged sheet plan) refl)
+  paged_six =
+      let w = page_says out_of_range (RefusedForValue sheet CountOutOfRange) (omega arith) (judged_six sheet plan (judged sheet plan) refl) in
+      record { always = w.0; only = w.1 }
 
   pub paged_fifteen : PagedForValue time_too_large TimeTooLarge
-  paged_fifteen = paged_for time_too_large (RefusedForValue sheet TimeTooLarge) (omega arith) (judged_fifteen sheet plan (judged sheet plan) refl)
+  paged_fifteen =
+      let w = page_says time_too_large (RefusedForValue sheet TimeTooLarge) (omega arith) (judged_fifteen sheet plan (judged sheet plan) refl) in
+      record { always = w.0; only = w.1 }
 
   pub paged_sixteen : PagedForValue time_of_zero TimeOfZero
-  paged_sixteen = paged_for time_of_zero (RefusedForValue sheet TimeOfZero) (omega arith) (judged_sixteen sheet plan (judged sheet plan) refl)
+  paged_sixteen =
+      let j =
+          judged_for sheet plan (judged sheet plan) refl time_of_zero (RefusedForValue sheet TimeOfZero) (omega arith) (λ l m. omega arith) (zero_exactly sheet)
+      in
+      let w = page_says time_of_zero (RefusedForValue sheet TimeOfZero) (omega arith) j in
+      record { always = w.0; only = w.1 }
 
 -- REQ 05. "However the length due is found now, make it one case for each tag and, for 11, each station count from 1 to 4." These are the cases of
 -- `sheet_lengths::length_due`. The field table is `field_table` (sheet, FieldTable.antt), a list of rows; `length_of` a row's content is the sum of its widths.
@@ -700,10 +741,10 @@ before_the_flight section members (Permitted.flight_window_block_holds e h) m = 
 before_the_flight section members (Permitted.flight_order_holds e h l) m = omega arith
 
 -- "A g over 600 counts as a time too large": a head of two bytes with a turn above 600 is refused for that value, at its place, whatever its section lacks
-pub turn_too_large : (sheet : List ℕ) (place : ℕ) (f : HeadReached sheet 2 place) → most_turn < number_at sheet (f.reading.at + 3) 2
+turn_refused : (sheet : List ℕ) (place : ℕ) (f : HeadReached sheet 2 place) → most_turn < number_at sheet (f.reading.at + 3) 2
     → RefusedForValue sheet TimeTooLarge place
 unfolding FirstOut TimeTooLarge turn_flight_head values_of Among
-turn_too_large sheet place f large =
+turn_refused sheet place f large =
     record {
       reading = f.reading;
       reached = f.reached;
@@ -721,10 +762,14 @@ turn_too_large sheet place f large =
     due : Among 2 (lengths_due flight_head_tag (table_of f.reading))
     due = subst (Among 2) (sym (head_lengths f.reading.mosaic.stations f.reading.sorting.desks)) (inr (inl refl))
 
+pub turn_too_large : (sheet : List ℕ) (place : ℕ) (f : HeadReached sheet 2 place) → most_turn < number_at sheet (f.reading.at + 3) 2
+    → RefusedForValue sheet TimeTooLarge place
+turn_too_large = turn_refused
+
 -- and a head that is neither empty nor of two bytes is refused for its length
-pub head_length_wrong : (sheet : List ℕ) (len place : ℕ) → HeadReached sheet len place → (len ≡ 0 → ⊥) → (len ≡ 2 → ⊥) → RefusedFor sheet length_wrong place
+head_refused : (sheet : List ℕ) (len place : ℕ) → HeadReached sheet len place → (len ≡ 0 → ⊥) → (len ≡ 2 → ⊥) → RefusedFor sheet length_wrong place
 unfolding rows_at field_rows row_at
-head_length_wrong sheet len place f h₀ h₂ =
+head_refused sheet len place f h₀ h₂ =
     record {
       reading = f.reading;
       reached = f.reached;
@@ -746,16 +791,23 @@ head_length_wrong sheet len place f h₀ h₂ =
     before (suc (suc (suc zero))) l c = c f.tag_permitted
     before (suc (suc (suc (suc i)))) l c = absurd (omega arith)
 
+pub head_length_wrong : (sheet : List ℕ) (len place : ℕ) → HeadReached sheet len place → (len ≡ 0 → ⊥) → (len ≡ 2 → ⊥) → RefusedFor sheet length_wrong place
+head_length_wrong = head_refused
+
 module _ (sheet plan table plan_after table_end : List ℕ) (r : Answer) (call : Called sheet plan table plan_after table_end r) where
   pub fifteen_for_a_turn : Large plan table → (place : ℕ) (f : HeadReached sheet 2 place) → most_turn < number_at sheet (f.reading.at + 3) 2
       → r ≡ answer time_too_large place 0
   fifteen_for_a_turn large place f l =
-      (fifteen_for_a_time_too_large sheet plan table plan_after table_end r call).always large place (turn_too_large sheet place f l)
+      let given =
+          given_for sheet plan table plan_after table_end r call time_too_large (RefusedForValue sheet TimeTooLarge) (omega arith) (λ e. omega arith)
+          (too_large_exactly sheet)
+      in
+      given.always large place (turn_refused sheet place f l)
 
   pub five_for_another_length : Large plan table → (len place : ℕ) → HeadReached sheet len place → (len ≡ 0 → ⊥) → (len ≡ 2 → ⊥)
       → r ≡ answer length_wrong place 0
   five_for_another_length large len place f h₀ h₂ =
-      turned_back_lem sheet plan table plan_after table_end r call length_wrong place (TurnedBack.in_sheet large (head_length_wrong sheet len place f h₀ h₂))
+      turned_back_lem sheet plan table plan_after table_end r call length_wrong place (TurnedBack.in_sheet large (head_refused sheet len place f h₀ h₂))
 
   -- "A flight without an order can now be impossible as well: 11 is then given at the flight head, with buffers large enough exactly when the sheet is
   -- otherwise sound and no proper order has a timetable." Where the sheet gives no order:
@@ -840,11 +892,11 @@ module _ (sheet plan table plan_after table_end : List ℕ) (r : Answer) (call :
 module _ (sheet plan : List ℕ) (j : Judged) (call : j ≡ judged sheet plan) where
   pub judged_fifteen_for_a_turn : (place : ℕ) (f : HeadReached sheet 2 place) → most_turn < number_at sheet (f.reading.at + 3) 2
       → j ≡ turned_back time_too_large place
-  judged_fifteen_for_a_turn place f l = (judged_fifteen sheet plan j call).always place (turn_too_large sheet place f l)
+  judged_fifteen_for_a_turn place f l = (judged_fifteen sheet plan j call).always place (turn_refused sheet place f l)
 
   pub judged_five_for_another_length : (len place : ℕ) → HeadReached sheet len place → (len ≡ 0 → ⊥) → (len ≡ 2 → ⊥) → j ≡ turned_back length_wrong place
   judged_five_for_another_length len place f h₀ h₂ =
-      turns_back_for_its_fault sheet plan j call length_wrong place (Fault.in_sheet (head_length_wrong sheet len place f h₀ h₂))
+      turns_back_for_its_fault sheet plan j call length_wrong place (Fault.in_sheet (head_refused sheet len place f h₀ h₂))
 
   pub judge_never_gives_eleven : j.number ≡ order_impossible → ⊥
   judge_never_gives_eleven = rw call (λ e. not_eleven sheet _ _ (judged_sheet_only sheet plan order_impossible (omega arith) (λ l m. omega arith) e) refl)
@@ -1000,11 +1052,16 @@ module _ (sheet plan table plan_after table_end : List ℕ) (r : Answer) (call :
       × (Large plan table → (read_sheet sheet).number ≡ 0
       → ((w : ℕ) → Proper (read_sheet sheet).flight.blocks w → NoChoiceWorks (read_sheet sheet).flight w)
       → r ≡ answer order_impossible (read_sheet sheet).flight.place 0)
-  free_eleven_where_no_choice_works free =
-      let at_head = eleven_at_the_flight_head sheet plan table plan_after table_end r call free in (
-        λ e w proper. (no_choice_exactly (read_sheet sheet).flight w).0 ((at_head.0 e).none w proper),
-        λ large sound none. at_head.1 large sound (λ w proper. (no_choice_exactly (read_sheet sheet).flight w).1 (none w proper)),
-      )
+  free_eleven_where_no_choice_works free = (
+    λ e w proper. (no_choice_exactly (read_sheet sheet).flight w).0 (none (eleven_only_then sheet plan table plan_after table_end r call e).2 w proper),
+    λ large sound works.
+    eleven_always_then sheet plan table plan_after table_end r call large sound
+    (Impossible.no_order_given free (λ w proper. (no_choice_exactly (read_sheet sheet).flight w).1 (works w proper))),
+  )
+    where
+      none : Impossible (read_sheet sheet) → NoProperOrder (read_sheet sheet).flight
+      none (Impossible.order_given_lem o n) = absurd (true≢false (sym o ∙ free))
+      none (Impossible.no_order_given o n) = n
 
   -- The figure of our flight is the least over all orders that the sheet allows, all choices of delays and all idle times.
   pub least_over_all_delays : r.number ≡ 0 → (ours : AllowedFor sheet (written r plan_after)) (c w : ℕ) (delays : List ℕ) (ps : List Passes)
@@ -1038,8 +1095,11 @@ judged_seventeen sheet plan j call =
 pub paged_seventeen : (sheet plan page page_after : List ℕ) (r : Answer) (call : Paged sheet plan page page_after r)
     → PagedFor sheet plan page page_after r call longest_below_shortest (RefusedForLongestBelowShortest sheet)
 paged_seventeen sheet plan page page_after r call =
-    paged_for sheet plan page page_after r call longest_below_shortest (RefusedForLongestBelowShortest sheet) (omega arith)
-    (judged_seventeen sheet plan (judged sheet plan) refl)
+    let w =
+        page_says sheet plan page page_after r call longest_below_shortest (RefusedForLongestBelowShortest sheet) (omega arith)
+        (judged_seventeen sheet plan (judged sheet plan) refl)
+    in
+    record { always = w.0; only = w.1 }
 
 -- "The judge accepts any delay in the window": whatever delays are chosen in the windows, a timetable with them obeys the rules, and every plan that does is
 -- allowed (`allows_what_obeys`, demand 2)
@@ -1310,7 +1370,7 @@ ones_planned sheet other plan table plan_after table_end other_after other_end r
 ones_planned sheet other plan table plan_after table_end other_after other_end r q (one_more before tag content rest st w reached here strip) call next =
     let middle : Called (without_weight before tag content rest) plan table _ _ _ = record { answer = refl; buffer = refl; table = refl } in
     let first = ones_planned sheet (without_weight before tag content rest) plan table plan_after table_end _ _ r _ w call middle in
-    let second = absent_weight_planned before tag content rest st reached here strip plan table _ _ other_after other_end _ q middle next in (
+    let second = planned_same _ _ plan table _ _ other_after other_end _ q _ _ (absent_weight before content rest st here tag reached strip) middle next in (
       ap (λ (x : Answer). x.number) second.0 ∙ first.0,
       ap (λ (x : Answer). x.length) second.0 ∙ first.1,
       second.1 ∙ first.2,

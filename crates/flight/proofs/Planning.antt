@@ -18,9 +18,9 @@ use Rattle.sheet.specs.declared.FlightSection.{FlightSection}
 use Rattle.rules.specs.declared.Passes.{Passes}
 use Rattle.flight_order.specs.Constraints.{ordered_flight, least_starts, possible_in, order_figure}
 use Rattle.flight_order.specs.Timetable.{passes_with_starts, least_passes}
-use Rattle.flight_order.specs.Good.{least_low}
-use Rattle.flight_order.specs.Ceiling.{sound_good}
-use Rattle.flight_order.specs.Planned.{empty_possible, figure_none}
+use Rattle.flight_order.proofs.Good.{least_low}
+use Rattle.flight_order.proofs.Ceiling.{sound_good}
+use Rattle.flight_order.proofs.Planned.{empty_possible, figure_none}
 use Rattle.flight_order.specs.Clauses.{LeastStartsPre, Least}
 use Rattle.flight_search.specs.Search.{no_incumbent, searched}
 use Rattle.flight_search.specs.Orders.{orders_of, free_section}

@@ -11,10 +11,10 @@ use Rattle.sheet.specs.Sound.{FlightSound}
 use Rattle.sheet.specs.declared.FlightSection.{FlightSection}
 use Rattle.rules.specs.Flight.{passes_at, pass_start, second_due, DelayKept, FlightUnder, OrderAllowed}
 use Rattle.rules.specs.declared.Passes.{Passes}
-use Rattle.rules_laws.specs.FlightRunning.{start_first, second_start, time_first, end_is, clear_end}
+use Rattle.rules_laws.proofs.FlightRunning.{start_first, second_start, time_first, end_is, clear_end}
 use Rattle.flight_order.specs.Constraints.{possible_in, order_figure}
 use Rattle.flight_order.specs.Timetable.{least_passes}
-use Rattle.flight_order.specs.Planned.{possible_lawful}
+use Rattle.flight_order.proofs.Planned.{possible_lawful}
 use Rattle.flight_search.specs.Orders.{orders_of}
 use Rattle.flight_search.specs.Search.{no_incumbent, searched}
 use Rattle.flight_search.specs.Searched.{Attained, AsGood, search_attained, search_least}

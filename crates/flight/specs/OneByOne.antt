@@ -17,9 +17,9 @@ use Rattle.sheet.specs.declared.FlightSection.{FlightSection}
 use Rattle.base.specs.Sums.{sum_over}
 use Rattle.flight_order.specs.Constraints.{flight_in, possible_in}
 use Rattle.flight_order.specs.Schedule.{Schedule}
-use Rattle.flight_order.specs.Timetable.{time_is}
-use Rattle.rules_laws.specs.FlightRunning.{time_first, second_time}
-use Rattle.flight_order.specs.Planned.{schedule_possible, empty_possible}
+use Rattle.flight_order.proofs.Timetable.{time_is}
+use Rattle.rules_laws.proofs.FlightRunning.{time_first, second_time}
+use Rattle.flight_order.proofs.Planned.{schedule_possible, empty_possible}
 use Rattle.flight.specs.Choice.{one_by_one}
 
 -- A beginning of 2 i passes with i first and i second passes.

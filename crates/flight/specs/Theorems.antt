@@ -8,10 +8,10 @@ use Rattle.rules.specs.Flight.{passes_at, pass_end, FlightUnder, FlightLawful, K
 use Rattle.rules.specs.declared.Passes.{Passes}
 use Rattle.base.specs.LeastFigure.{NoLarger}
 use Rattle.order.specs.Order.{Proper}
-use Rattle.rules_laws.specs.FlightRunning.{start_first, second_start}
+use Rattle.rules_laws.proofs.FlightRunning.{start_first, second_start}
 use Rattle.flight_order.specs.Ceiling.{latest_end}
 use Rattle.flight_order.specs.Timetable.{least_passes}
-use Rattle.flight_order.specs.Planned.{possible_lawful, possible_keeps, kept_possible, least_earliest, least_figure_lem, figure_below, least_ends}
+use Rattle.flight_order.proofs.Planned.{possible_lawful, possible_keeps, kept_possible, least_earliest, least_figure_lem, figure_below, least_ends}
 use Rattle.flight.specs.Choice.{one_by_one, chosen_order, is_possible, least_figure, chosen_passes}
 use Rattle.flight.specs.Chosen.{LongestBelowTurn, short_unfit, chosen_none, chosen_proper, chosen_allowed, chosen_least, allowed_possible, impossible_short}
 use Rattle.flight.specs.Chosen.{short_impossible}

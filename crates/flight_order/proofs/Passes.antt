@@ -8,8 +8,9 @@ use Rattle.order.specs.Passes.{pass_at, time_of}
 use Rattle.order.specs.PassLaws.{pass_known}
 use Rattle.sheet.specs.Limits.{most_time}
 use Rattle.flight_order.specs.Constraints.{ordered_flight, constraint_of}
-use Rattle.flight_order.specs.Schedule.{constraint_shortest, constraint_longest, constraint_order}
-use Rattle.flight_order.specs.Good.{Good, time_low}
+use Rattle.flight_order.proofs.Schedule.{constraint_shortest, constraint_longest, constraint_order}
+use Rattle.flight_order.specs.Good.{Good}
+use Rattle.flight_order.proofs.Good.{time_low}
 use Rattle.flight_order.specs.declared.Constraint.{Constraint}
 
 -- Times within the limit of a sheet have sums within 64 bits.

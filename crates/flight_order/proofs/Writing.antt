@@ -10,7 +10,7 @@ use lib.Seq.{get_or-set_same, get_or-set_other}
 use Rattle.difference.specs.Agree.{Agree, agree_values, agree_solvable}
 use Rattle.difference.specs.Rows.{system_of, SolvePre, SolveDone}
 use Rattle.flight_order.specs.Constraints.{OrderedFlight, constraint_of, system_for}
-use Rattle.flight_order.specs.Good.{constraint_small}
+use Rattle.flight_order.proofs.Good.{constraint_small}
 use Rattle.flight_order.specs.Clauses.{Rows, WriteConstraintsPre, LeastStartsPre, Least}
 use Rattle.flight_order.specs.declared.Constraint.{Constraint}
 

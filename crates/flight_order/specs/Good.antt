@@ -10,7 +10,6 @@ use Rattle.difference.specs.Caps.{most_number, value_cap}
 use Rattle.difference.specs.Round.{rounds_bound}
 use Rattle.sheet.specs.Limits.{most_time, most_blocks}
 use Rattle.flight_order.specs.Constraints.{OrderedFlight, constraint_of, system_for}
-use Rattle.flight_order.specs.Schedule.{constraint_shortest, constraint_longest, constraint_order}
 use Rattle.flight_order.specs.declared.Constraint.{Constraint}
 
 pub record Good (F : OrderedFlight) : Type 0 where
@@ -32,47 +31,3 @@ pub record Small (n : ℕ) (c : Constraint) : Type 0 where
   pub to_in : c.to < 2 * n
   pub up_low : c.up ≤ most_number
   pub down_low : c.down ≤ most_number
-
-module _ (F : OrderedFlight) (good : Good F) where
-  pub time_low : (p : ℕ) → time_of F.blocks F.first F.second p ≤ most_time
-  time_low p = go (dec_lt p F.blocks)
-    where
-      go : Dec (p < F.blocks) → time_of F.blocks F.first F.second p ≤ most_time
-      go (yes e) = omega (arith, first_time F.blocks F.first F.second p e, good.first_low p)
-      go (no e) = omega (arith, second_time F.blocks F.first F.second p (omega arith), good.second_low (p - F.blocks))
-
-  pub constraint_small : (k : ℕ) → k < 4 * F.blocks - 1 → Small F.blocks (constraint_of F k)
-  constraint_small k l = go (dec_lt k F.blocks) (dec_lt k (2 * F.blocks))
-    where
-      go : Dec (k < F.blocks) → Dec (k < 2 * F.blocks) → Small F.blocks (constraint_of F k)
-      go (yes q) e = rw (constraint_shortest F k q) record {
-        from_in = omega arith;
-        to_in = omega arith;
-        up_low = omega (arith, good.first_low k, good.shortest_low k);
-        down_low = omega arith;
-      }
-      go (no g) (yes q) = rw (constraint_longest F k (omega arith) q) record {
-        from_in = q;
-        to_in = omega arith;
-        up_low = omega arith;
-        down_low = omega (arith, good.first_low (k - F.blocks), good.longest_low (k - F.blocks));
-      }
-      go (no g) (no h) = rw (constraint_order F k (omega arith)) record {
-        from_in = pass_known good.proper (k - 2 * F.blocks) (omega arith);
-        to_in = pass_known good.proper (k - 2 * F.blocks + 1) (omega arith);
-        up_low = omega (arith, time_low (pass_at F.blocks F.order (k - 2 * F.blocks)), good.turn_low);
-        down_low = omega arith;
-      }
-
-  pub inside : Inside (system_for F)
-  inside = record {
-    some = omega (arith, good.some);
-    from_in = λ k l. (constraint_small k l).from_in;
-    to_in = λ k l. (constraint_small k l).to_in;
-  }
-
-  -- The least values stay within 64 bits.
-  pub least_low : (p : ℕ) → value (least_values (system_for F)) p ≤ value_cap
-  unfolding least_values
-  least_low p =
-      omega (arith, rounds_bound (system_for F) (omega (arith, good.few)) (λ k l. (constraint_small k l).up_low) (2 * F.blocks) p, good.few)

@@ -4,7 +4,4 @@ pub mod Schedule
 pub mod Good
 pub mod Clauses
 pub mod Timetable
-pub mod Lawful
 pub mod Ceiling
-pub mod Planned
-pub mod Determined

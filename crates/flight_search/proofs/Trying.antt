@@ -9,7 +9,8 @@ use lib.ListN.{get_or}
 use borrow.Author.Tests.{not-true, not-false, lt-ltb, le-ltb, ne_eqb}
 use Rattle.order.specs.Order.{Proper}
 use Rattle.flight_order.specs.Constraints.{ordered_flight, least_starts, possible_in, order_figure}
-use Rattle.flight_order.specs.Good.{Good, least_low}
+use Rattle.flight_order.specs.Good.{Good}
+use Rattle.flight_order.proofs.Good.{least_low}
 use Rattle.flight_order.specs.Clauses.{LeastStartsPre, Least}
 use Rattle.flight_search.specs.Search.{Orders, improves, tried}
 use Rattle.flight_search.specs.Orders.{orders_of, free_section}

@@ -1,7 +1,6 @@
 -- The search over interleavings: instance, states, search without cuts, completions.
 pub mod Instance
 pub mod Search
-pub mod SearchLaws
 pub mod Caps
 pub mod Consistent
 pub mod Completion

@@ -7,7 +7,7 @@ use borrow.Author.Tests.{eq-eqb, ne_eqb, not-true, not-false}
 use Rattle.sheet.specs.Refusals.{rule_broken}
 use Rattle.sheet.specs.Read.{read_sheet}
 use Rattle.sheet.specs.Sound.{SheetSound, SortingSound}
-use Rattle.sheet.specs.Theorems.{read_sound}
+use Rattle.sheet.proofs.Theorems.{read_sound}
 use Rattle.sheet.specs.declared.Sheet.{Sheet}
 use Rattle.plan_format.specs.Format.{size_of, mosaic_head_form, batch_form, sorting_head_form, job_form, flight_head_form, passes_form}
 use Rattle.plan_read.specs.PlanRead.{figure_from}
@@ -16,7 +16,8 @@ use Rattle.judge_layout.specs.Laws.{LayoutVerdictPre, PartFits, parts_fit}
 use Rattle.judge_layout.specs.declared.Part.{Part}
 use Rattle.judge_layout.specs.declared.Verdict.{Verdict}
 use Rattle.judge_members.specs.Members.{present, head_form, member_form, member_place, begun, member_follows, after_member, head_number}
-use Rattle.judge_members.specs.Laws.{Kept, MemberPlacePre, MemberFollowsPre, AfterMemberPre, HeadNumberPre, begun_kept, member_kept}
+use Rattle.judge_members.specs.Laws.{Kept, MemberPlacePre, MemberFollowsPre, AfterMemberPre, HeadNumberPre}
+use Rattle.judge_members.proofs.Laws.{begun_kept, member_kept}
 use Rattle.judge_members.specs.declared.Progress.{Progress}
 use Rattle.judge.specs.Judged.{pick_part, part_at, section_from, section_verdict, sections_from, stated_figure, turned_back, found, concluded, judged_plan}
 use Rattle.judge.specs.Judged.{judged}

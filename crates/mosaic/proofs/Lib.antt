@@ -2,3 +2,11 @@
 mod BatchLaws
 mod TimeLaws
 mod PlanLaws
+pub mod Attained
+pub mod Earliest
+pub mod Finish
+pub mod LowerBound
+pub mod Rules
+pub mod Whole
+pub mod Determined
+pub mod Theorems

@@ -19,10 +19,10 @@ use Rattle.mosaic.specs.Tables.{ChooseBatchesPre, BatchesTaken, ReadyTimes, Pref
 use Rattle.running.specs.Running.{batch_weight}
 use Rattle.running.specs.FunctionLaws.{SetupTold}
 use Rattle.base.specs.SumLaws.{after_upto, after_most}
-use Rattle.mosaic.specs.Laws.Rules.{ready_most}
+use Rattle.mosaic.proofs.Rules.{ready_most}
 use Rattle.batching.specs.Alike.{Alike, least_same, chosen_same}
-use Rattle.mosaic.specs.Laws.Whole.{least_is, chosen_is}
-use Rattle.mosaic.specs.Theorems.{mosaic_count}
+use Rattle.mosaic.proofs.Whole.{least_is, chosen_is}
+use Rattle.mosaic.proofs.Theorems.{mosaic_count}
 use Rattle.mosaic.specs.declared.MosaicPlan.{MosaicPlan}
 
 -- the bench times and the weights may be added up

@@ -2,7 +2,5 @@
 pub mod Least
 pub mod Chosen
 pub mod Plan
-pub mod Theorems
 pub mod Tables
-pub mod Determined
 pub mod Laws

@@ -15,7 +15,7 @@ use Rattle.sheet.specs.Limits.{page_length}
 use Rattle.sheet.specs.Refusals.{buffer_too_small}
 use Rattle.sheet.specs.Read.{read_sheet}
 use Rattle.sheet.specs.Sound.{SheetSound, strips_in_all}
-use Rattle.sheet.specs.Theorems.{read_sound}
+use Rattle.sheet.proofs.Theorems.{read_sound}
 use Rattle.sheet.specs.declared.Sheet.{Sheet}
 use Rattle.plan_format.specs.Format.{size_of, mosaic_head_form, batch_form, sorting_head_form, job_form, flight_head_form, passes_form}
 use Rattle.rules.specs.Mosaic.{no_batch, batch_at, batch_before, mosaic_figure, MosaicLawful}
@@ -24,9 +24,9 @@ use Rattle.rules.specs.Flight.{no_passes, passes_at, flight_figure}
 use Rattle.rules.specs.Plan.{if_present, PlanLawful}
 use Rattle.rules.specs.declared.Batch.{Batch}
 use Rattle.sheet.specs.declared.MosaicSection.{MosaicSection}
-use Rattle.rules_laws.specs.Fits.{batches_most, jobs_all, jobs_most}
-use Rattle.rules_laws.specs.Joined.{members_append}
-use Rattle.rules_laws.specs.Present.{present_none, present_some}
+use Rattle.rules_laws.proofs.Fits.{batches_most, jobs_all, jobs_most}
+use Rattle.rules_laws.proofs.Joined.{members_append}
+use Rattle.rules_laws.proofs.Present.{present_none, present_some}
 use Rattle.plan_read.specs.PlanRead.{batch_from, job_from, passes_from}
 use Rattle.plan_read.specs.Laws.{member_at, length_from}
 use Rattle.judge_layout.specs.Layout.{mosaic_part, sorting_part, flight_part}
@@ -35,8 +35,9 @@ use Rattle.judge.specs.Judged.{judged}
 use Rattle.judge.specs.Stated.{stated_batches, stated_jobs, stated_passes, stated_plan}
 use Rattle.judge.specs.Examined.{examined_plan, examined, judged_by}
 use Rattle.judge.specs.declared.Examined.{Examined}
-use Rattle.judge_laws.specs.Outcomes.{judged_right}
-use Rattle.judge_laws.specs.Theorems.{FiguresTrue, judged_stated}
+use Rattle.judge_laws.proofs.Outcomes.{judged_right}
+use Rattle.judge_laws.specs.Theorems.{FiguresTrue}
+use Rattle.judge_laws.proofs.Theorems.{judged_stated}
 use Rattle.page_lines.specs.Line.{lines_bytes, head_line, batch_line, job_line, block_line, mosaic_head_letter, sorting_head_letter, flight_head_letter}
 use Rattle.page_sections.specs.Printed.{batch_line_from, job_line_from, block_line_from, mosaic_printed, sorting_printed, flight_printed, PrintSectionPre}
 use Rattle.page_sections.specs.SectionLaws.{mosaic_long, sorting_long, flight_long}

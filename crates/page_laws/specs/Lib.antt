@@ -2,5 +2,4 @@
 -- call.
 pub mod Lines
 pub mod Uncut
-pub mod Determined
 pub mod Outcomes

@@ -12,12 +12,12 @@ use Rattle.rules.specs.Plan.{members_bytes, if_present}
 use Rattle.rules.specs.declared.Batch.{Batch}
 use Rattle.rules.specs.declared.Job.{Job}
 use Rattle.rules.specs.declared.Passes.{Passes}
-use Rattle.rules_laws.specs.Joined.{members_listed}
-use Rattle.rules_laws.specs.Present.{present_none, present_some}
+use Rattle.rules_laws.proofs.Joined.{members_listed}
+use Rattle.rules_laws.proofs.Present.{present_none, present_some}
 use Rattle.plan_read.specs.PlanRead.{batch_from, job_from, passes_from, BatchRead, JobRead, PassesRead}
 use Rattle.judge_layout.specs.declared.Part.{Part}
 use Rattle.page_lines.specs.Line.{line_length, line_bytes, lines_bytes, head_line, batch_line, job_line, block_line, mosaic_head_letter, sorting_head_letter, flight_head_letter}
-use Rattle.page_lines.specs.Columns.{length_line, head_columns, batch_columns, job_columns, block_columns}
+use Rattle.page_lines.proofs.Columns.{length_line, head_columns, batch_columns, job_columns, block_columns}
 use Rattle.page_sections.specs.Printed.{batch_line_from, job_line_from, block_line_from, mosaic_printed, sorting_printed, flight_printed}
 
 -- The loops over the members: the lines of the first i are stored.

@@ -11,7 +11,7 @@ use Rattle.field.specs.Field.{field_bytes}
 use Rattle.field.specs.Put.{put, put_whole, holding, put_one, joined}
 use Rattle.plan_format.specs.Format.{Form, content_length, size_of, width_of, offset_of, numbers_bytes, form_bytes, mosaic_head_form, batch_form, sorting_head_form}
 use Rattle.plan_format.specs.Format.{job_form, flight_head_form, passes_form, refusal_form}
-use Rattle.plan_format.specs.FormLaws.{length_numbers, length_form}
+use Rattle.plan_format.proofs.FormLaws.{length_numbers, length_form}
 use Rattle.rules.specs.Plan.{batch_bytes, job_bytes, passes_bytes, refusal_bytes}
 use Rattle.plan_fields.specs.Stored.{tag_bytes, part_bytes, strip_bytes, batch, job, passes}
 

@@ -3,7 +3,7 @@ use Rattle.std.specs.Prelude.{ℕ, ◌+◌, ◌*◌, ◌≤◌, ◌<◌, ◌≡�
 use Rattle.field.specs.Put.{put}
 use Rattle.field.specs.Members.{members_to, Storing, storing_none, storing_more, storing_all}
 use Rattle.plan_format.specs.Format.{size_of, batch_form, job_form, passes_form}
-use Rattle.plan_format.specs.FormLaws.{length_form}
+use Rattle.plan_format.proofs.FormLaws.{length_form}
 use Rattle.rules.specs.Plan.{batch_values, batch_bytes, job_values, job_bytes, passes_values, passes_bytes}
 use Rattle.rules.specs.declared.Batch.{Batch}
 use Rattle.rules.specs.declared.Job.{Job}

@@ -2,7 +2,7 @@
 use Rattle.std.specs.Prelude.{ℕ, ◌≡◌}
 use Rattle.field.specs.Members.{members_to}
 use Rattle.rules.specs.Plan.{members_bytes, batch_bytes, job_bytes, passes_bytes}
-use Rattle.rules_laws.specs.Joined.{members_listed}
+use Rattle.rules_laws.proofs.Joined.{members_listed}
 use Rattle.mosaic.specs.Plan.{batches_of}
 use Rattle.mosaic.specs.declared.MosaicPlan.{MosaicPlan}
 use Rattle.sorting.specs.Plan.{jobs_of_plan}

@@ -4,9 +4,9 @@ use Rattle.std.proofs.Common.{sym, ap, ◌∙◌, length-append, arith}
 use Rattle.field.specs.Put.{put, put_none, joined, Written}
 use Rattle.field.specs.Members.{members_to, length_members}
 use Rattle.plan_format.specs.Format.{size_of, form_bytes, mosaic_head_form, batch_form, sorting_head_form, job_form, flight_head_form, passes_form}
-use Rattle.plan_format.specs.FormLaws.{length_form}
+use Rattle.plan_format.proofs.FormLaws.{length_form}
 use Rattle.rules.specs.Plan.{mosaic_bytes, sorting_bytes, flight_bytes, if_present, members_bytes, batch_bytes, job_bytes, passes_bytes}
-use Rattle.rules_laws.specs.Present.{present_none, present_some, present_most}
+use Rattle.rules_laws.proofs.Present.{present_none, present_some, present_most}
 use Rattle.mosaic.specs.Plan.{batches_of}
 use Rattle.mosaic.specs.declared.MosaicPlan.{MosaicPlan}
 use Rattle.sorting.specs.Plan.{jobs_of_plan}

@@ -4,6 +4,5 @@ pub mod Call
 pub mod Outcomes
 pub mod Theorems
 pub mod TurnedBack
-pub mod Laws
 pub mod Computes
 pub mod OtherPlace

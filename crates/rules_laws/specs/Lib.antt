@@ -2,19 +2,12 @@
 -- Fits, that lawful timetables fit their bytes; OrderKept, that the passes of a flight determine the order that they keep; Determined, that the bytes
 -- determine the plan; ScannerList, the comparison of scanner lists; Turns, Delays and Mounts, what the turn, the window and the mount of the rules say. The
 -- others hold the laws that lead to them.
-pub mod Finish
 pub mod MosaicRunning
 pub mod SortingRunning
 pub mod ScannerList
-pub mod FlightRunning
-pub mod Equivalent
 pub mod Members
 pub mod RoundTrip
-pub mod Joined
-pub mod Present
 pub mod Sections
-pub mod Fits
-pub mod OrderKept
 pub mod Determined
 pub mod Turns
 pub mod Delays

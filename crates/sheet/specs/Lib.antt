@@ -13,16 +13,11 @@ pub mod Decode
 pub mod Read
 pub mod Sound
 pub mod Theorems
-pub mod Refused
-pub mod Values
 pub mod RowLaws
 pub mod Ranges
-pub mod Decided
 pub mod Passed
 pub mod Contents
-pub mod Stores
 pub mod SectionLaws
-pub mod DeskLaws
 pub mod Invariant
 pub mod Progress
 pub mod Computes

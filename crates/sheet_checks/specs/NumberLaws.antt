@@ -13,7 +13,7 @@ use Rattle.sheet.specs.Among.{Among, is_among, true_among}
 use Rattle.sheet.specs.FieldTable.{field_table, lengths_due}
 use Rattle.sheet.specs.Checks.{window_ordered, has_room, order_proper}
 use Rattle.sheet.specs.Rows.{first_failure}
-use Rattle.sheet.specs.RowLaws.{given_fails, given_passes, test_fails, test_passes}
+use Rattle.sheet.proofs.RowLaws.{given_fails, given_passes, test_fails, test_passes}
 use Rattle.sheet_lengths.specs.Lengths.{lengths_given, GivesLength}
 use Rattle.sheet_lengths.specs.declared.LengthDue.{LengthDue}
 

@@ -18,11 +18,12 @@ use Rattle.sheet.specs.FieldTable.{flight_window_block}
 use Rattle.sheet.specs.FieldTable.{Value, values_of, content_values, field_values}
 use Rattle.sheet.specs.FieldTable.Range.{time}
 use Rattle.sheet.specs.FieldTable.Value.{value}
-use Rattle.sheet.specs.Contents.{weight_values, strip_from, strip_from_start, strip_time_left, strip_bench_left, strip_stations, mosaic_head_values_lem, mosaic_strip_values, sorting_head_values_lem}
-use Rattle.sheet.specs.Contents.{sorting_strip_values, flight_head_values_lem, flight_block_values, flight_window_block_values, flight_order_values, no_content, none_due}
+use Rattle.sheet.specs.Contents.{weight_values, strip_from}
+use Rattle.sheet.proofs.Contents.{strip_from_start, strip_time_left, strip_bench_left, strip_stations, mosaic_head_values_lem, mosaic_strip_values, sorting_head_values_lem}
+use Rattle.sheet.proofs.Contents.{sorting_strip_values, flight_head_values_lem, flight_block_values, flight_window_block_values, flight_order_values, no_content, none_due}
 use Rattle.sheet_ranges.specs.RangePre.{StripPre, WeightPre, RangePre}
 use Rattle.sheet.specs.Rows.{first_failure}
-use Rattle.sheet.specs.RowLaws.{given_fails, given_passes, given_last}
+use Rattle.sheet.proofs.RowLaws.{given_fails, given_passes, given_last}
 use Rattle.sheet.specs.Checks.{count_number, time_number, value_number, value_numbers, range_number}
 
 -- one count, and one time

@@ -16,15 +16,18 @@ use Rattle.sheet.specs.Limits.{most_blocks, most_desks, most_strips, most_strips
 use Rattle.sheet.specs.Tags.{mosaic_strip_tag, sorting_strip_tag, flight_block_tag, flight_window_block_tag}
 use Rattle.sheet.specs.Sections.{in_mosaic, in_flight, strips_of_desk}
 use Rattle.sheet.specs.FieldTable.{sorting_strip, values_of, Within}
-use Rattle.sheet.specs.Contents.{sorting_strip_values}
+use Rattle.sheet.proofs.Contents.{sorting_strip_values}
 use Rattle.sheet.specs.Causes.{TooMany}
 use Rattle.sheet.specs.Checks.{permitted}
 use Rattle.sheet.specs.Decode.{next_reading, start_reading}
 use Rattle.sheet.specs.Read.{field_number, end_number, place_of, refused, accepted, at_end, read_sheet}
-use Rattle.sheet.specs.Decided.{permitted_true}
-use Rattle.sheet.specs.Passed.{Passed, passes, within_by, first_within}
-use Rattle.sheet.specs.Invariant.{Kept, below}
-use Rattle.sheet.specs.Progress.{Progress, progress_start, progress_end, progress_cut, progress_next, progress_refused, progress_less}
+use Rattle.sheet.proofs.Decided.{permitted_true}
+use Rattle.sheet.specs.Passed.{Passed}
+use Rattle.sheet.proofs.Passed.{passes, within_by, first_within}
+use Rattle.sheet.specs.Invariant.{Kept}
+use Rattle.sheet.proofs.Invariant.{below}
+use Rattle.sheet.specs.Progress.{Progress}
+use Rattle.sheet.proofs.Progress.{progress_start, progress_end, progress_cut, progress_next, progress_refused, progress_less}
 use Rattle.sheet.specs.declared.Reading.{Reading}
 use Rattle.sheet.specs.declared.Sheet.{Sheet}
 use Rattle.sheet_checks.specs.FieldPre.{FieldPre}

@@ -8,9 +8,6 @@ use Rattle.interleaving.specs.declared.Incumbent.{Incumbent}
 use Rattle.interleaving.specs.Search.{first_best, start_state}
 use Rattle.sorting.specs.declared.SortingPlan.{SortingPlan}
 use Rattle.sorting.specs.Plan.{instance_of, least_figure, jobs_of_list, chosen_jobs, jobs_of_plan}
-use Rattle.sorting.specs.Lawful.{chosen_length}
-use Rattle.sorting.specs.Theorems.{sorting_count}
-use Rattle.sorting.specs.Instance.{instance_sound}
 use Rattle.sorting.specs.Writing.{written_plan, PlanOfPre, Written}
 use Rattle.sorting_search.specs.Found as search
 
@@ -29,36 +26,3 @@ pub record Planned (s : SortingSection) (table after : List ℕ) (r : SortingPla
   pub most : r.jobs ≤ most_desks * most_strips_of_desk
   pub size : length after ≡ length table
   pub working : search.Used (instance_of s) table after (least_figure s)
-
--- what is known once the instance is written, and once the search is done
-pub search_pre : {s : SortingSection} {J M : List ℕ} → PlanSortingPre s M → J ≡ instance_of s → search.BestInterleavingPre J M
-search_pre {s} {J} {M} h e = record { jobs = rw e (instance_sound s h.sound); size = h.size }
-
-pub plan_of_pre : {s : SortingSection} {J M N : List ℕ} {b : Incumbent} → PlanSortingPre s M → J ≡ instance_of s → search.Found J M N b → PlanOfPre J b
-plan_of_pre {s} {J} {M} {N} {b} h e f = record { jobs = rw e (instance_sound s h.sound); best = f.found }
-
-chosen_is : (s : SortingSection) → chosen_jobs s ≡ jobs_of_list (instance_of s) (first_best (instance_of s)).path
-unfolding chosen_jobs
-chosen_is s = refl
-
-pub planned : {s : SortingSection} {J M N : List ℕ} {b : Incumbent} {r : SortingPlan} → PlanSortingPre s M → J ≡ instance_of s → search.Found J M N b
-    → Written J b r → Planned s M N r
-unfolding least_figure
-planned {s} {J} {M} {N} {b} {r} h e f w = record {
-  plan = w.exact ∙ ap written_plan e;
-  figure = w.figure ∙ least;
-  jobs = w.jobs ∙ ap (λ (x : Incumbent). jobs_of_list J x.path) f.found ∙ same;
-  count = count;
-  most = omega (arith, count, sorting_count s h.sound);
-  size = f.table.holds.size ∙ sym h.size;
-  working = subst (search.Used (instance_of s) M N) least (subst (λ (x : List ℕ). search.Used x M N b.figure) e f.table);
-}
-  where
-    least : b.figure ≡ (first_best (instance_of s)).figure
-    least = ap (λ (x : Incumbent). x.figure) (f.found ∙ ap first_best e)
-
-    count : r.jobs ≡ length (chosen_jobs s)
-    count = w.count ∙ ap (λ (x : List ℕ). (start_state x).left) e ∙ sym (chosen_length s h.sound)
-
-    same : jobs_of_list J (first_best J).path ≡ chosen_jobs s
-    same = ap (λ (x : List ℕ). jobs_of_list x (first_best x).path) e ∙ sym (chosen_is s)

@@ -1,11 +1,8 @@
 -- The sorting planner: the least figure, the chosen jobs, and the theorems against the rules.
 pub mod Plan
-pub mod Theorems
 pub mod Clauses
 pub mod Writing
 pub mod Instance
 pub mod Route
 pub mod Chosen
-pub mod Times
 pub mod Lawful
-pub mod Least

@@ -8,31 +8,19 @@ use native.Mathlib.Omega.{arith}
 use Rattle.std.proofs.Math.ListN.{length-set}
 use Rattle.base.specs.Listed.{listed, listed_same}
 use Rattle.rules.specs.declared.Job.{Job}
-use Rattle.rules_laws.specs.ScannerList.{same_job}
+use Rattle.rules_laws.proofs.ScannerList.{same_job}
 use Rattle.interleaving.specs.declared.State.{State}
 use Rattle.interleaving.specs.declared.Incumbent.{Incumbent}
 use Rattle.interleaving.specs.Instance.{Instance}
 use Rattle.interleaving.specs.Search.{scanned, step_of, start_state, first_best}
-use Rattle.interleaving.specs.SearchLaws.{step_left}
-use Rattle.interleaving.specs.Caps.{StepPre, StepCapped, step_pre_capped}
-use Rattle.interleaving.specs.Consistent.{Consistent, consistent_start}
+use Rattle.interleaving.proofs.SearchLaws.{step_left}
+use Rattle.interleaving.specs.Caps.{StepPre, StepCapped}
+use Rattle.interleaving.proofs.CapLaws.{step_pre_capped}
+use Rattle.interleaving.specs.Consistent.{Consistent}
+use Rattle.interleaving.proofs.Consistent.{consistent_start}
 use Rattle.sorting.specs.declared.SortingPlan.{SortingPlan}
 use Rattle.sorting.specs.Plan.{reached, job_of, listed_desk, jobs_of_list, plan_job, jobs_of_plan}
-use Rattle.sorting.specs.Route.{reached_next, reached_consistent, reached_left}
-use Rattle.sorting.specs.Chosen.{chosen_desk, chosen_state, Chosen, chosen}
-
--- digit: what is left of a number once its last i digits are cut off
-pub digit_start : (p : ℕ) → p ≡ p / 4 ^ 0
-digit_start p = sym (div-one p)
-
-pub digit_more : (p i r : ℕ) → r ≡ p / 4 ^ i → r / 4 ≡ p / 4 ^ (i + 1)
-digit_more p i r e = rw (e, add-one i, pow-suc 4 i) (div-div-eq-div-mul p (4 ^ i) 4)
-
-pub digit_end : (p k i r : ℕ) → (i ≤ k) × (r ≡ p / 4 ^ i) → k ≤ i → r % 4 ≡ p / 4 ^ k % 4
-digit_end p k i r h l = ap (λ (x : ℕ). x % 4) (h.1 ∙ ap (λ (x : ℕ). p / 4 ^ x) (same h l))
-  where
-    same : (i ≤ k) × (r ≡ p / 4 ^ i) → k ≤ i → i ≡ k
-    same h l = omega (arith, h.0)
+use Rattle.sorting.specs.Chosen.{chosen_desk, chosen_state, Chosen}
 
 -- a plan with one more job
 unfoldable pub with_job : List ℕ → State → ℕ → SortingPlan → SortingPlan
@@ -59,17 +47,6 @@ pub record WithJobPre (J : List ℕ) (s : State) (d : ℕ) (p : SortingPlan) : T
   pub room : p.jobs < 18
   pub capped : StepCapped J s d
 
-pub with_job_is : {J : List ℕ} {s : State} {d : ℕ} {p : SortingPlan} {m : ℕ} → WithJobPre J s d p → m ≡ max (get_or s.free d 0) (scanned J s d) → record {
-  figure = p.figure;
-  jobs = p.jobs + 1;
-  desk = set p.desk p.jobs (d + 1);
-  number = set p.number p.jobs (get_or s.taken d 0 + 1);
-  scan = set p.scan p.jobs s.time;
-  start = set p.start p.jobs m;
-} ≡ with_job J s d p
-unfolding with_job
-with_job_is h e = rw e
-
 -- what the plan's writer asks and gives
 pub record PlanOfPre (J : List ℕ) (b : Incumbent) : Type 0 where
   pub jobs : Instance J
@@ -82,7 +59,7 @@ pub record Written (J : List ℕ) (b : Incumbent) (r : SortingPlan) : Type 0 whe
   pub count : r.jobs ≡ (start_state J).left
 
 -- job i of the chosen list
-abbrev chosen_job : List ℕ → ℕ → Job
+abbrev pub chosen_job : List ℕ → ℕ → Job
 chosen_job J i = job_of J (chosen_state J i) (chosen_desk J i)
 
 pub record Sized (p : SortingPlan) : Type 0 where
@@ -101,175 +78,3 @@ pub record Begun (J : List ℕ) (b : Incumbent) (p : SortingPlan) (s : State) : 
   pub sized : Sized p
   pub figure : p.figure ≡ b.figure
   pub listed : listed p.jobs (plan_job p) ≡ listed p.jobs (chosen_job J)
-
-pub begun_start : {J : List ℕ} {b : Incumbent} {s : State} → PlanOfPre J b → s ≡ start_state J
-    → Begun J b (record { figure = b.figure; jobs = 0; desk = replicate 18 0; number = replicate 18 0; scan = replicate 18 0; start = replicate 18 0 }) s
-unfolding reached listed written_to
-begun_start h e = record {
-  jobs = h.jobs;
-  best = h.best;
-  within = omega arith;
-  state = e;
-  exact =
-      ap
-      (λ (x : Incumbent). record { figure = x.figure; jobs = 0; desk = replicate 18 0; number = replicate 18 0; scan = replicate 18 0; start = replicate 18 0 })
-      h.best;
-  sized = record { desk = refl; number = refl; scan = refl; start = refl };
-  figure = refl;
-  listed = refl;
-}
-
--- what holds where a job is written: the digit is the desk, from 1, of the chosen list
-record Next (J : List ℕ) (p : SortingPlan) (s : State) (digit : ℕ) : Type 0 where
-  pub least : 1 ≤ digit
-  pub most : digit ≤ 3
-  pub desk : digit - 1 ≡ chosen_desk J p.jobs
-  pub more : p.jobs < (start_state J).left
-  pub room : p.jobs < 18
-  pub serves : StepPre J s (digit - 1)
-
-module _ {J : List ℕ} {b : Incumbent} {p : SortingPlan} {s : State} where
-  left_is : Begun J b p s → s.left + p.jobs ≡ (start_state J).left
-  left_is h =
-      ap (λ (x : State). x.left + p.jobs) h.state
-      ∙ reached_left J h.jobs (start_state J) (consistent_start J h.jobs) (chosen_desk J) (start_state J).left (chosen J h.jobs).serves p.jobs h.within
-
-  consistent_is : Begun J b p s → Consistent J s
-  consistent_is h =
-      subst (Consistent J) (sym h.state)
-      (reached_consistent J h.jobs (start_state J) (consistent_start J h.jobs) (chosen_desk J) (start_state J).left (chosen J h.jobs).serves p.jobs h.within)
-
-  next : {digit : ℕ} → Begun J b p s → 0 < s.left → digit ≡ b.path / 4 ^ (s.left - 1) % 4 → Next J p s digit
-  unfolding listed_desk
-  next {digit} h l e = made (left_is h) (chosen J h.jobs)
-    where
-      made : s.left + p.jobs ≡ (start_state J).left → Chosen J → Next J p s digit
-      made left way = record {
-        least = omega (arith, is, way.digit p.jobs more);
-        most = omega (arith, is, way.digit p.jobs more, way.serves p.jobs more);
-        desk = ap (λ (x : ℕ). x - 1) is;
-        more = more;
-        room = omega (arith, left, (consistent_start J h.jobs).fits.left);
-        serves = record {
-          jobs = h.jobs;
-          capped = (consistent_is h).fits;
-          desk = rw is (way.serves p.jobs more).0;
-          strip = rw (is, h.state) (way.serves p.jobs more).1;
-          left = l;
-        };
-      }
-        where
-          more : p.jobs < (start_state J).left
-          more = omega arith
-
-          place : s.left - 1 ≡ (start_state J).left - suc p.jobs
-          place = omega arith
-
-          is : digit ≡ listed_desk (first_best J).path (start_state J).left p.jobs
-          is = e ∙ ap (λ (x : ℕ). b.path / 4 ^ x % 4) place ∙ ap (λ (x : Incumbent). x.path / 4 ^ ((start_state J).left - suc p.jobs) % 4) h.best
-
-module _ (J : List ℕ) (s : State) (d : ℕ) (p : SortingPlan) (z : Sized p) (room : p.jobs < 18) where
-  with_job_before : (i : ℕ) → i < p.jobs → plan_job (with_job J s d p) i ≡ plan_job p i
-  unfolding with_job
-  with_job_before i l =
-      same_job _ _ (get_or-set_other p.desk p.jobs i (d + 1) 0 (λ e. omega arith))
-      (get_or-set_other p.number p.jobs i (get_or s.taken d 0 + 1) 0 (λ e. omega arith))
-      (get_or-set_other p.scan p.jobs i s.time 0 (λ e. omega arith))
-      (get_or-set_other p.start p.jobs i (max (get_or s.free d 0) (scanned J s d)) 0 (λ e. omega arith))
-
-  with_job_last : plan_job (with_job J s d p) p.jobs ≡ job_of J s d
-  unfolding with_job job_of
-  with_job_last =
-      same_job _ _ (get_or-set_same p.desk p.jobs (d + 1) 0 (omega (arith, z.desk)))
-      (get_or-set_same p.number p.jobs (get_or s.taken d 0 + 1) 0 (omega (arith, z.number)))
-      (get_or-set_same p.scan p.jobs s.time 0 (omega (arith, z.scan)))
-      (get_or-set_same p.start p.jobs (max (get_or s.free d 0) (scanned J s d)) 0 (omega (arith, z.start)))
-
-  with_job_listed : listed (suc p.jobs) (plan_job (with_job J s d p)) ≡ listed p.jobs (plan_job p) ++ (job_of J s d ∷ [])
-  unfolding listed
-  with_job_listed = rw (listed_same p.jobs (plan_job (with_job J s d p)) (plan_job p) with_job_before, with_job_last)
-
-  with_job_sized : Sized (with_job J s d p)
-  unfolding with_job
-  with_job_sized =
-      record { desk = simp length-set z.desk; number = simp length-set z.number; scan = simp length-set z.scan; start = simp length-set z.start }
-
-  with_job_jobs : (with_job J s d p).jobs ≡ p.jobs + 1
-  unfolding with_job
-  with_job_jobs = refl
-
-  with_job_figure : (with_job J s d p).figure ≡ p.figure
-  unfolding with_job
-  with_job_figure = refl
-
-module _ {J : List ℕ} {b : Incumbent} {p : SortingPlan} {s : State} {digit : ℕ} where
-  job_is : Begun J b p s → Next J p s digit → job_of J s (digit - 1) ≡ chosen_job J p.jobs
-  job_is h w = ap (λ (x : State). job_of J x (digit - 1)) h.state ∙ ap (job_of J (chosen_state J p.jobs)) w.desk
-
-  state_is : Begun J b p s → Next J p s digit → step_of J s (digit - 1) ≡ chosen_state J (suc p.jobs)
-  state_is h w =
-      ap (λ (x : State). step_of J x (digit - 1)) h.state
-      ∙ ap (step_of J (chosen_state J p.jobs)) w.desk
-      ∙ sym (reached_next J (start_state J) (chosen_desk J) p.jobs)
-
-  jobs_are : Begun J b p s → Next J p s digit → listed (suc p.jobs) (plan_job (with_job J s (digit - 1) p)) ≡ listed (suc p.jobs) (chosen_job J)
-  unfolding listed
-  jobs_are h w =
-      with_job_listed J s (digit - 1) p h.sized w.room
-      ∙ ap (λ (l : List Job). l ++ (job_of J s (digit - 1) ∷ [])) h.listed
-      ∙ ap (λ (x : Job). listed p.jobs (chosen_job J) ++ (x ∷ [])) (job_is h w)
-
-  plan_is : Begun J b p s → Next J p s digit → with_job J s (digit - 1) p ≡ written_to J (suc p.jobs)
-  unfolding written_to
-  plan_is h w =
-      ap (with_job J s (digit - 1)) h.exact
-      ∙ ap (λ (x : State). with_job J x (digit - 1) (written_to J p.jobs)) h.state
-      ∙ ap (λ (d : ℕ). with_job J (chosen_state J p.jobs) d (written_to J p.jobs)) w.desk
-
-  begun_next : Begun J b p s → Next J p s digit → Begun J b (with_job J s (digit - 1) p) (step_of J s (digit - 1))
-  begun_next h w = record {
-    jobs = h.jobs;
-    best = h.best;
-    within = omega (arith, with_job_jobs J s (digit - 1) p h.sized w.room, w.more);
-    state = state_is h w ∙ ap (chosen_state J) (sym next);
-    exact = plan_is h w ∙ ap (written_to J) (sym next);
-    sized = with_job_sized J s (digit - 1) p h.sized w.room;
-    figure = with_job_figure J s (digit - 1) p h.sized w.room ∙ h.figure;
-    listed = ap (λ (n : ℕ). listed n (plan_job (with_job J s (digit - 1) p))) next ∙ jobs_are h w ∙ ap (λ (n : ℕ). listed n (chosen_job J)) (sym next);
-  }
-    where
-      next : (with_job J s (digit - 1) p).jobs ≡ suc p.jobs
-      next = with_job_jobs J s (digit - 1) p h.sized w.room ∙ add-one p.jobs
-
-  begun_more : {q : SortingPlan} {t : State} → Begun J b p s → Next J p s digit → q ≡ with_job J s (digit - 1) p → t ≡ step_of J s (digit - 1) → Begun J b q t
-  begun_more {q} {t} h w e f = subst (λ (x : SortingPlan). Begun J b x t) (sym e) (subst (Begun J b (with_job J s (digit - 1) p)) (sym f) (begun_next h w))
-
--- the same from what the loop knows
-module _ {J : List ℕ} {b : Incumbent} {p : SortingPlan} {s : State} {digit : ℕ} where
-  pub loop_digit : Begun J b p s → 0 < s.left → digit ≡ b.path / 4 ^ (s.left - 1) % 4 → 1 ≤ digit
-  loop_digit h l e = (next h l e).least
-
-  pub loop_with_job_pre : Begun J b p s → 0 < s.left → digit ≡ b.path / 4 ^ (s.left - 1) % 4 → WithJobPre J s (digit - 1) p
-  loop_with_job_pre h l e = let w = next h l e in record { serves = w.serves; room = w.room; capped = step_pre_capped w.serves }
-
-  pub loop_serves : Begun J b p s → 0 < s.left → digit ≡ b.path / 4 ^ (s.left - 1) % 4 → StepPre J s (digit - 1)
-  loop_serves h l e = (next h l e).serves
-
-  pub loop_falls : {t : State} → Begun J b p s → 0 < s.left → digit ≡ b.path / 4 ^ (s.left - 1) % 4 → t ≡ step_of J s (digit - 1) → t.left < s.left
-  loop_falls {t} h l e f = omega (arith, ap (λ (x : State). x.left) f, step_left J s (digit - 1))
-
-  pub loop_more : {q : SortingPlan} {t : State} → Begun J b p s → 0 < s.left → digit ≡ b.path / 4 ^ (s.left - 1) % 4 → q ≡ with_job J s (digit - 1) p
-      → t ≡ step_of J s (digit - 1) → Begun J b q t
-  loop_more h l e f g = begun_more h (next h l e) f g
-
-pub begun_end : {J : List ℕ} {b : Incumbent} {p : SortingPlan} {s : State} → Begun J b p s → s.left ≤ 0 → Written J b p
-unfolding jobs_of_plan jobs_of_list
-begun_end {J} {b} {p} {s} h l = record {
-  exact = h.exact ∙ ap (written_to J) count;
-  figure = h.figure;
-  jobs = h.listed ∙ ap (λ (n : ℕ). listed n (chosen_job J)) count ∙ ap (λ (x : Incumbent). jobs_of_list J x.path) (sym h.best);
-  count = count;
-}
-  where
-    count : p.jobs ≡ (start_state J).left
-    count = omega (arith, left_is h)

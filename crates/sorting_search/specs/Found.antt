@@ -10,13 +10,16 @@ use Rattle.interleaving.specs.declared.State.{State}
 use Rattle.interleaving.specs.declared.Incumbent.{Incumbent}
 use Rattle.interleaving.specs.Instance.{Instance, cost_cap}
 use Rattle.interleaving.specs.Search.{search_from, start_state, first_best, no_incumbent}
-use Rattle.interleaving.specs.Consistent.{Consistent, consistent_start}
-use Rattle.interleaving.specs.Completion.{any_incumbent}
+use Rattle.interleaving.specs.Consistent.{Consistent}
+use Rattle.interleaving.proofs.Consistent.{consistent_start}
+use Rattle.interleaving.proofs.AnyIncumbent.{any_incumbent}
 use Rattle.sorting_bounds.specs.Layout.{labels_length, search_length}
 use Rattle.sorting_bounds.specs.ScannerBound.{filled_from}
-use Rattle.sorting_bounds.specs.ScannerTable.{Filled, filled}
-use Rattle.sorting_labels.specs.Labels.{no_labels_to, cleared_length, cleared_label, cleared_rest}
-use Rattle.sorting_labels.specs.Memory.{labels_none}
+use Rattle.sorting_bounds.specs.ScannerTable.{Filled}
+use Rattle.sorting_bounds.proofs.ScannerTable.{filled}
+use Rattle.sorting_labels.specs.Labels.{no_labels_to}
+use Rattle.sorting_labels.proofs.Labels.{cleared_length, cleared_label, cleared_rest}
+use Rattle.sorting_labels.proofs.Memory.{labels_none}
 use Rattle.sorting_search.specs.CutSearch.{Outcome, outcome, cut_search}
 use Rattle.sorting_search.specs.Table.{TableHolds, SameFrom, SearchPre, Searched}
 use Rattle.sorting_search.specs.Greedy.{greedy_figure, LowerBoundPre, GreedyFigure, greedy_figure_lem}

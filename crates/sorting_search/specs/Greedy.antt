@@ -11,9 +11,10 @@ use Rattle.sheet.specs.Limits.{table_length}
 use Rattle.interleaving.specs.declared.State.{State}
 use Rattle.interleaving.specs.Instance.{Instance, cost_cap}
 use Rattle.interleaving.specs.Search.{StripLeft, step_of, Completes}
-use Rattle.interleaving.specs.SearchLaws.{step_left}
+use Rattle.interleaving.proofs.SearchLaws.{step_left}
 use Rattle.interleaving.specs.Caps.{StepPre}
-use Rattle.interleaving.specs.Consistent.{Consistent, consistent_step}
+use Rattle.interleaving.specs.Consistent.{Consistent}
+use Rattle.interleaving.proofs.Consistent.{consistent_step}
 use Rattle.sorting_bounds.specs.DeskBound.{desk_bound}
 use Rattle.sorting_bounds.specs.ScannerBound.{EntriesFrom, scanner_bound}
 

@@ -10,14 +10,20 @@ use Rattle.interleaving.specs.declared.State.{State}
 use Rattle.interleaving.specs.declared.Incumbent.{Incumbent}
 use Rattle.interleaving.specs.Instance.{Instance}
 use Rattle.interleaving.specs.Search.{StripLeft, step_of, keep, over_desks, branch, search_from, LowerBound}
-use Rattle.interleaving.specs.SearchLaws.{over_none, branch_again_yes, branch_again_no, step_left, search_leaf, search_desks, search_stays, bound_down}
+use Rattle.interleaving.proofs.SearchLaws.{over_none, branch_again_yes, branch_again_no, step_left, search_leaf, search_desks, search_stays, bound_down}
 use Rattle.interleaving.specs.Caps.{StepPre}
-use Rattle.interleaving.specs.Consistent.{Consistent, consistent_step}
+use Rattle.interleaving.specs.Consistent.{Consistent}
+use Rattle.interleaving.proofs.Consistent.{consistent_step}
 use Rattle.sorting_bounds.specs.Layout.{count_key, labels_length}
-use Rattle.sorting_bounds.specs.DeskBound.{bound_cap, desk_bound, desk_bound_holds}
-use Rattle.sorting_bounds.specs.ScannerBound.{EntriesFrom, entries_same, scanner_bound, scanner_bound_holds}
-use Rattle.sorting_labels.specs.Labels.{dominated_by, either, dominated_by_lem, with_label}
-use Rattle.sorting_labels.specs.Memory.{LabelsHold, labels_search, labels_done, labels_bound, stored_behind, stored_length}
+use Rattle.sorting_bounds.specs.DeskBound.{bound_cap, desk_bound}
+use Rattle.sorting_bounds.proofs.DeskBound.{desk_bound_holds}
+use Rattle.sorting_bounds.specs.ScannerBound.{EntriesFrom, scanner_bound}
+use Rattle.sorting_bounds.proofs.ScannerBound.{entries_same, scanner_bound_holds}
+use Rattle.sorting_labels.specs.Labels.{dominated_by, with_label}
+use Rattle.sorting_labels.proofs.Labels.{either, dominated_by_lem}
+use Rattle.sorting_labels.specs.Memory.{LabelsHold}
+use Rattle.sorting_labels.proofs.Memory.{labels_search, labels_bound, stored_behind, stored_length}
+use Rattle.sorting_labels.proofs.LabelStored.{labels_done}
 use Rattle.sorting_search.specs.CutSearch.{is_cut, outcome, cut_search, exact_leaf, exact_cut, exact_all}
 
 -- what the table holds while the incumbent's figure is B

@@ -2,4 +2,3 @@
 -- that each row holds (Theorems).
 pub mod Sheets
 pub mod Table
-pub mod Theorems

@@ -1,7 +1,7 @@
 -- `column` meets its contract: the digit where something is left of the number, else the filler.
 use Prim.Native.Nat.{◌<◌}
 use native.Mathlib.Omega.{arith}
-use Rattle.decimal.specs.Storing.{column_digit, column_filler}
+use Rattle.decimal.proofs.Storing.{column_digit, column_filler}
 use Rattle.decimal.proofs.column.Goals as goal
 
 pub returns-then-rest-gt0 : goal.returns-then-rest-gt0

@@ -1,7 +1,7 @@
 -- `put_columns` meets its contract. Invariant: the columns from `left` on are stored, and `next` is the column left of them.
 use Prim.Native.Nat.{◌<◌}
 use native.Mathlib.Omega.{arith}
-use Rattle.decimal.specs.Storing.{stored_none, stored_more, stored_all}
+use Rattle.decimal.proofs.Storing.{stored_none, stored_more, stored_all}
 use Rattle.decimal.proofs.put_columns.Goals as goal
 
 pub loop-left-init : goal.loop-left-init

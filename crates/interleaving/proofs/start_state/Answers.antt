@@ -1,6 +1,6 @@
 -- `interleaving::start_state` meets its contract: at most 18 strips in all, so that their sum fits.
 use Rattle.interleaving.specs.Search.{start_state}
-use Rattle.interleaving.specs.Consistent.{start_sum}
+use Rattle.interleaving.proofs.Consistent.{start_sum}
 use mathlib.Core.Path.{refl}
 use native.Mathlib.Omega.{arith}
 use Rattle.interleaving.proofs.start_state.Goals as goal

@@ -1,7 +1,7 @@
 -- `interleaving::step` meets its contract. What the strip's sums come to is known from `step_pre_capped`, so that none wraps;
 -- the new state is the definition's.
-use Rattle.interleaving.specs.Caps.{step_pre_capped, greater_capped, weighted_capped}
-use Rattle.interleaving.specs.SearchLaws.{step_is}
+use Rattle.interleaving.proofs.CapLaws.{step_pre_capped, greater_capped, weighted_capped}
+use Rattle.interleaving.proofs.SearchLaws.{step_is}
 use native.Mathlib.Omega.{arith}
 use Rattle.interleaving.proofs.step.Goals as goal
 

@@ -1,5 +1,5 @@
 -- `after_member` meets its contract: one case a section.
-use Rattle.judge_members.specs.Laws.{after_batch_asked, after_strip_asked, after_mosaic, after_sorting, after_flight}
+use Rattle.judge_members.proofs.Laws.{after_batch_asked, after_strip_asked, after_mosaic, after_sorting, after_flight}
 use Rattle.judge_members.proofs.after_member.Goals as goal
 
 pub after_batch-requires : goal.after_batch-requires

@@ -1,5 +1,5 @@
 -- `figure_of` meets its contract: one case a section.
-use Rattle.judge_members.specs.Laws.{figure_mosaic, figure_sorting, figure_flight}
+use Rattle.judge_members.proofs.Laws.{figure_mosaic, figure_sorting, figure_flight}
 use Rattle.judge_members.proofs.figure_of.Goals as goal
 
 pub returns-then-section-eq1 : goal.returns-then-section-eq1

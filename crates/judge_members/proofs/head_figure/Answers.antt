@@ -1,5 +1,5 @@
 -- `head_figure` meets its contract: one case a section.
-use Rattle.judge_members.specs.Laws.{figure_of_mosaic_lem, figure_of_sorting_lem, figure_of_flight_lem}
+use Rattle.judge_members.proofs.Laws.{figure_of_mosaic_lem, figure_of_sorting_lem, figure_of_flight_lem}
 use Rattle.judge_members.proofs.head_figure.Goals as goal
 
 pub returns-then-section-eq1 : goal.returns-then-section-eq1

@@ -1,5 +1,5 @@
 -- `head_follows` meets its contract: one case a section.
-use Rattle.judge_members.specs.Laws.{head_mosaic, head_sorting, head_flight}
+use Rattle.judge_members.proofs.Laws.{head_mosaic, head_sorting, head_flight}
 use Rattle.judge_members.proofs.head_follows.Goals as goal
 
 pub returns-then-section-eq1 : goal.returns-then-section-eq1

@@ -1,5 +1,5 @@
 -- `head_number` meets its contract: 13 where the head does not follow, then 14 where the stated figure is not the true one.
-use Rattle.judge_members.specs.Laws.{head_wrong, figure_asked, figure_wrong, head_right}
+use Rattle.judge_members.proofs.Laws.{head_wrong, figure_asked, figure_wrong, head_right}
 use Rattle.judge_members.proofs.head_number.Goals as goal
 
 pub returns-then-not-head_follows : goal.returns-then-not-head_follows

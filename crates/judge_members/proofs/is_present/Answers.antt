@@ -1,5 +1,5 @@
 -- `is_present` meets its contract: one case a section.
-use Rattle.judge_members.specs.Laws.{present_mosaic, present_sorting, present_flight}
+use Rattle.judge_members.proofs.Laws.{present_mosaic, present_sorting, present_flight}
 use Rattle.judge_members.proofs.is_present.Goals as goal
 
 pub returns-then-section-eq1 : goal.returns-then-section-eq1

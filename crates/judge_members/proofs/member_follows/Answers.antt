@@ -1,5 +1,5 @@
 -- `member_follows` meets its contract: one case a section; the member is read and tested against what came before.
-use Rattle.judge_members.specs.Laws.{member_batch, member_job, member_block, batch_asked, job_asked, block_asked}
+use Rattle.judge_members.proofs.Laws.{member_batch, member_job, member_block, batch_asked, job_asked, block_asked}
 use Rattle.judge_members.proofs.member_follows.Goals as goal
 
 pub batch_follows-requires : goal.batch_follows-requires

@@ -1,5 +1,5 @@
 -- `member_place` meets its contract: the place by the sizes of its section, which fits as the place that is asked for does.
-use Rattle.judge_members.specs.Laws.{head_fits, members_fit, place_fits, place_is}
+use Rattle.judge_members.proofs.Laws.{head_fits, members_fit, place_fits, place_is}
 use Rattle.judge_members.proofs.member_place.Goals as goal
 
 pub overflow_add-result : goal.overflow_add-result

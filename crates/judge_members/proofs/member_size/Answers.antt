@@ -1,5 +1,5 @@
 -- `member_size` meets its contract: one case a section.
-use Rattle.judge_members.specs.Laws.{member_size_mosaic, member_size_sorting, member_size_flight}
+use Rattle.judge_members.proofs.Laws.{member_size_mosaic, member_size_sorting, member_size_flight}
 use Rattle.judge_members.proofs.member_size.Goals as goal
 
 pub returns-then-section-eq1 : goal.returns-then-section-eq1

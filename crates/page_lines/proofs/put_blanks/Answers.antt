@@ -1,5 +1,5 @@
 -- `page_lines::put_blanks` meets its contract: four spaces stored one behind the other.
-use Rattle.page_lines.specs.LineLaws.{second_blank, third_blank, fourth_blank, blanks_stored}
+use Rattle.page_lines.proofs.LineLaws.{second_blank, third_blank, fourth_blank, blanks_stored}
 use Rattle.page_lines.proofs.put_blanks.Goals as goal
 
 pub bounds-page-at-2 : goal.bounds-page-at-2

@@ -1,5 +1,5 @@
 -- `page_lines::put_block_line` meets its contract: the parts of the line are stored one behind the other, with blanks for its second field.
-use Rattle.page_lines.specs.LineLaws.{block_stored}
+use Rattle.page_lines.proofs.LineLaws.{block_stored}
 use Rattle.page_lines.proofs.put_block_line.Goals as goal
 
 pub returns : goal.returns

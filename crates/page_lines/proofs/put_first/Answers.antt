@@ -1,5 +1,5 @@
 -- `page_lines::put_first` meets its contract: the letter, and the first field behind it.
-use Rattle.page_lines.specs.LineLaws.{first_room, first_kept, first_stored}
+use Rattle.page_lines.proofs.LineLaws.{first_room, first_kept, first_stored}
 use Rattle.page_lines.proofs.put_first.Goals as goal
 
 pub put_columns-requires : goal.put_columns-requires

@@ -1,5 +1,5 @@
 -- `page_lines::put_head_line` meets its contract: the letter, the figure and the line feed, one behind the other.
-use Rattle.page_lines.specs.LineLaws.{head_room, head_feed, head_kept, head_stored}
+use Rattle.page_lines.proofs.LineLaws.{head_room, head_feed, head_kept, head_stored}
 use Rattle.page_lines.proofs.put_head_line.Goals as goal
 
 pub put_columns-requires : goal.put_columns-requires

@@ -1,5 +1,5 @@
 -- `page_lines::put_last` meets its contract: two times and the line feed, one behind the other.
-use Rattle.page_lines.specs.LineLaws.{last_feed, last_kept, last_stored}
+use Rattle.page_lines.proofs.LineLaws.{last_feed, last_kept, last_stored}
 use Rattle.page_lines.proofs.put_last.Goals as goal
 
 pub bounds-page-at : goal.bounds-page-at

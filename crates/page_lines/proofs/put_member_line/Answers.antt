@@ -1,5 +1,5 @@
 -- `page_lines::put_member_line` meets its contract: the parts of the line are stored one behind the other.
-use Rattle.page_lines.specs.LineLaws.{member_stored}
+use Rattle.page_lines.proofs.LineLaws.{member_stored}
 use Rattle.page_lines.proofs.put_member_line.Goals as goal
 
 pub returns : goal.returns

@@ -1,5 +1,5 @@
 -- `planner::plan` meets its contract: the two buffers first, then the call with the part of the table that it works in.
-use Rattle.planner.specs.Laws.{no_table, no_room, part_long, plan_within_pre, called}
+use Rattle.planner.proofs.Laws.{no_table, no_room, part_long, plan_within_pre, called}
 use Rattle.planner.proofs.plan.Goals as goal
 
 pub returns-then-table-lt-TABLE_LENGTH : goal.returns-then-table-lt-TABLE_LENGTH

@@ -1,5 +1,5 @@
 -- `planner::plan_sections` meets its contract: each section is planned as its crate promises, and the joined bytes are the chosen plan.
-use Rattle.planner.specs.Laws.{sheet_refused, order_impossible_lem, plan_flight_pre, plan_mosaic_pre, plan_sorting_pre, write_plan_pre, sheet_planned}
+use Rattle.planner.proofs.Laws.{sheet_refused, order_impossible_lem, plan_flight_pre, plan_mosaic_pre, plan_sorting_pre, write_plan_pre, sheet_planned}
 use Rattle.planner.proofs.plan_sections.Goals as goal
 
 pub returns-then-s-ne0 : goal.returns-then-s-ne0

@@ -1,5 +1,5 @@
 -- `planner::plan_within` meets its contract: what was read is planned, and the table is cleared on every way.
-use Rattle.planner.specs.Laws.{plan_sections_pre, call_within}
+use Rattle.planner.proofs.Laws.{plan_sections_pre, call_within}
 use Rattle.planner.proofs.plan_within.Goals as goal
 
 pub plan_sections-answer-requires : goal.plan_sections-answer-requires

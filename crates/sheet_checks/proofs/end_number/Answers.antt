@@ -2,7 +2,7 @@
 use borrow.Author.Tests.{le-leb, lt-leb}
 use Rattle.sheet.specs.Read.{end_number, end_checks}
 use Rattle.sheet.specs.Rows.{first_failure}
-use Rattle.sheet.specs.RowLaws.{test_fails, test_passes}
+use Rattle.sheet.proofs.RowLaws.{test_fails, test_passes}
 use Rattle.sheet_checks.specs.NumberLaws.{rows}
 use Rattle.sheet_checks.proofs.end_number.Goals as goal
 

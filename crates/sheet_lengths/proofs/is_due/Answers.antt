@@ -1,5 +1,5 @@
 -- `is_due` meets its contract: a length is among those that are due exactly where it is one of them.
-use Rattle.sheet_lengths.specs.Lengths.{compared}
+use Rattle.sheet_lengths.proofs.Lengths.{compared}
 use Rattle.sheet_lengths.proofs.is_due.Goals as goal
 
 pub returns-in-Bytes : goal.returns-in-Bytes

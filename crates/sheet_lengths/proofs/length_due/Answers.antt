@@ -1,5 +1,5 @@
 -- `length_due` meets its contract: each of its cases is the length that the field table has for the tag, or no length where it has none.
-use Rattle.sheet_lengths.specs.Lengths.{cases, mosaic_strip_case}
+use Rattle.sheet_lengths.proofs.Lengths.{cases, mosaic_strip_case}
 use borrow.Author.Rules.{rules}
 use native.Mathlib.Omega.{arith}
 use Rattle.sheet_lengths.proofs.length_due.Goals as goal

@@ -1,5 +1,5 @@
 -- `sorting_labels::clear_labels` meets its contract. The loop's invariant: the table with the numbers passed cleared.
-use Rattle.sorting_labels.specs.Labels.{clearing_none, clearing_more, clearing_all}
+use Rattle.sorting_labels.proofs.Labels.{clearing_none, clearing_more, clearing_all}
 use native.Mathlib.Omega.{arith}
 use Rattle.sorting_labels.proofs.clear_labels.Goals as goal
 

@@ -1,5 +1,5 @@
 -- `sorting_labels::costliest_label` meets its contract. The loop's invariant: the first costliest of the labels passed.
-use Rattle.sorting_labels.specs.Labels.{costliest_first, costliest_next, costliest_kept, costliest_all}
+use Rattle.sorting_labels.proofs.Labels.{costliest_first, costliest_next, costliest_kept, costliest_all}
 use mathlib.Core.Path.{◌∙◌}
 use native.Mathlib.Omega.{arith}
 use Rattle.sorting_labels.proofs.costliest_label.Goals as goal

@@ -1,5 +1,5 @@
 -- `sorting_labels::dominated` meets its contract. The loop's invariant: no label passed dominates the state.
-use Rattle.sorting_labels.specs.Labels.{dominated_none, dominated_not, dominated_at, dominated_all}
+use Rattle.sorting_labels.proofs.Labels.{dominated_none, dominated_not, dominated_at, dominated_all}
 use Prim.Native.Nat.{◌<◌}
 use native.Mathlib.Omega.{arith}
 use Rattle.sorting_labels.proofs.dominated.Goals as goal

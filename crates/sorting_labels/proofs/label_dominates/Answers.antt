@@ -1,5 +1,5 @@
 -- `sorting_labels::label_dominates` meets its contract: each of the four comparisons is one law.
-use Rattle.sorting_labels.specs.Labels.{over_cost, over_first, over_second, over_third, over_none}
+use Rattle.sorting_labels.proofs.Labels.{over_cost, over_first, over_second, over_third, over_none}
 use Rattle.sorting_labels.proofs.label_dominates.Goals as goal
 
 pub returns-then-s-m : goal.returns-then-s-m

@@ -1,6 +1,6 @@
 -- `strips_in_all` meets its contract: three counts of at most 6 fit their sum.
 use Rattle.sheet.specs.Sound.{strips_in_all}
-use Rattle.sheet.specs.DeskLaws.{two_desks_fit, all_desks_fit}
+use Rattle.sheet.proofs.DeskLaws.{two_desks_fit, all_desks_fit}
 use borrow.Author.Rules.{rules}
 use Rattle.sheet.proofs.desks.strips_in_all.Goals as goal
 

@@ -1,5 +1,5 @@
 -- `strips_of_desk` meets its contract: the count of a desk that there is, and 0 of any other.
-use Rattle.sheet.specs.DeskLaws.{desk_within, desk_past}
+use Rattle.sheet.proofs.DeskLaws.{desk_within, desk_past}
 use Rattle.sheet.proofs.desks.strips_of_desk.Goals as goal
 
 pub returns-then-d-lt3 : goal.returns-then-d-lt3

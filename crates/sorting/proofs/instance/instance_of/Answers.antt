@@ -1,5 +1,5 @@
 -- `sorting::instance::instance_of` meets its contract. The loop's invariant: the counts, and the times and weights written so far.
-use Rattle.sorting.specs.Instance.{timed_start, timed_more, timed_end}
+use Rattle.sorting.proofs.InstanceLaws.{timed_start, timed_more, timed_end}
 use Rattle.sorting.proofs.instance.instance_of.Goals as goal
 
 pub loop-k-init : goal.loop-k-init

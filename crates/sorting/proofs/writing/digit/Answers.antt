@@ -1,5 +1,5 @@
 -- `sorting::writing::digit` meets its contract. The loop's invariant: the rest is the number without its last i digits.
-use Rattle.sorting.specs.Writing.{digit_start, digit_more, digit_end}
+use Rattle.sorting.proofs.WritingLaws.{digit_start, digit_more, digit_end}
 use native.Mathlib.Omega.{arith}
 use Rattle.sorting.proofs.writing.digit.Goals as goal
 

@@ -1,6 +1,6 @@
 -- `sorting::writing::plan_of` meets its contract. The loop's invariant: the jobs written are those of the chosen list, and the state is the one that it has
 -- reached.
-use Rattle.sorting.specs.Writing.{begun_start, loop_digit, loop_with_job_pre, loop_serves, loop_falls, loop_more, begun_end}
+use Rattle.sorting.proofs.WritingLaws.{begun_start, loop_digit, loop_with_job_pre, loop_serves, loop_falls, loop_more, begun_end}
 use Rattle.sorting.proofs.writing.plan_of.Goals as goal
 
 pub loop-s-init : goal.loop-s-init

@@ -1,7 +1,8 @@
 -- `sorting_bounds::desk_bound::desk_rest` meets its contract. The loop's invariant: what is summed and what is left are together the whole rest;
 -- each strip adds at most `rest_span`.
-use Rattle.sorting_bounds.specs.DeskBound.{desk_rest, rest_none, rest_more, rest_all, rest_small, strip_small, greater_small}
-use Rattle.sorting_bounds.specs.DeskBound.{weighted_small}
+use Rattle.sorting_bounds.specs.DeskBound.{desk_rest}
+use Rattle.sorting_bounds.proofs.DeskBound.{rest_none, rest_more, rest_all, rest_small, strip_small, greater_small}
+use Rattle.sorting_bounds.proofs.DeskBound.{weighted_small}
 use mathlib.Core.Path.{refl}
 use native.Mathlib.Omega.{arith}
 use Rattle.sorting_bounds.proofs.desk_bound.desk_rest.Goals as goal

@@ -1,5 +1,5 @@
 -- `sorting_bounds::scanner_bound::fill_scanner_table` meets its contract. The loop's invariant: the table is the definition's with the entries from k on.
-use Rattle.sorting_bounds.specs.ScannerTable.{filling_start, filling_enter, filling_more, filling_end}
+use Rattle.sorting_bounds.proofs.ScannerTable.{filling_start, filling_enter, filling_more, filling_end}
 use Rattle.sorting_bounds.proofs.scanner_bound.fill_scanner_table.Goals as goal
 
 pub loop-k-init : goal.loop-k-init

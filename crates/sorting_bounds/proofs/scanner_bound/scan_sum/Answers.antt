@@ -1,5 +1,5 @@
 -- `sorting_bounds::scanner_bound::scan_sum` meets its contract. The loop's invariant: the sum is that of the strips passed, at most `time_cap` each.
-use Rattle.sorting_bounds.specs.ScannerTable.{sum_start, sum_more, sum_end}
+use Rattle.sorting_bounds.proofs.ScannerTable.{sum_start, sum_more, sum_end}
 use native.Mathlib.Omega.{arith}
 use Rattle.sorting_bounds.proofs.scanner_bound.scan_sum.Goals as goal
 

@@ -1,5 +1,5 @@
 -- `sorting_bounds::scanner_bound::scanner_bound` meets its contract: the cost and the entry of the state's own count vector.
-use Rattle.sorting_bounds.specs.ScannerTable.{scanner_bound_small, scanner_bound_is}
+use Rattle.sorting_bounds.proofs.ScannerTable.{scanner_bound_small, scanner_bound_is}
 use native.Mathlib.Omega.{arith}
 use Rattle.sorting_bounds.proofs.scanner_bound.scanner_bound.Goals as goal
 

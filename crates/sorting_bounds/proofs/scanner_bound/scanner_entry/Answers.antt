@@ -1,5 +1,5 @@
 -- `sorting_bounds::scanner_bound::scanner_entry` meets its contract: where no strip is left the entry is 0, else the least of three rests.
-use Rattle.sorting_bounds.specs.ScannerTable.{enter_first, enter_second, enter_third, entry_none, entry_some}
+use Rattle.sorting_bounds.proofs.ScannerTable.{enter_first, enter_second, enter_third, entry_none, entry_some}
 use mathlib.Core.Path.{refl}
 use native.Mathlib.Omega.{arith}
 use Rattle.sorting_bounds.proofs.scanner_bound.scanner_entry.Goals as goal

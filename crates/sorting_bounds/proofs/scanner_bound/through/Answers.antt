@@ -1,5 +1,5 @@
 -- `sorting_bounds::scanner_bound::through` meets its contract: the two cases of the definition. The entry behind is at most `entry_cap`, so that no sum wraps.
-use Rattle.sorting_bounds.specs.ScannerTable.{strip_sums, through_none, through_some}
+use Rattle.sorting_bounds.proofs.ScannerTable.{strip_sums, through_none, through_some}
 use native.Mathlib.Omega.{arith}
 use Rattle.sorting_bounds.proofs.scanner_bound.through.Goals as goal
 

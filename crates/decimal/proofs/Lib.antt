@@ -1,0 +1,5 @@
+pub mod Columns
+pub mod Digits
+pub mod Laws
+pub mod Storing
+pub mod ColumnsSame

@@ -1,0 +1,5 @@
+pub mod Completion
+pub mod SearchLaws
+pub mod Consistent
+pub mod CapLaws
+pub mod AnyIncumbent

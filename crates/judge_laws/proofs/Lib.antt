@@ -1,0 +1,14 @@
+pub mod Allows
+pub mod Decided
+pub mod DueLaws
+pub mod Faults
+pub mod Figures
+pub mod HeadLength
+pub mod Laid
+pub mod OtherPlace
+pub mod Outcomes
+pub mod Sections
+pub mod StatedPlan
+pub mod Tests
+pub mod Theorems
+pub mod Written

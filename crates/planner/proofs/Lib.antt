@@ -1,0 +1,5 @@
+pub mod Theorems
+pub mod TurnedBack
+pub mod Laws
+pub mod Outcomes
+pub mod OtherPlace

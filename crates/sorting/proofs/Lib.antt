@@ -1,0 +1,10 @@
+pub mod Chosen
+pub mod Lawful
+pub mod Least
+pub mod Route
+pub mod Theorems
+pub mod Times
+pub mod WritingLaws
+pub mod InstanceLaws
+pub mod Clauses
+pub mod Taken

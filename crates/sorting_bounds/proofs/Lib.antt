@@ -1,0 +1,3 @@
+pub mod DeskBound
+pub mod ScannerBound
+pub mod ScannerTable
