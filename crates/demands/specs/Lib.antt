@@ -633,7 +633,7 @@ module _ (sheet plan page page_after : List ℕ) (r : Answer) (call : Paged shee
   page_says number Why more judging = (
     λ large place f. comes_back large place (judging.always place f),
     λ e. let p = page_judge_only sheet plan page page_after r call number more e in
-    (p.0, rw p.2 (judging.only p.1)),
+        (p.0, rw p.2 (judging.only p.1)),
   )
     where
       comes_back : page_length ≤ length page → (place : ℕ) → judged sheet plan ≡ turned_back number place → r ≡ answer number place 0
@@ -658,7 +658,7 @@ module _ (sheet plan page page_after : List ℕ) (r : Answer) (call : Paged shee
   pub paged_sixteen : PagedForValue time_of_zero TimeOfZero
   paged_sixteen =
       let j =
-          judged_for sheet plan (judged sheet plan) refl time_of_zero (RefusedForValue sheet TimeOfZero) (omega arith) (λ l m. omega arith) (zero_exactly sheet)
+      judged_for sheet plan (judged sheet plan) refl time_of_zero (RefusedForValue sheet TimeOfZero) (omega arith) (λ l m. omega arith) (zero_exactly sheet)
       in
       let w = page_says time_of_zero (RefusedForValue sheet TimeOfZero) (omega arith) j in
       record { always = w.0; only = w.1 }
@@ -799,8 +799,8 @@ module _ (sheet plan table plan_after table_end : List ℕ) (r : Answer) (call :
       → r ≡ answer time_too_large place 0
   fifteen_for_a_turn large place f l =
       let given =
-          given_for sheet plan table plan_after table_end r call time_too_large (RefusedForValue sheet TimeTooLarge) (omega arith) (λ e. omega arith)
-          (too_large_exactly sheet)
+      given_for sheet plan table plan_after table_end r call time_too_large (RefusedForValue sheet TimeTooLarge) (omega arith) (λ e. omega arith)
+      (too_large_exactly sheet)
       in
       given.always large place (turn_refused sheet place f l)
 
@@ -1055,8 +1055,8 @@ module _ (sheet plan table plan_after table_end : List ℕ) (r : Answer) (call :
   free_eleven_where_no_choice_works free = (
     λ e w proper. (no_choice_exactly (read_sheet sheet).flight w).0 (none (eleven_only_then sheet plan table plan_after table_end r call e).2 w proper),
     λ large sound works.
-    eleven_always_then sheet plan table plan_after table_end r call large sound
-    (Impossible.no_order_given free (λ w proper. (no_choice_exactly (read_sheet sheet).flight w).1 (works w proper))),
+        eleven_always_then sheet plan table plan_after table_end r call large sound
+        (Impossible.no_order_given free (λ w proper. (no_choice_exactly (read_sheet sheet).flight w).1 (works w proper))),
   )
     where
       none : Impossible (read_sheet sheet) → NoProperOrder (read_sheet sheet).flight
@@ -1096,8 +1096,8 @@ pub paged_seventeen : (sheet plan page page_after : List ℕ) (r : Answer) (call
     → PagedFor sheet plan page page_after r call longest_below_shortest (RefusedForLongestBelowShortest sheet)
 paged_seventeen sheet plan page page_after r call =
     let w =
-        page_says sheet plan page page_after r call longest_below_shortest (RefusedForLongestBelowShortest sheet) (omega arith)
-        (judged_seventeen sheet plan (judged sheet plan) refl)
+    page_says sheet plan page page_after r call longest_below_shortest (RefusedForLongestBelowShortest sheet) (omega arith)
+    (judged_seventeen sheet plan (judged sheet plan) refl)
     in
     record { always = w.0; only = w.1 }
 

@@ -1,17 +1,15 @@
 -- Lists of passes, and the starts and times of the rules by the number of the pass.
-use Rattle.std.specs.Prelude.{◌≡◌, List, ℕ, ◌+◌, ◌-◌, ◌*◌, ◌<◌, length}
+use Rattle.std.specs.Prelude.{◌≡◌, ℕ, ◌+◌, ◌-◌, ◌*◌, ◌<◌, length}
 use Rattle.std.proofs.Math.Path.{refl}
 use Rattle.std.proofs.Common.{ap, ◌∙◌, arith}
 use Rattle.std.proofs.Math.Decide.{dec_lt}
 use Rattle.order.specs.Passes.{time_of}
-use Rattle.base.specs.Listed.{listed, listed_length, listed_at}
-use Rattle.difference.specs.System.{value}
+use Rattle.base.specs.Listed.{listed_length, listed_at}
 use Rattle.sheet.specs.declared.FlightSection.{FlightSection}
 use Rattle.rules.specs.Flight.{passes_at, pass_start, pass_time, no_passes}
 use Rattle.rules.specs.declared.Passes.{Passes}
 use Rattle.rules_laws.proofs.FlightRunning.{start_first, start_second}
-use Rattle.flight_order.specs.Constraints.{least_starts}
-use Rattle.flight_order.specs.Timetable.{passes_with_starts, least_passes}
+use Rattle.flight_order.specs.Timetable.{passes_with_starts}
 
 module _ (n : ℕ) (y : ℕ → ℕ) where
   pub passes_length : length (passes_with_starts n y) ≡ n

@@ -1,15 +1,9 @@
 -- What the code asks of a flight, and that each of its constraints is then about two of its passes and has small numbers.
 use Rattle.std.specs.Prelude.{ℕ, ◌+◌, ◌-◌, ◌*◌, ◌≤◌, ◌<◌, length, get_or}
-use Rattle.std.proofs.Math.Decide.{dec_lt}
-use Rattle.std.proofs.Common.{arith}
 use Rattle.order.specs.Order.{Proper}
-use Rattle.order.specs.Passes.{pass_at, time_of}
-use Rattle.order.specs.PassLaws.{pass_known, first_time, second_time}
-use Rattle.difference.specs.System.{Inside, value, least_values}
-use Rattle.difference.specs.Caps.{most_number, value_cap}
-use Rattle.difference.specs.Round.{rounds_bound}
+use Rattle.difference.specs.Caps.{most_number}
 use Rattle.sheet.specs.Limits.{most_time, most_blocks}
-use Rattle.flight_order.specs.Constraints.{OrderedFlight, constraint_of, system_for}
+use Rattle.flight_order.specs.Constraints.{OrderedFlight}
 use Rattle.flight_order.specs.declared.Constraint.{Constraint}
 
 pub record Good (F : OrderedFlight) : Type 0 where

@@ -1,11 +1,7 @@
 -- The numbered constraints say the three rules of a schedule: each delay in its window, and each pass of the order after the pass before it.
 use Rattle.std.specs.Prelude.{◌≡◌, ℕ, ◌+◌, ◌-◌, ◌*◌, ◌≤◌, ◌<◌, get_or}
-use Rattle.std.proofs.Math.Decide.{dec_lt}
-use Rattle.std.proofs.Common.{arith}
-use borrow.Author.Tests.{lt-ltb, le-ltb}
 use Rattle.order.specs.Passes.{pass_at, time_of}
-use Rattle.difference.specs.System.{Solves}
-use Rattle.flight_order.specs.Constraints.{OrderedFlight, constraint_of, system_for}
+use Rattle.flight_order.specs.Constraints.{OrderedFlight}
 
 -- y p is the start of pass p.
 pub record Schedule (F : OrderedFlight) (y : ℕ → ℕ) : Type 0 where

@@ -5,7 +5,6 @@ use Rattle.field.specs.Field.{field_at}
 use Rattle.field.specs.Fields.{whole_at}
 use Rattle.field.specs.declared.Field.TheVariants.{Whole}
 use Rattle.plan_format.specs.Format.{Form, content_length, mosaic_head_form, sorting_head_form, flight_head_form, batch_form, job_form, passes_form}
-use Rattle.sheet.specs.Tags.{plan_mosaic_tag, plan_sorting_tag}
 use Rattle.sheet.specs.declared.Sheet.{Sheet}
 use Rattle.judge_members.specs.Members.{head_form, member_form}
 use Rattle.judge_laws.specs.Due.{head_tag, head_length, member_tag, Due, NoneDue}

@@ -6,13 +6,8 @@ use Rattle.std.proofs.Common.{ap, ◌∙◌, arith, le-ltb}
 use Rattle.sheet.specs.Refusals.{layout_wrong, rule_broken, figure_untrue}
 use Rattle.sheet.specs.Read.{read_sheet}
 use Rattle.sheet.specs.Table.{RefusedFor}
-use Rattle.sheet.specs.Sound.{strips_in_all}
 use Rattle.sheet.proofs.Theorems.{read_sound}
-use Rattle.sheet.specs.declared.Sheet.{Sheet}
-use Rattle.rules.specs.Mosaic.{mosaic_figure}
-use Rattle.rules.specs.Sorting.{sorting_figure}
-use Rattle.rules.specs.Flight.{flight_figure}
-use Rattle.rules.specs.Plan.{Plan, PlanLawful, AllowedFor}
+use Rattle.rules.specs.Plan.{PlanLawful, AllowedFor}
 use Rattle.plan_format.specs.ByteLaws.{AreBytes}
 use Rattle.rules_laws.proofs.Fits.{mosaic_figure_least, sorting_figure_least, flight_figure_least}
 use Rattle.judge_members.specs.Members.{present}

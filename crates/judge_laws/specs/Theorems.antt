@@ -1,25 +1,16 @@
 -- The theorems of the judge. It finds no fault exactly in the plans that are allowed for the sheet, and its three figures are then the rules' figures of that
 -- plan.
 -- 01: "The judge takes a sheet and a plan and gives the figure of each section, 0 for an absent section".
-use Rattle.std.specs.Prelude.{ℕ, ◌≤◌, ◌<◌, ◌≡◌, Bool, cond, List, ltb}
-use Rattle.std.proofs.Common.{ap, ◌∙◌, arith, le-ltb}
-use Rattle.sheet.specs.Refusals.{layout_wrong, rule_broken, figure_untrue}
-use Rattle.sheet.specs.Read.{read_sheet}
-use Rattle.sheet.specs.Table.{RefusedFor}
+use Rattle.std.specs.Prelude.{ℕ, ◌≤◌, ◌<◌, ◌≡◌}
+use Rattle.std.proofs.Common.{◌∙◌}
 use Rattle.sheet.specs.Sound.{strips_in_all}
-use Rattle.sheet.proofs.Theorems.{read_sound}
 use Rattle.sheet.specs.declared.Sheet.{Sheet}
 use Rattle.rules.specs.Mosaic.{mosaic_figure}
 use Rattle.rules.specs.Sorting.{sorting_figure}
 use Rattle.rules.specs.Flight.{flight_figure}
-use Rattle.rules.specs.Plan.{Plan, PlanLawful, AllowedFor}
-use Rattle.plan_format.specs.ByteLaws.{AreBytes}
-use Rattle.rules_laws.proofs.Fits.{mosaic_figure_least, sorting_figure_least, flight_figure_least}
+use Rattle.rules.specs.Plan.{Plan}
 use Rattle.judge_members.specs.Members.{present}
-use Rattle.judge.specs.Judged.{stated_figure, turned_back, found, judged}
-use Rattle.judge.specs.Stated.{stated_plan}
 use Rattle.judge.specs.declared.Judged.{Judged}
-use Rattle.judge_laws.specs.Fault.{SectionFault, Fault}
 
 -- The judge's figures of a plan, where it is allowed: those that the rules give.
 pub record FiguresTrue (s : Sheet) (p : Plan) (j : Judged) : Type 0 where

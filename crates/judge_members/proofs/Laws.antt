@@ -5,9 +5,9 @@ use Rattle.std.proofs.Math.Path.{ap}
 use Rattle.std.proofs.Math.Nat.{mul-le-mul}
 use borrow.Author.Tests.{eq-eqb, ne_eqb, eqb-true, ltb-true, leb-true, not-true, not-false}
 use Rattle.base.specs.Branch.{both, check}
-use Rattle.sheet.specs.Limits.{most_weight, most_strips, most_desks, most_strips_of_desk, most_blocks, ceiling}
+use Rattle.sheet.specs.Limits.{most_desks, most_strips_of_desk, ceiling}
 use Rattle.sheet.specs.Refusals.{rule_broken, figure_untrue}
-use Rattle.sheet.specs.Sound.{MosaicSound, SortingSound, SheetSound, strips_in_all}
+use Rattle.sheet.specs.Sound.{SortingSound, SheetSound, strips_in_all}
 use Rattle.sheet.proofs.Stores.{set_here, set_there, set_most}
 use Rattle.sheet.specs.declared.Sheet.{Sheet}
 use Rattle.rules.specs.Mosaic.{no_batch}
@@ -22,7 +22,7 @@ use Rattle.rules.specs.declared.Job.{Job}
 use Rattle.rules.specs.declared.Passes.{Passes}
 use Rattle.running.specs.declared.Desks.{Desks}
 use Rattle.judge_rules.specs.Follows.{batch_in_run, batch_in_time, batch_follows, job_in_turn, job_in_time, job_follows, block_follows, all_done, flight_head}
-use Rattle.judge_rules.specs.Clauses.{DesksFit, BatchFollowsPre, JobFollowsPre, AfterJobPre, BlockFollowsPre}
+use Rattle.judge_rules.specs.Clauses.{DesksFit, BatchFollowsPre, JobFollowsPre, BlockFollowsPre}
 use Rattle.judge_flight.specs.Starts.{FigureTold}
 use Rattle.judge_layout.specs.declared.Part.{Part}
 use Rattle.judge_members.specs.Members.{present, head_form, member_form, member_place, begun, member_follows, after_batch, after_strip, after_member}

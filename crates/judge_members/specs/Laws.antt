@@ -1,32 +1,17 @@
 -- What the judge of a member and of a head requires and keeps to, and that what the code reads is what the definitions name.
-use Rattle.std.specs.Prelude.{ℕ, zero, suc, ◌+◌, ◌-◌, ◌*◌, ◌^◌, ◌≤◌, ◌<◌, ◌≡◌, refl, Bool, true, false, not, cond, ◌&&◌, List, ◌∷◌, [], length, get_or, set, ltb, leb, eqb}
-use Rattle.std.proofs.Common.{sym, ◌∙◌, arith, length-set}
-use Rattle.std.proofs.Math.Path.{ap}
-use Rattle.std.proofs.Math.Nat.{mul-le-mul}
-use borrow.Author.Tests.{eq-eqb, ne_eqb, eqb-true, ltb-true, leb-true, not-true, not-false}
-use Rattle.base.specs.Branch.{both, check}
-use Rattle.sheet.specs.Limits.{most_weight, most_strips, most_desks, most_strips_of_desk, most_blocks, ceiling}
-use Rattle.sheet.specs.Refusals.{rule_broken, figure_untrue}
-use Rattle.sheet.specs.Sound.{MosaicSound, SortingSound, SheetSound, strips_in_all}
-use Rattle.sheet.proofs.Stores.{set_here, set_there, set_most}
+use Rattle.std.specs.Prelude.{ℕ, ◌+◌, ◌-◌, ◌*◌, ◌^◌, ◌≤◌, ◌<◌, ◌≡◌, true, ◌&&◌, List, ◌∷◌, [], get_or}
+use Rattle.std.proofs.Common.{◌∙◌}
+use Rattle.sheet.specs.Limits.{most_weight, most_strips, most_blocks, ceiling}
+use Rattle.sheet.specs.Sound.{MosaicSound, SheetSound}
 use Rattle.sheet.specs.declared.Sheet.{Sheet}
-use Rattle.rules.specs.Mosaic.{no_batch}
-use Rattle.rules.specs.Sorting.{strips_of, slot, job_weight, desk_finish, desk_time}
-use Rattle.rules.specs.Flight.{flight_figure}
-use Rattle.plan_format.specs.Format.{size_of, mosaic_head_form, batch_form, sorting_head_form, job_form, flight_head_form, passes_form}
-use Rattle.plan_read.specs.PlanRead.{figure_from, order_from, batch_from, job_from, passes_from, blocks_from, BatchRead, JobRead, PassesRead}
-use Rattle.running.specs.Running.{batch_weight, free_desks, after_job}
-use Rattle.running.specs.FunctionLaws.{TimeTold, WeightTold, JobWeightTold, batch_weight_most}
+use Rattle.rules.specs.Sorting.{desk_finish}
+use Rattle.plan_format.specs.Format.{size_of, flight_head_form, passes_form}
 use Rattle.rules.specs.declared.Batch.{Batch}
 use Rattle.rules.specs.declared.Job.{Job}
-use Rattle.rules.specs.declared.Passes.{Passes}
-use Rattle.running.specs.declared.Desks.{Desks}
-use Rattle.judge_rules.specs.Follows.{batch_in_run, batch_in_time, batch_follows, job_in_turn, job_in_time, job_follows, block_follows, all_done, flight_head}
-use Rattle.judge_rules.specs.Clauses.{DesksFit, BatchFollowsPre, JobFollowsPre, AfterJobPre, BlockFollowsPre}
-use Rattle.judge_flight.specs.Starts.{FigureTold}
+use Rattle.judge_rules.specs.Clauses.{DesksFit, AfterJobPre}
 use Rattle.judge_layout.specs.declared.Part.{Part}
-use Rattle.judge_members.specs.Members.{present, head_form, member_form, member_place, begun, member_follows, after_batch, after_strip, after_member}
-use Rattle.judge_members.specs.Members.{head_follows, figure_of, head_number}
+use Rattle.judge_members.specs.Members.{member_place, member_follows}
+use Rattle.judge_members.specs.Members.{head_follows}
 use Rattle.judge_members.specs.declared.Progress.{Progress}
 
 -- the most that one strip adds to a figure: the greatest weight times the ceiling

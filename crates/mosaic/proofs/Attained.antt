@@ -7,13 +7,13 @@ use Prim.Native.Nat.{ℕ, zero, suc, ◌+◌, ◌*◌, ◌-◌, ◌≤◌, ◌<�
 use Rattle.std.proofs.Math.Nat.{mul-le-mul}
 use Rattle.std.proofs.Math.Decide.{dec_lt}
 use native.Mathlib.Omega.{arith}
-use Rattle.sheet.specs.Limits.{most_time, most_weight, most_strips}
+use Rattle.sheet.specs.Limits.{most_weight, most_strips}
 use Rattle.sheet.specs.Sound.{MosaicSound}
 use Rattle.sheet.specs.declared.MosaicSection.{MosaicSection}
 use Rattle.rules.specs.declared.Batch.{Batch}
 use Rattle.rules.specs.Mosaic.{ready, setup_time}
-use Rattle.running.specs.FunctionLaws.{most_setup, batch_weight_most}
-use Rattle.running.specs.Running.{batch_weight, BatchFollows, MosaicRuns, none, more}
+use Rattle.running.specs.FunctionLaws.{batch_weight_most}
+use Rattle.running.specs.Running.{batch_weight, BatchFollows, none, more}
 use Rattle.rules_laws.proofs.Finish.{setup_most}
 use Rattle.rules_laws.specs.MosaicRunning.{running_figure}
 use Rattle.batching.specs.Least.{bench_start, finish_of}

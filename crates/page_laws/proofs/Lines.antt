@@ -11,7 +11,7 @@ use Rattle.std.proofs.lemmas.List.{get_or_at}
 use Rattle.base.specs.Listed.{listed, listed_length, listed_at}
 use Rattle.decimal.specs.Columns.{space, columns}
 use Rattle.decimal.proofs.Laws.{length_columns, no_line_feed}
-use Rattle.sheet.specs.Limits.{page_length, most_desks, most_strips_of_desk, most_strips, most_blocks}
+use Rattle.sheet.specs.Limits.{most_desks, most_strips_of_desk, most_strips, most_blocks}
 use Rattle.sheet.specs.Sound.{SheetSound, strips_in_all}
 use Rattle.sheet.specs.declared.Sheet.{Sheet}
 use Rattle.rules.specs.Mosaic.{batch_at, mosaic_figure}

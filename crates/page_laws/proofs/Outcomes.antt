@@ -1,5 +1,5 @@
 -- The ways out of a page call, read from its contract: 2, a plan that the judge does not allow, and the page.
-use Rattle.std.specs.Prelude.{ℕ, ◌≤◌, ◌<◌, ◌≡◌, refl, Bool, List, drop, ltb, eqb}
+use Rattle.std.specs.Prelude.{ℕ, ◌≤◌, ◌<◌, ◌≡◌, refl, Bool, List, ltb, eqb}
 use Rattle.std.proofs.Math.Path.{sym, ap}
 use Rattle.std.proofs.Common.{◌∙◌, ltb-true, ltb-false, eqb-true, arith}
 use Rattle.std.proofs.Math.Bool.{true, false}
@@ -7,7 +7,7 @@ use Rattle.std.proofs.Math.ListN.{length}
 use Rattle.std.proofs.lemmas.Bool.{eqb-false}
 use Rattle.base.specs.Answer.{answer, written}
 use Rattle.base.specs.declared.Answer.{Answer}
-use Rattle.field.specs.Put.{holding, holding_none, held}
+use Rattle.field.specs.Put.{holding_none, held}
 use Rattle.sheet.specs.Limits.{page_length}
 use Rattle.sheet.specs.Refusals.{buffer_too_small}
 use Rattle.judge.specs.Judged.{judged}

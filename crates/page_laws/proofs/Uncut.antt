@@ -1,10 +1,9 @@
 -- No number on the page of a lawful plan of a sound sheet is cut: each has no more digits than its field has columns, so that the columns say the number.
 -- The bounds are those of lawful timetables (crate rules_laws, specs/Fits.antt): at most 40 members of a kind, times up to the
 -- ceiling, figures up to 40 × 100 times the ceiling.
-use Rattle.std.specs.Prelude.{ℕ, ◌+◌, ◌-◌, ◌^◌, ◌≤◌, ◌<◌, ◌≡◌, ◌++◌, length, replicate}
+use Rattle.std.specs.Prelude.{ℕ, ◌+◌, ◌-◌, ◌^◌, ◌≤◌, ◌<◌, ◌≡◌, ◌++◌, length}
 use Rattle.std.proofs.Common.{arith}
-use Rattle.decimal.specs.Columns.{space, columns, columns_value}
-use Rattle.decimal.specs.Digits.{digits_of}
+use Rattle.decimal.specs.Columns.{space, columns}
 use Rattle.decimal.proofs.Digits.{right_aligned}
 use Rattle.decimal.proofs.Laws.{columns_back}
 use Rattle.decimal.proofs.ColumnsSame.{columns_same}

@@ -1,17 +1,14 @@
 -- The ways out of a page call, read from its contract: 2, a plan that the judge does not allow, and the page.
-use Rattle.std.specs.Prelude.{ℕ, ◌≤◌, ◌<◌, ◌≡◌, refl, Bool, List, drop, ltb, eqb}
-use Rattle.std.proofs.Math.Path.{sym, ap}
-use Rattle.std.proofs.Common.{◌∙◌, ltb-true, ltb-false, eqb-true, arith}
-use Rattle.std.proofs.Math.Bool.{true, false}
+use Rattle.std.specs.Prelude.{ℕ, ◌≤◌, ◌<◌, ◌≡◌, List, drop}
+use Rattle.std.proofs.Common.{◌∙◌}
 use Rattle.std.proofs.Math.ListN.{length}
-use Rattle.std.proofs.lemmas.Bool.{eqb-false}
 use Rattle.base.specs.Answer.{answer, written}
 use Rattle.base.specs.declared.Answer.{Answer}
-use Rattle.field.specs.Put.{holding, holding_none, held}
+use Rattle.field.specs.Put.{holding}
 use Rattle.sheet.specs.Limits.{page_length}
 use Rattle.sheet.specs.Refusals.{buffer_too_small}
 use Rattle.judge.specs.Judged.{judged}
-use Rattle.page.specs.Call.{page_of, printed_answer, printed, page_answer, paged_bytes, Paged}
+use Rattle.page.specs.Call.{page_of}
 
 pub data PageOutcome (sheet plan page page_after : List ℕ) (r : Answer) : Type 0 where
   small : length page < page_length → r ≡ answer buffer_too_small 0 0 → page_after ≡ page → PageOutcome sheet plan page page_after r

@@ -2,22 +2,14 @@
 -- The bounds are those of lawful timetables (crate rules_laws, specs/Fits.antt): at most 40 members of a kind, times up to the
 -- ceiling, figures up to 40 × 100 times the ceiling.
 use Rattle.std.specs.Prelude.{ℕ, ◌+◌, ◌-◌, ◌^◌, ◌≤◌, ◌<◌, ◌≡◌, ◌++◌, length, replicate}
-use Rattle.std.proofs.Common.{arith}
 use Rattle.decimal.specs.Columns.{space, columns, columns_value}
 use Rattle.decimal.specs.Digits.{digits_of}
-use Rattle.decimal.proofs.Digits.{right_aligned}
-use Rattle.decimal.proofs.Laws.{columns_back}
-use Rattle.decimal.proofs.ColumnsSame.{columns_same}
-use Rattle.sheet.specs.Limits.{ceiling, most_strips, most_blocks}
-use Rattle.sheet.specs.Sound.{SheetSound}
 use Rattle.sheet.specs.declared.Sheet.{Sheet}
 use Rattle.rules.specs.Mosaic.{batch_at, mosaic_figure}
 use Rattle.rules.specs.Sorting.{job_at, sorting_figure}
 use Rattle.rules.specs.Flight.{passes_at, flight_figure}
-use Rattle.rules.specs.Plan.{Plan, PlanLawful}
-use Rattle.rules_laws.proofs.Fits.{mosaic_figure_most, batches_most, batch_last, batch_start, job_desk, job_number, job_scan, job_start}
-use Rattle.rules_laws.proofs.SortingFits.{sorting_figure_most}
-use Rattle.rules_laws.proofs.Fits.{flight_figure_most, passes_first, passes_second}
+use Rattle.rules.specs.Plan.{Plan}
+use Rattle.rules_laws.proofs.Fits.{batch_last, batch_start, job_desk, job_number, job_scan, job_start}
 
 -- a number fits its columns, stands in them "right-aligned with spaces, no leading zeros" (`digits_of` has its fewest digits), and is read back from them
 pub record Uncut (width value : ℕ) : Type 0 where

@@ -1,16 +1,14 @@
 -- The ways in which a call can go, each with its answer, its plan buffer and its table: what the contract `Called` says, case by case.
-use Rattle.std.specs.Prelude.{ℕ, ◌≤◌, ◌<◌, ◌≡◌, refl, Bool, List, length, drop, ltb, eqb}
+use Rattle.std.specs.Prelude.{ℕ, ◌≤◌, ◌<◌, ◌≡◌, refl, Bool, List, length, ltb, eqb}
 use Rattle.std.proofs.Math.Path.{sym, ap}
 use Rattle.std.proofs.Common.{◌∙◌, arith}
 use Rattle.std.proofs.Math.Bool.{true, false}
 use borrow.Author.Tests.{ltb-true, ltb-false, eqb-true, eqb-false}
-use Rattle.field.specs.Put.{holding, holding_none, held}
+use Rattle.field.specs.Put.{holding_none, held}
 use Rattle.sheet.specs.Limits.{table_length, plan_length}
-use Rattle.sheet.specs.Refusals.{table_too_small, buffer_too_small, order_impossible}
 use Rattle.sheet.specs.Read.{read_sheet}
-use Rattle.rules.specs.Plan.{plan_bytes}
 use Rattle.flight.specs.Choice.{is_possible}
-use Rattle.planner.specs.Call.{chosen_plan, sheet_answer, sheet_plan, answer_of, planned_bytes, cleared_to, table_after, Called}
+use Rattle.planner.specs.Call.{sheet_answer, sheet_plan, answer_of, planned_bytes, cleared_to, table_after, Called}
 use Rattle.base.specs.Answer.{answer, written}
 use Rattle.base.specs.declared.Answer.{Answer}
 use Rattle.planner.specs.Outcomes.{Large, our_bytes, Outcome, table_small, buffer_small, refused, impossible, accepted, Accepted}

@@ -11,15 +11,12 @@ use Rattle.sheet.specs.Read.{read_sheet}
 use Rattle.sheet.specs.Sound.{SheetSound}
 use Rattle.sheet.proofs.Theorems.{read_sound}
 use Rattle.sheet.specs.declared.FlightSection.{FlightSection}
-use Rattle.sheet.specs.declared.Sheet.{Sheet}
-use Rattle.order.specs.Order.{Proper}
-use Rattle.rules.specs.Mosaic.{batch_at, mosaic_figure}
-use Rattle.rules.specs.Sorting.{job_at, sorting_figure}
+use Rattle.rules.specs.Mosaic.{batch_at}
+use Rattle.rules.specs.Sorting.{job_at}
 use Rattle.rules.specs.ScannerList.{scanner_list, SortingTaken}
-use Rattle.rules.specs.Flight.{passes_at, FlightLawful, Keeps, flight_figure}
+use Rattle.rules.specs.Flight.{passes_at, Keeps}
 use Rattle.rules.specs.Plan.{Plan, PlanUnder, PlanLawful, AllowedFor}
 use Rattle.rules.specs.declared.Job.{Job}
-use Rattle.rules.specs.declared.Passes.{Passes}
 use Rattle.mosaic.specs.Plan.{lasts}
 use Rattle.mosaic.proofs.Theorems.{mosaic_lawful, mosaic_figure_lem, mosaic_least, mosaic_earliest}
 use Rattle.sorting.proofs.Theorems.{sorting_lawful, sorting_figure_lem, sorting_least, sorting_earliest}
@@ -28,7 +25,7 @@ use Rattle.flight.specs.Choice.{is_possible, chosen_order}
 use Rattle.flight.specs.Chosen.{LongestBelowTurn, chosen_given}
 use Rattle.flight.specs.Theorems.{flight_lawful, flight_figure_lem, flight_least, flight_earliest, flight_impossible, flight_free}
 use Rattle.planner.specs.Call.{chosen_plan}
-use Rattle.planner.specs.Theorems.{figure_of_mosaic, figure_of_sorting, figure_of_flight, Least, NoTimetable, NoProperOrder, Impossible, order_given_lem, no_order_given}
+use Rattle.planner.specs.Theorems.{figure_of_mosaic, figure_of_sorting, figure_of_flight, Least, Impossible, order_given_lem, no_order_given}
 
 module _ (sheet : List ℕ) (sound : (read_sheet sheet).number ≡ 0) where
   whole : SheetSound (read_sheet sheet)

@@ -3,7 +3,7 @@ use Rattle.std.specs.Prelude.{ℕ, ◌≤◌, ◌<◌, ◌≡◌, List, length}
 use Rattle.std.proofs.Common.{sym, ap, subst, ◌∙◌, arith}
 use borrow.Author.Tests.{lt-ltb, le-ltb, eq-eqb, ne_eqb}
 use Rattle.sheet.specs.Limits.{table_length, plan_length}
-use Rattle.sheet.specs.Refusals.{table_too_small, buffer_too_small, order_impossible}
+use Rattle.sheet.specs.Refusals.{buffer_too_small, order_impossible}
 use Rattle.sheet.specs.Read.{read_sheet, refused}
 use Rattle.sheet.specs.Table.{RefusedFor}
 use Rattle.sheet.proofs.Refused.{refused_for, refused_is, some_number, not_eleven}

@@ -2,32 +2,16 @@
 -- has a smaller figure, its sorting is the one that Req 03 takes, it starts as early as any, and the flight is called impossible exactly where no timetable
 -- keeps the given order or, where none is given, a proper one. `read_sheet` is what reading gives (crate sheet), `PlanUnder`, `PlanLawful`, `AllowedFor` and
 -- `SortingTaken` are of crate rules, `chosen_plan` is Call.antt's. What that means for a call is said in crate demands.
-use Rattle.std.specs.Prelude.{ℕ, ◌≤◌, ◌<◌, ◌≡◌, refl, Bool, true, false, List, length}
-use Rattle.std.proofs.Math.Path.{sym, subst}
+use Rattle.std.specs.Prelude.{ℕ, ◌≤◌, ◌<◌, ◌≡◌, true, false, List}
 use Rattle.std.proofs.Common.{◌∙◌, true≢false}
-use native.Mathlib.Omega.{arith}
-use Rattle.sheet.specs.Limits.{ceiling}
-use Rattle.sheet.specs.Read.{read_sheet}
-use Rattle.sheet.specs.Sound.{SheetSound}
-use Rattle.sheet.proofs.Theorems.{read_sound}
 use Rattle.sheet.specs.declared.FlightSection.{FlightSection}
 use Rattle.sheet.specs.declared.Sheet.{Sheet}
 use Rattle.order.specs.Order.{Proper}
-use Rattle.rules.specs.Mosaic.{batch_at, mosaic_figure}
-use Rattle.rules.specs.Sorting.{job_at, sorting_figure}
-use Rattle.rules.specs.ScannerList.{scanner_list, SortingTaken}
-use Rattle.rules.specs.Flight.{passes_at, FlightLawful, Keeps, flight_figure}
-use Rattle.rules.specs.Plan.{Plan, PlanUnder, PlanLawful, AllowedFor}
-use Rattle.rules.specs.declared.Job.{Job}
+use Rattle.rules.specs.Mosaic.{mosaic_figure}
+use Rattle.rules.specs.Sorting.{sorting_figure}
+use Rattle.rules.specs.Flight.{FlightLawful, Keeps, flight_figure}
+use Rattle.rules.specs.Plan.{Plan, PlanUnder}
 use Rattle.rules.specs.declared.Passes.{Passes}
-use Rattle.mosaic.specs.Plan.{lasts}
-use Rattle.mosaic.proofs.Theorems.{mosaic_lawful, mosaic_figure_lem, mosaic_least, mosaic_earliest}
-use Rattle.sorting.proofs.Theorems.{sorting_lawful, sorting_figure_lem, sorting_least, sorting_earliest}
-use Rattle.sorting.proofs.Taken.{sorting_taken, sorting_taken_once}
-use Rattle.flight.specs.Choice.{is_possible, chosen_order}
-use Rattle.flight.specs.Chosen.{LongestBelowTurn, chosen_given}
-use Rattle.flight.specs.Theorems.{flight_lawful, flight_figure_lem, flight_least, flight_earliest, flight_impossible, flight_free}
-use Rattle.planner.specs.Call.{chosen_plan}
 
 -- The figures of a plan.
 unfoldable pub figure_of_mosaic : Sheet → Plan → ℕ

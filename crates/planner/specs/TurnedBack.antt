@@ -1,17 +1,12 @@
 -- The table "Turned back" of 01, as far as the planner gives it: a call is turned back with a number and a place exactly where their cause lies.
 use Rattle.std.specs.Prelude.{ℕ, ◌≤◌, ◌<◌, ◌≡◌, List, length}
-use Rattle.std.proofs.Common.{sym, ap, subst, ◌∙◌, arith}
-use borrow.Author.Tests.{lt-ltb, le-ltb, eq-eqb, ne_eqb}
+use Rattle.std.proofs.Common.{◌∙◌}
 use Rattle.sheet.specs.Limits.{table_length, plan_length}
 use Rattle.sheet.specs.Refusals.{table_too_small, buffer_too_small, order_impossible}
-use Rattle.sheet.specs.Read.{read_sheet, refused}
+use Rattle.sheet.specs.Read.{read_sheet}
 use Rattle.sheet.specs.Table.{RefusedFor}
-use Rattle.sheet.proofs.Refused.{refused_for, refused_is, some_number, not_eleven}
-use Rattle.planner.specs.Call.{sheet_answer, answer_of, Called}
-use Rattle.planner.specs.Outcomes.{Large, Outcome}
+use Rattle.planner.specs.Outcomes.{Large}
 use Rattle.planner.specs.Theorems.{Impossible}
-use Rattle.base.specs.Answer.{answer}
-use Rattle.base.specs.declared.Answer.{Answer}
 
 -- The rows of the table, in the order of the checks: "The planner checks 1, 2, then each field .. 11 comes last."
 pub data TurnedBack (sheet plan table : List ℕ) (number place : ℕ) : Type 0 where

@@ -15,9 +15,8 @@ use Rattle.interleaving.proofs.Consistent.{consistent_start}
 use Rattle.interleaving.specs.Completion.{Attained}
 use Rattle.interleaving.proofs.Completion.{bound_completes, search_attains, path_range, step_path}
 use Rattle.sorting.specs.Plan.{reached, listed_desk}
-use Rattle.sorting.specs.Route.{Serves}
 use Rattle.sorting.proofs.Route.{completion}
-use Rattle.sorting.specs.Chosen.{chosen_desk, chosen_state, Chosen}
+use Rattle.sorting.specs.Chosen.{chosen_state, Chosen}
 
 -- the digit of a completion's number is the desk that was served
 digit_is : (J : List ℕ) (k : ℕ) (x e : State) (d : ℕ) → d < 3 → Completes J k (step_of J x d) e → e.path / 4 ^ k % 4 ≡ d + 1

@@ -1,24 +1,15 @@
 -- The chosen list comes before every other best list, so the chosen jobs are what is to be taken, and nothing else is.
-use Rattle.std.specs.Prelude.{◌≡◌, refl, List, [], ◌∷◌, ◌⊎◌, ℕ, ◌*◌, ◌≤◌, ◌<◌, length, get_or}
-use Rattle.std.proofs.Common.{sym, ap, ◌∙◌, inl, inr, arith, ext_get_or}
-use Rattle.sheet.specs.Limits.{most_desks, most_strips_of_desk}
+use Rattle.std.specs.Prelude.{◌≡◌, List, [], ◌∷◌, ◌⊎◌, ℕ, ◌*◌, ◌≤◌, ◌<◌, length}
+use Rattle.std.proofs.Common.{sym, ◌∙◌, inl, inr, arith, ext_get_or}
 use Rattle.sheet.specs.declared.SortingSection.{SortingSection}
 use Rattle.sheet.specs.Sound.{SortingSound}
 use Rattle.rules.specs.declared.Job.{Job}
-use Rattle.base.specs.Sums.{sum_over}
-use Rattle.base.specs.LeastFigure.{NoLarger}
-use Rattle.rules.specs.Sorting.{no_job, job_at, job_weight, desk_finish, SortingUnder, SortingLawful, sorting_figure}
-use Rattle.rules.specs.ScannerList.{scanner_list, ComesBefore, SameOrAfter, SortingTaken}
+use Rattle.rules.specs.Sorting.{no_job, job_at, SortingUnder, sorting_figure}
+use Rattle.rules.specs.ScannerList.{scanner_list, SameOrAfter, SortingTaken}
 use Rattle.rules_laws.specs.ScannerList.{FirstParting}
-use Rattle.rules_laws.proofs.ScannerList.{list_length, list_at, same_list, same_desks, first_parting, before_one_way, same_numbers}
+use Rattle.rules_laws.proofs.ScannerList.{same_list, same_desks, first_parting, before_one_way, same_numbers}
 use Rattle.rules_laws.proofs.ScannerList.{same_job}
-use Rattle.interleaving.specs.Search.{start_state}
-use Rattle.interleaving.proofs.Consistent.{consistent_start}
-use Rattle.sorting.specs.Plan.{instance_of, least_figure, chosen_jobs}
-use Rattle.sorting.proofs.InstanceLaws.{instance_sound, count_at}
-use Rattle.sorting.specs.Lawful.{latest_finish}
-use Rattle.sorting.proofs.Lawful.{chosen_length, chosen_early, chosen_lawful, chosen_figure}
-use Rattle.sorting.proofs.Least.{lawful_least, lawful_length, lawful_later, lawful_first}
+use Rattle.sorting.specs.Plan.{least_figure, chosen_jobs}
 use Rattle.sorting.proofs.Theorems.{sorting_lawful, sorting_figure_lem, sorting_least, sorting_length, sorting_earliest, chosen_before}
 
 -- 02, Req 03: a timetable of the least figure has the scanner list of the chosen jobs, or a list that comes after it.

@@ -1,17 +1,16 @@
 -- What the planner's choice is, against the rules of the sorting (crate rules), for every sound section.
 use Rattle.std.specs.Prelude.{◌≡◌, refl, List, [], ◌∷◌, ◌⊎◌, ℕ, ◌*◌, ◌≤◌, ◌<◌, length, get_or}
-use Rattle.std.proofs.Common.{sym, ap, ◌∙◌, inl, inr, arith, ext_get_or}
+use Rattle.std.proofs.Common.{sym, ap, ◌∙◌, arith}
 use Rattle.sheet.specs.Limits.{most_desks, most_strips_of_desk}
 use Rattle.sheet.specs.declared.SortingSection.{SortingSection}
 use Rattle.sheet.specs.Sound.{SortingSound}
 use Rattle.rules.specs.declared.Job.{Job}
 use Rattle.base.specs.Sums.{sum_over}
 use Rattle.base.specs.LeastFigure.{NoLarger}
-use Rattle.rules.specs.Sorting.{no_job, job_at, job_weight, desk_finish, SortingUnder, SortingLawful, sorting_figure}
-use Rattle.rules.specs.ScannerList.{scanner_list, ComesBefore, SameOrAfter, SortingTaken}
+use Rattle.rules.specs.Sorting.{job_at, job_weight, desk_finish, SortingUnder, SortingLawful, sorting_figure}
+use Rattle.rules.specs.ScannerList.{scanner_list, ComesBefore}
 use Rattle.rules_laws.specs.ScannerList.{FirstParting}
-use Rattle.rules_laws.proofs.ScannerList.{list_length, list_at, same_list, same_desks, first_parting, before_one_way, same_numbers}
-use Rattle.rules_laws.proofs.ScannerList.{same_job}
+use Rattle.rules_laws.proofs.ScannerList.{list_length, list_at, same_desks}
 use Rattle.interleaving.specs.Search.{start_state}
 use Rattle.interleaving.proofs.Consistent.{consistent_start}
 use Rattle.sorting.specs.Plan.{instance_of, least_figure, chosen_jobs}

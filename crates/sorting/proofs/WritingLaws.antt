@@ -1,5 +1,5 @@
 -- How the plan is written: one job after another, each from the state that the list has reached.
-use Rattle.std.specs.Prelude.{◌≡◌, ℕ, zero, suc, ◌+◌, ◌-◌, ◌^◌, ◌/◌, ◌%◌, ◌≤◌, ◌<◌, max, length, get_or, set, replicate}
+use Rattle.std.specs.Prelude.{◌≡◌, ℕ, suc, ◌+◌, ◌-◌, ◌^◌, ◌/◌, ◌%◌, ◌≤◌, ◌<◌, max, get_or, set, replicate}
 use Rattle.std.proofs.Math.Path.{refl, ap}
 use Rattle.std.proofs.Common.{sym, subst, ◌∙◌, pow-suc, div-one, add-one, get_or-set_same, get_or-set_other}
 use mathlib.Core.List.{List, [], ◌∷◌, ◌++◌}
@@ -11,10 +11,9 @@ use Rattle.rules.specs.declared.Job.{Job}
 use Rattle.rules_laws.proofs.ScannerList.{same_job}
 use Rattle.interleaving.specs.declared.State.{State}
 use Rattle.interleaving.specs.declared.Incumbent.{Incumbent}
-use Rattle.interleaving.specs.Instance.{Instance}
 use Rattle.interleaving.specs.Search.{scanned, step_of, start_state, first_best}
 use Rattle.interleaving.proofs.SearchLaws.{step_left}
-use Rattle.interleaving.specs.Caps.{StepPre, StepCapped}
+use Rattle.interleaving.specs.Caps.{StepPre}
 use Rattle.interleaving.proofs.CapLaws.{step_pre_capped}
 use Rattle.interleaving.specs.Consistent.{Consistent}
 use Rattle.interleaving.proofs.Consistent.{consistent_start}
@@ -23,7 +22,7 @@ use Rattle.sorting.specs.Plan.{reached, job_of, listed_desk, jobs_of_list, plan_
 use Rattle.sorting.proofs.Route.{reached_next, reached_consistent, reached_left}
 use Rattle.sorting.specs.Chosen.{chosen_desk, chosen_state, Chosen}
 use Rattle.sorting.proofs.Chosen.{chosen}
-use Rattle.sorting.specs.Writing.{with_job, written_to, written_plan, WithJobPre, PlanOfPre, Written, chosen_job, Sized, Begun}
+use Rattle.sorting.specs.Writing.{with_job, written_to, WithJobPre, PlanOfPre, Written, chosen_job, Sized, Begun}
 
 -- digit: what is left of a number once its last i digits are cut off
 pub digit_start : (p : ℕ) → p ≡ p / 4 ^ 0

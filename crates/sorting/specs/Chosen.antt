@@ -1,19 +1,9 @@
 -- The list that the search chose leads through states in which each desk it names has a strip left, and ends at the least figure.
-use Rattle.std.specs.Prelude.{◌≡◌, refl, List, ◌⊎◌}
-use Rattle.std.proofs.Common.{sym, ◌∙◌, inl, inr}
-use Rattle.std.proofs.Math.Path.{ap, subst}
-use Prim.Native.Nat.{ℕ, zero, suc, ◌+◌, ◌-◌, ◌*◌, ◌^◌, ◌/◌, ◌%◌, ◌≤◌, ◌<◌}
-use Rattle.std.proofs.Math.Nat.{div-eq_of_lt-le}
-use native.Mathlib.Omega.{arith}
+use Rattle.std.specs.Prelude.{◌≡◌, List, ◌⊎◌}
+use Rattle.std.proofs.Common.{◌∙◌}
+use Prim.Native.Nat.{ℕ, ◌+◌, ◌-◌, ◌*◌, ◌^◌, ◌/◌, ◌%◌, ◌≤◌, ◌<◌}
 use Rattle.interleaving.specs.declared.State.{State}
-use Rattle.interleaving.specs.declared.Incumbent.{Incumbent}
-use Rattle.interleaving.specs.Instance.{Instance}
-use Rattle.interleaving.specs.Search.{StripLeft, step_of, start_state, no_incumbent, search_from, first_best, Completes}
-use Rattle.interleaving.proofs.SearchLaws.{search_bound}
-use Rattle.interleaving.specs.Consistent.{Consistent}
-use Rattle.interleaving.proofs.Consistent.{consistent_start}
-use Rattle.interleaving.specs.Completion.{Attained}
-use Rattle.interleaving.proofs.Completion.{bound_completes, search_attains, path_range, step_path}
+use Rattle.interleaving.specs.Search.{start_state, first_best}
 use Rattle.sorting.specs.Plan.{reached, listed_desk}
 use Rattle.sorting.specs.Route.{Serves}
 

@@ -1,14 +1,12 @@
 -- The contract of the planner.
-use Rattle.std.specs.Prelude.{◌≡◌, refl, List, ℕ, ◌*◌, ◌≤◌, length}
-use Rattle.std.proofs.Common.{sym, ap, subst, ◌∙◌, arith}
+use Rattle.std.specs.Prelude.{◌≡◌, List, ℕ, ◌*◌, ◌≤◌, length}
+use Rattle.std.proofs.Common.{◌∙◌}
 use Rattle.sheet.specs.Limits.{most_desks, most_strips_of_desk, table_length}
 use Rattle.sheet.specs.declared.SortingSection.{SortingSection}
 use Rattle.sheet.specs.Sound.{SortingSound}
-use Rattle.interleaving.specs.declared.Incumbent.{Incumbent}
-use Rattle.interleaving.specs.Search.{first_best, start_state}
 use Rattle.sorting.specs.declared.SortingPlan.{SortingPlan}
-use Rattle.sorting.specs.Plan.{instance_of, least_figure, jobs_of_list, chosen_jobs, jobs_of_plan}
-use Rattle.sorting.specs.Writing.{written_plan, PlanOfPre, Written}
+use Rattle.sorting.specs.Plan.{instance_of, least_figure, chosen_jobs, jobs_of_plan}
+use Rattle.sorting.specs.Writing.{written_plan}
 use Rattle.sorting_search.specs.Found as search
 
 -- a sound section, and a working table of the length that the search takes

@@ -1,15 +1,7 @@
 -- The section as the search reads it is an instance, and has the section's times and weights.
-use Rattle.std.specs.Prelude.{◌≡◌, refl, List, ◌++◌, ℕ, zero, suc, ◌+◌, ◌-◌, ◌*◌, ◌≤◌, ◌<◌, length, set, replicate}
-use Rattle.std.proofs.Common.{sym, subst, ◌∙◌, arith, length-set, get_or-set_same, get_or-set_other, ext_get_or}
-use Rattle.std.proofs.Math.Path.{ap}
-use Rattle.std.proofs.Math.Decide.{dec_lt, ℕ_discrete}
-use Rattle.std.proofs.Math.ListN.{get_or, length-append, get_or-append}
-use Rattle.std.proofs.Math.Seq.{get_or-append-add}
-use Rattle.sheet.specs.Limits.{most_time}
-use Rattle.sheet.specs.declared.SortingSection.{SortingSection}
-use Rattle.sheet.specs.Sound.{SortingSound}
-use Rattle.interleaving.specs.Instance.{Instance, scan_of, desk_of, weight_of, weight_cap, instance_length}
-use Rattle.sorting.specs.Plan.{instance_of}
+use Rattle.std.specs.Prelude.{◌≡◌, List, ◌++◌, ℕ, ◌+◌, ◌-◌, ◌*◌, ◌≤◌, ◌<◌, length, set, replicate}
+use Rattle.std.proofs.Common.{◌∙◌}
+use Rattle.std.proofs.Math.ListN.{get_or}
 
 -- the instance before its times and weights are written, with so many strips of each desk
 abbrev pub counted : ℕ → ℕ → ℕ → List ℕ

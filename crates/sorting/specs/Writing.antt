@@ -1,26 +1,17 @@
 -- How the plan is written: one job after another, each from the state that the list has reached.
 use Rattle.std.specs.Prelude.{◌≡◌, ℕ, zero, suc, ◌+◌, ◌-◌, ◌^◌, ◌/◌, ◌%◌, ◌≤◌, ◌<◌, max, length, get_or, set, replicate}
-use Rattle.std.proofs.Math.Path.{refl, ap}
-use Rattle.std.proofs.Common.{sym, subst, ◌∙◌, pow-suc, div-one, add-one, get_or-set_same, get_or-set_other}
+use Rattle.std.proofs.Common.{◌∙◌}
 use mathlib.Core.List.{List, [], ◌∷◌, ◌++◌}
-use Rattle.std.proofs.Math.Nat.{div-div-eq-div-mul}
-use native.Mathlib.Omega.{arith}
-use Rattle.std.proofs.Math.ListN.{length-set}
-use Rattle.base.specs.Listed.{listed, listed_same}
+use Rattle.base.specs.Listed.{listed}
 use Rattle.rules.specs.declared.Job.{Job}
-use Rattle.rules_laws.proofs.ScannerList.{same_job}
 use Rattle.interleaving.specs.declared.State.{State}
 use Rattle.interleaving.specs.declared.Incumbent.{Incumbent}
 use Rattle.interleaving.specs.Instance.{Instance}
-use Rattle.interleaving.specs.Search.{scanned, step_of, start_state, first_best}
-use Rattle.interleaving.proofs.SearchLaws.{step_left}
+use Rattle.interleaving.specs.Search.{scanned, start_state, first_best}
 use Rattle.interleaving.specs.Caps.{StepPre, StepCapped}
-use Rattle.interleaving.proofs.CapLaws.{step_pre_capped}
-use Rattle.interleaving.specs.Consistent.{Consistent}
-use Rattle.interleaving.proofs.Consistent.{consistent_start}
 use Rattle.sorting.specs.declared.SortingPlan.{SortingPlan}
-use Rattle.sorting.specs.Plan.{reached, job_of, listed_desk, jobs_of_list, plan_job, jobs_of_plan}
-use Rattle.sorting.specs.Chosen.{chosen_desk, chosen_state, Chosen}
+use Rattle.sorting.specs.Plan.{job_of, jobs_of_list, plan_job, jobs_of_plan}
+use Rattle.sorting.specs.Chosen.{chosen_desk, chosen_state}
 
 -- a plan with one more job
 unfoldable pub with_job : List ℕ → State → ℕ → SortingPlan → SortingPlan
