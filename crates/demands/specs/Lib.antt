@@ -1279,7 +1279,9 @@ another_weight_judged_six sheet plan j call place f = (judged_six sheet plan j c
 pub another_weight_paged_six : (sheet plan page page_after : List ℕ) (r : Answer) → Paged sheet plan page page_after r → page_length ≤ length page → (place : ℕ)
     → RefusedForContent sheet (WeightOut sheet) place → r ≡ answer out_of_range place 0
 another_weight_paged_six sheet plan page page_after r call large place f =
-    (paged_six sheet plan page page_after r call).always large place (weight_refused sheet place f)
+    let judging = judged_six sheet plan (judged sheet plan) refl in
+    (page_says sheet plan page page_after r call out_of_range (RefusedForValue sheet CountOutOfRange) (omega arith) judging).0 large place
+    (weight_refused sheet place f)
 
 -- "Mosaic and sorting figures take eight bytes in the plan": in every allowed plan of a sheet with a mosaic, and with a sorting, the head is its tag, the
 -- length 8 and the figure in eight bytes. All other fields of a plan are as they were (plan_format, Format.antt).
