@@ -94,11 +94,11 @@ pub fn read_argument<R: Env + Files, E: Write>(
     let mut words = [0u8; 4096];
     match rt.arg(argument, &mut words) {
         Ok(length) => {
-            let name = &words[..length];
+            let path = &words[..length];
             if length == 0 {
-                return read_named(rt, err, program, name, word, buffer);
+                return read_named(rt, err, program, path, word, buffer);
             }
-            read_named(rt, err, program, name, name, buffer)
+            read_named(rt, err, program, path, &words[..length], buffer)
         }
         Err(FillError::TooLong) => failure(
             err,
