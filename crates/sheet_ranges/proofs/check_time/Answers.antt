@@ -1,6 +1,6 @@
--- `time_number` meets its contract: each way out is one through the definition.
+-- `check_time` meets its contract: each way out is one through the definition.
 use Rattle.sheet_ranges.specs.RangeLaws.{time_above, time_below, time_within}
-use Rattle.sheet_ranges.proofs.time_number.Goals as goal
+use Rattle.sheet_ranges.proofs.check_time.Goals as goal
 
 pub returns-then-most-time : goal.returns-then-most-time
 returns-then-most-time c = search time_above
