@@ -41,3 +41,11 @@ pub struct Refused {
     pub refusal: Refusal,
     pub place: usize,
 }
+
+impl Refused {
+    pub fn new(refusal: Refusal, place: usize) -> Refused
+        ensures { result ≡ record { refusal = refusal; place = place } }
+    {
+        Refused { refusal, place }
+    }
+}
