@@ -24,9 +24,5 @@ pub fn greater(a: u64, b: u64) -> u64
 pub fn clear(values: &mut [u64])
     ensures { values.new ≡ replicate (length values.old) 0 }
 {
-    let mut z = 0;
-    while z < values.len() {
-        values[z] = 0;
-        z += 1;
-    }
+    values[0..].fill(0);
 }

@@ -1,12 +1,15 @@
 -- Laws of numbers in bytes: a loop that reads one from its highest byte down, a loop that writes one from its lowest byte up,
 -- and that what is written is read back.
-use Rattle.std.specs.Prelude.{ℕ, zero, suc, ◌+◌, ◌-◌, ◌*◌, ◌/◌, ◌%◌, ◌^◌, ◌≤◌, ◌<◌, ◌≡◌, refl, List, length, get_or, set}
-use Rattle.std.proofs.Common.{sym, ◌∙◌, add-one, length-set, pow-add, pow_pos, pow_mono}
+use Rattle.std.specs.Prelude.{ℕ, zero, suc, ◌+◌, ◌-◌, ◌*◌, ◌/◌, ◌%◌, ◌^◌, ◌≤◌, ◌<◌, ◌≡◌, refl, List, ◌++◌, length, get_or, set, take, drop}
+use Rattle.std.proofs.Common.{sym, ◌∙◌, append-nil, append_assoc, add-one, length-set, pow-add, pow_pos, pow_mono}
 use Rattle.std.proofs.Math.Path.{ap}
 use native.Mathlib.Omega.{arith}
 use Rattle.std.proofs.Math.ListN.{get_or-eq_default}
+use Rattle.std.proofs.lemmas.List.Edits.{sets, sets-eq}
+use lib.Seq.{drop-length}
 use Rattle.field.specs.Bytes.{number_at, bytes_of, NumberRead}
-use Rattle.field.specs.Put.{put}
+use borrow.Rule.Slice.PartMut.{mid_of, post_of, put_mid, mid_len, Post-is}
+use Rattle.field.specs.Put.{put, holding, put_whole}
 
 -- past the end every byte counts as 0
 number_past : (s : List ℕ) (at width : ℕ) → length s ≤ at → number_at s at width ≡ 0
@@ -97,6 +100,11 @@ added_all s at width left value a h = rw (← start, ← whole) a.read
     whole : width - left ≡ width
     whole = omega arith
 
+pub length_bytes : (width value : ℕ) → length (bytes_of width value) ≡ width
+unfolding bytes_of
+length_bytes zero value = refl
+length_bytes (suc width) value = ap suc (length_bytes width (value / 256))
+
 -- storing what is left of a number gives the whole
 pub record Storing (d₀ d : List ℕ) (at width value done rest : ℕ) : Type 0 where
   pub within : done ≤ width
@@ -136,7 +144,40 @@ module _ (d₀ d : List ℕ) (at width value done rest : ℕ) (s : Storing d₀ 
       none : 0 ≡ width - done
       none = let w = s.within in omega arith
 
-pub length_bytes : (width value : ℕ) → length (bytes_of width value) ≡ width
-unfolding bytes_of
-length_bytes zero value = refl
-length_bytes (suc width) value = ap suc (length_bytes width (value / 256))
+held_alone : (bytes part : List ℕ) → length bytes ≡ length part → holding bytes part ≡ bytes
+unfolding holding
+held_alone bytes part h = rw (h, drop-length, append-nil)
+
+-- the same over a part of a buffer, of just those bytes; put back, it is the store
+module _ (d : List ℕ) (at width value : ℕ) (fits : at + width ≤ length d) (bytes : List ℕ) (done rest : ℕ)
+    (s : Storing (mid_of at (at + width - at) d) bytes 0 width value done rest) where
+  as_wide : length (mid_of at (at + width - at) d) ≡ width
+  as_wide = mid_len at (at + width) d fits ∙ omega arith
+
+  pub part_more : done < length (mid_of at (at + width - at) d)
+      → Storing (mid_of at (at + width - at) d) (set bytes done (rest % 256)) 0 width value (done + 1) (rest / 256)
+  part_more h =
+      let start : 0 + done ≡ done = omega arith in
+      rw start at (storing_more (mid_of at (at + width - at) d) bytes 0 width value done rest s (omega (arith, as_wide)))
+
+  pub part_all : length (mid_of at (at + width - at) d) ≤ done → put_mid at (at + width - at) d bytes ≡ put d at (bytes_of width value)
+  unfolding put
+  part_all h = ap (λ l. take at d ++ (l ++ post_of at (at + width - at) d)) stored ∙ ap (λ l. take at d ++ (bytes_of width value ++ l)) (Post-is at (at + width) d from) ∙ sym whole
+    where
+      from : at ≤ at + width
+      from = omega arith
+
+      as_long : length (bytes_of width value) ≡ length (mid_of at (at + width - at) d)
+      as_long = length_bytes width value ∙ sym as_wide
+
+      held : put (mid_of at (at + width - at) d) 0 (bytes_of width value) ≡ bytes_of width value
+      held = put_whole (mid_of at (at + width - at) d) (bytes_of width value) (omega (arith, as_long)) ∙ held_alone _ _ as_long
+
+      stored : bytes ≡ bytes_of width value
+      stored = storing_all (mid_of at (at + width - at) d) bytes 0 width value done rest s (omega (arith, as_wide)) ∙ held
+
+      whole : sets d at (bytes_of width value) ≡ take at d ++ (bytes_of width value ++ drop (at + width) d)
+      whole =
+          sets-eq (bytes_of width value) d at (omega (arith, length_bytes width value))
+          ∙ ap (λ k. take at d ++ bytes_of width value ++ drop (at + k) d) (length_bytes width value)
+          ∙ append_assoc (take at d) (bytes_of width value) (drop (at + width) d)

@@ -1,6 +1,6 @@
 -- Bytes stored from an offset on: what a writer leaves in its buffer.
--- Stores one after another are one store of the joined bytes (put-more; put_front where a byte is stored in front of the others);
--- a store from the start leaves the bytes and what stood behind them (put_whole).
+-- Stores one after another are one store of the joined bytes (`put_more`; `put_front` where a byte is stored in front of the others);
+-- a store from the start leaves the bytes and what stood behind them (`put_whole`).
 use Rattle.std.specs.Prelude.{ℕ, suc, ◌+◌, ◌≤◌, ◌<◌, ◌≡◌, refl, List, [], ◌∷◌, ◌++◌, length, set, take, drop}
 use Rattle.std.proofs.Common.{ap, ◌∙◌, add-zero, add-one, arith, length-append}
 use Rattle.std.proofs.lemmas.List.Edits.{sets, sets-eq}

@@ -31,9 +31,7 @@ fn number_within(s: &[u8], at: usize, width: usize) -> u64
     ensures { NumberRead s.now at width result }
 {
     let mut sum: u64 = 0;
-    let mut left = width;
-    while 0 < left {
-        left -= 1;
+    for left in (0..width).rev() {
         sum = s[at + left] as u64 + 256 * sum;
     }
     sum
@@ -51,9 +49,7 @@ pub fn number(s: &[u8], at: usize, width: usize) -> u64
         return number_within(s, at, width);
     }
     let mut value: u64 = 0;
-    let mut left = width;
-    while 0 < left {
-        left -= 1;
+    for left in (0..width).rev() {
         value = byte(s, at + left) + 256 * value;
     }
     value
@@ -82,8 +78,7 @@ pub fn field_end(s: &[u8], at: usize) -> usize
     ensures { result ≡ end_of at (field_at s.now at) }
 {
     match field_at(s, at) {
-        Field::End => at,
-        Field::Cut => at,
+        Field::End | Field::Cut => at,
         Field::Whole(_, length) => at + 3 + length,
     }
 }
@@ -94,10 +89,8 @@ pub fn put_number(d: &mut [u8], at: usize, width: usize, value: u64)
     ensures { d.new ≡ put d.old at (bytes_of width value) }
 {
     let mut rest = value;
-    let mut done: usize = 0;
-    while done < width {
-        d[at + done] = (rest % 256) as u8;
+    for byte in d[at..at + width].iter_mut() {
+        *byte = (rest % 256) as u8;
         rest /= 256;
-        done += 1;
     }
 }

@@ -3,6 +3,7 @@ pub mod Contents
 pub mod Decided
 pub mod DeskLaws
 pub mod FlightPlaces
+pub mod GivenNumbers
 pub mod Invariant
 pub mod MovedPlaces
 pub mod OneValue

@@ -5,6 +5,7 @@ pub mod Tags
 pub mod Sections
 pub mod Among
 pub mod FieldTable
+pub mod Given
 pub mod Rows
 pub mod Causes
 pub mod Table

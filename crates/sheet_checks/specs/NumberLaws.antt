@@ -1,7 +1,7 @@
 -- The way through the rows of a field, as the code answers their tests: a row that fails gives its number, one that passes leaves it to the rows behind it.
--- No law speaks of the rows before its own; those of numbers that a callee gives are crate sheet's (RowLaws.antt).
+-- No law speaks of the rows before its own; those of numbers that a callee gives are crate sheet's (GivenNumbers.antt).
 use Prim.{tt}
-use Rattle.std.specs.Prelude.{ℕ, ◌+◌, ◌≡◌, Bool, true, false, not, List, ◌∷◌, T, leb, ltb}
+use Rattle.std.specs.Prelude.{Option, ℕ, ◌+◌, ◌≡◌, Bool, true, false, not, List, ◌∷◌, T, leb, ltb}
 use Rattle.std.proofs.Common.{sym, ap, ◌∙◌, ne_eqb}
 use Rattle.std.proofs.lemmas.Bool.{not-true, not-false}
 use Rattle.base.specs.Branch.{check}
@@ -13,12 +13,13 @@ use Rattle.sheet.specs.Among.{Among, is_among, true_among}
 use Rattle.sheet.specs.FieldTable.{field_table, lengths_due}
 use Rattle.sheet.specs.Checks.{window_ordered, has_room, order_proper}
 use Rattle.sheet.specs.Rows.{first_failure}
-use Rattle.sheet.proofs.RowLaws.{given_fails, given_passes, test_fails, test_passes}
+use Rattle.sheet.proofs.RowLaws.{test_fails, test_passes}
+use Rattle.sheet.proofs.GivenNumbers.{made_number, given_number, given_nothing}
 use Rattle.sheet_lengths.specs.Lengths.{lengths_given, GivesLength}
 use Rattle.sheet_lengths.specs.declared.LengthDue.{LengthDue}
 
 -- the length, by the one that is due
-module _ (len tag stations desks : ℕ) (due : LengthDue) (x : Bool) (d : GivesLength tag stations due) (e : x ≡ is_among len (lengths_given due)) where
+module _ (len tag stations desks : ℕ) (due : Option LengthDue) (x : Bool) (d : GivesLength tag stations due) (e : x ≡ is_among len (lengths_given due)) where
   tested : (b : Bool) → x ≡ b → is_among len (lengths_due tag (field_table stations desks)) ≡ b
   tested b h = ap (is_among len) (sym (d desks)) ∙ sym e ∙ h
 
@@ -78,4 +79,5 @@ module _ (checks : List ℕ) where
         → r ≡ first_failure (check (order_proper tag members (number_at s c 8)) order_not_proper 0 ∷ checks)
     order_passes r h p = test_passes checks _ order_not_proper r (proper true (not-false z h)) p
 
-pub ruleset rows = (answer_fails, answer_passes, length_fails, length_passes, given_fails, given_passes, room_fails, room_passes, order_fails, order_passes)
+pub ruleset rows =
+    (made_number, answer_fails, answer_passes, length_fails, length_passes, given_number, given_nothing, room_fails, room_passes, order_fails, order_passes)

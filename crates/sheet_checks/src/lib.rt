@@ -1,10 +1,11 @@
 // What each field of a sheet is checked for: one function a check, and the chain of them in 01's order.
 #![tactic(auto)]
 
-ghost use Rattle.std.specs.Prelude.{◌≡◌, ◌+◌, ◌<◌, ◌^◌};
+ghost use Rattle.std.specs.Prelude.{◌≡◌, ◌+◌, ◌<◌, ◌^◌, IfErr};
 ghost use Rattle.field.specs.Bytes.{number_at};
 ghost use Rattle.sheet.specs.Rows.{first_failure};
 ghost use Rattle.sheet.specs.Checks.{ends_section, section_filled, few_blocks, order_given, order_permitted, permitted, window_ordered, has_room, order_proper};
+ghost use Rattle.sheet.specs.Given.{number_of, found_number};
 ghost use Rattle.sheet.specs.Read.{content_checks, field_number, end_number, place_of};
 ghost use Rattle.sheet_checks.specs.FieldPre.{FieldPre};
 
@@ -12,36 +13,25 @@ use field::{byte, number};
 use sheet::Reading;
 use sheet::desks::strips_of_desk;
 use sheet::limits::{MOST_BLOCKS, MOST_BLOCKS_WITHOUT_ORDER, MOST_STRIPS, MOST_STRIPS_OF_DESK};
-use sheet::numbers::{
-    LENGTH_WRONG, LONGEST_BELOW_SHORTEST, NO_MEMBERS, ORDER_MISSING, ORDER_NOT_PROPER,
-    TAG_NOT_PERMITTED, TOO_MANY,
-};
+use sheet::refusals::{Refusal, Refused};
 use sheet::sections::{IN_FLIGHT, IN_MOSAIC, IN_SORTING, NO_SECTION};
 use sheet::tags::{
     FLIGHT_BLOCK, FLIGHT_HEAD, FLIGHT_ORDER, FLIGHT_WINDOW_BLOCK, MOSAIC_HEAD, MOSAIC_STRIP,
     SORTING_HEAD, SORTING_STRIP,
 };
 use sheet_lengths::{is_due, length_due};
-use sheet_ranges::range_number;
+use sheet_ranges::check_ranges;
 
 pub fn ends_section(tag: u8) -> bool
     ensures { result ≡ ends_section tag }
 {
-    match tag {
-        MOSAIC_HEAD => true,
-        SORTING_HEAD => true,
-        FLIGHT_HEAD => true,
-        _ => false,
-    }
+    matches!(tag, MOSAIC_HEAD | SORTING_HEAD | FLIGHT_HEAD)
 }
 
 fn section_filled(tag: u8, section: u64, members: usize) -> bool
     ensures { result ≡ section_filled tag section members }
 {
-    if ends_section(tag) {
-        return section == NO_SECTION || 1 <= members;
-    }
-    true
+    !ends_section(tag) || section == NO_SECTION || 1 <= members
 }
 
 fn few_blocks(section: u64, members: usize) -> bool
@@ -53,10 +43,7 @@ fn few_blocks(section: u64, members: usize) -> bool
 fn order_given(tag: u8, section: u64, members: usize) -> bool
     ensures { result ≡ order_given tag section members }
 {
-    if ends_section(tag) {
-        return few_blocks(section, members);
-    }
-    true
+    !ends_section(tag) || few_blocks(section, members)
 }
 
 fn order_permitted(section: u64, members: usize) -> bool
@@ -109,82 +96,66 @@ fn has_room(tag: u8, members: usize, of_desk: usize) -> bool
 fn order_proper(tag: u8, members: usize, order: u64) -> bool
     ensures { result ≡ order_proper tag members order }
 {
-    if tag == FLIGHT_ORDER {
-        return order::proper(members as u64, order);
-    }
-    true
+    tag != FLIGHT_ORDER || order::proper(members as u64, order)
 }
 
-// The number that the content of a field is refused with, 0 where it passes.
-fn content_number(s: &[u8], st: Reading, tag: u8, length: usize) -> u64
-    requires { FieldPre s.now st length }
-    ensures { result ≡ first_failure (content_checks s.now st tag length) }
+// The content of a field: it is refused at the field.
+fn check_content(s: &[u8], reading: &Reading, tag: u8, length: usize) -> Result<(), Refused>
+    requires { FieldPre s.now reading.now length }
+    ensures number { found_number result ≡ first_failure (content_checks s.now reading.now tag length) }
+    ensures place { IfErr result (λ r. r.place ≡ reading.now.at) }
 {
-    let content = st.at + 3;
-    let stations = st.mosaic.stations;
-    let desks = st.sorting.desks;
-    let counts = st.sorting.counts;
-    let members = st.members;
+    let place = reading.at;
+    let content = place + 3;
+    let (stations, desks) = (reading.mosaic.stations, reading.sorting.desks);
     if !is_due(length, length_due(tag, stations)) {
-        return LENGTH_WRONG;
+        return Err(Refused::new(Refusal::LengthWrong, place));
     }
-    let range = range_number(s, content, tag, length, stations, desks);
-    if range != 0 {
-        return range;
+    if let Err(refusal) = check_ranges(s, content, tag, length, stations, desks) {
+        return Err(Refused::new(refusal, place));
     }
     if !window_ordered(s, content, tag) {
-        return LONGEST_BELOW_SHORTEST;
+        return Err(Refused::new(Refusal::LongestBelowShortest, place));
     }
-    if !has_room(tag, members, strips_of_desk(counts, byte(s, content))) {
-        return TOO_MANY;
+    let of_desk = strips_of_desk(reading.sorting.counts, byte(s, content));
+    if !has_room(tag, reading.members, of_desk) {
+        return Err(Refused::new(Refusal::TooMany, place));
     }
-    if !order_proper(tag, members, number(s, content, 8)) {
-        return ORDER_NOT_PROPER;
+    if !order_proper(tag, reading.members, number(s, content, 8)) {
+        return Err(Refused::new(Refusal::OrderNotProper, place));
     }
-    0
+    Ok(())
 }
 
-// The number that a field is refused with, 0 where it passes.
-pub fn field_number(s: &[u8], st: Reading, tag: u8, length: usize) -> u64
-    requires { FieldPre s.now st length }
-    ensures { result ≡ field_number s.now st tag length }
+// A field that is whole: its section and order are refused at the head of the section before, the rest at the field.
+pub fn check_field(s: &[u8], reading: &Reading, tag: u8, length: usize) -> Result<(), Refused>
+    requires { FieldPre s.now reading.now length }
+    ensures number { found_number result ≡ field_number s.now reading.now tag length }
+    ensures place { IfErr result (λ r. r.place ≡ place_of (number_of r.refusal) reading.now.head reading.now.at) }
 {
-    let section = st.section;
-    let members = st.members;
+    let (section, members) = (reading.section, reading.members);
     if !section_filled(tag, section, members) {
-        return NO_MEMBERS;
+        return Err(Refused::new(Refusal::NoMembers, reading.head));
     }
     if !order_given(tag, section, members) {
-        return ORDER_MISSING;
+        return Err(Refused::new(Refusal::OrderMissing, reading.head));
     }
     if !is_permitted(tag, section, members) {
-        return TAG_NOT_PERMITTED;
+        return Err(Refused::new(Refusal::TagNotPermitted, reading.at));
     }
-    content_number(s, st, tag, length)
+    check_content(s, reading, tag, length)
 }
 
-// The number that the end of the sheet is refused with, 0 where it passes.
-pub fn end_number(section: u64, members: usize) -> u64
-    ensures { result ≡ end_number section members }
+// The end of the sheet ends the last section, whose head is the place of its refusals.
+pub fn check_end(section: u64, members: usize, head: usize) -> Result<(), Refused>
+    ensures number { found_number result ≡ end_number section members }
+    ensures place { IfErr result (λ r. r.place ≡ head) }
 {
     if members < 1 {
-        return NO_MEMBERS;
+        return Err(Refused::new(Refusal::NoMembers, head));
     }
     if !few_blocks(section, members) {
-        return ORDER_MISSING;
+        return Err(Refused::new(Refusal::OrderMissing, head));
     }
-    0
-}
-
-// The place of a refusal: the section's head for 8 and 10, else the field.
-pub fn place_of(number: u64, head: usize, at: usize) -> usize
-    ensures { result ≡ place_of number head at }
-{
-    if number == NO_MEMBERS {
-        return head;
-    }
-    if number == ORDER_MISSING {
-        return head;
-    }
-    at
+    Ok(())
 }

@@ -1,6 +1,7 @@
 -- Laws of the ranges: how one value after another decides the number, in a loop over the station times too, and that values read from the sheet are the ones
 -- that the field table names.
-use Rattle.std.specs.Prelude.{ℕ, zero, suc, ◌+◌, ◌-◌, ◌*◌, ◌≤◌, ◌<◌, ◌^◌, ◌≡◌, cond, List, [], ◌∷◌, ◌++◌, eqb}
+use Rattle.std.specs.Prelude.{Result, ℕ, zero, suc, ◌+◌, ◌-◌, ◌*◌, ◌≤◌, ◌<◌, ◌^◌, ◌≡◌, cond, List, [], ◌∷◌, ◌++◌, eqb}
+use Rattle.std.specs.Result.{IsErrAnd}
 use Rattle.std.proofs.Math.Path.{refl, sym, ap}
 use Rattle.std.proofs.Common.{subst, ◌∙◌}
 use native.Mathlib.Omega.{arith}
@@ -23,7 +24,10 @@ use Rattle.sheet.proofs.Contents.{strip_from_start, strip_time_left, strip_bench
 use Rattle.sheet.proofs.Contents.{sorting_strip_values, flight_head_values_lem, flight_block_values, flight_window_block_values, flight_order_values, no_content, none_due}
 use Rattle.sheet_ranges.specs.RangePre.{StripPre, WeightPre, RangePre}
 use Rattle.sheet.specs.Rows.{first_failure}
-use Rattle.sheet.proofs.RowLaws.{given_fails, given_passes, given_last}
+use Rattle.sheet.proofs.RowLaws.{given_last}
+use Rattle.sheet.specs.Given.{number_of, number_given}
+use Rattle.sheet.proofs.GivenNumbers.{given_refused, given_nothing}
+use Rattle.sheet.specs.declared.refusals.Refusal.{Refusal}
 use Rattle.sheet.specs.Checks.{count_number, time_number, value_number, value_numbers, range_number}
 
 -- one count, and one time
@@ -52,19 +56,22 @@ module _ (least number most : ℕ) where
   unfolding time_number check
   time_within k h = rw (le-leb number most k, le-leb least number h)
 
--- one value after another: the first that gives no 0 decides
-module _ (v : Value) (values : List Value) (n : ℕ) (e : n ≡ value_number v) where
-  pub value_fails : (n ≡ 0 → ⊥) → n ≡ range_number (v ∷ values)
+-- one value after another: the first that is refused decides
+module _ (v : Value) (values : List Value) where
+  pub value_refused : (r : Result (Unit {0}) Refusal) (refusal : Refusal) → IsErrAnd r (λ d. d ≡ refusal) → number_of refusal ≡ value_number v
+      → number_given r ≡ range_number (v ∷ values)
   unfolding range_number value_numbers
-  value_fails h = given_fails (value_numbers values) n _ e h
+  value_refused r refusal h e = given_refused (value_numbers values) _ r refusal h e
 
-  pub value_passes : (r : ℕ) → n ≡ 0 → r ≡ range_number values → r ≡ range_number (v ∷ values)
+  pub value_passes : (n : ℕ) → 0 ≡ value_number v → n ≡ range_number values → n ≡ range_number (v ∷ values)
   unfolding range_number value_numbers
-  value_passes r z h = given_passes (value_numbers values) n _ r e z h
+  value_passes n z h = given_nothing (value_numbers values) _ n z h
 
-pub value_last : (v : Value) (r : ℕ) → r ≡ value_number v → r ≡ range_number (v ∷ [])
+pub value_last : (v : Value) (n : ℕ) → n ≡ value_number v → n ≡ range_number (v ∷ [])
 unfolding range_number value_numbers
-value_last v r e = given_last r _ e
+value_last v n e = given_last n _ e
+
+pub ruleset values = (value_refused, value_passes, value_last)
 
 -- the first k station times of a strip pass: those from k on decide
 pub record TimesPassed (s : List ℕ) (c stations k : ℕ) : Type 0 where
@@ -79,7 +86,7 @@ times_none s c stations =
     }
 
 module _ (s : List ℕ) (c stations k : ℕ) (t : TimesPassed s c stations k) where
-  module _ (more : k < stations) (x n : ℕ) (r : NumberRead s (c + 2 * k) 2 x) (e : n ≡ time_number 0 x most_time) where
+  module _ (more : k < stations) (x : ℕ) (n : NumberRead s (c + 2 * k) 2 x) where
     some_left : stations - k ≡ suc (stations - (k + 1))
     some_left = omega arith
 
@@ -87,27 +94,32 @@ module _ (s : List ℕ) (c stations k : ℕ) (t : TimesPassed s c stations k) wh
         ≡ range_number (value (time most_time) (number_at s (c + 2 * k) 2) ∷ strip_from s c (k + 1) (stations - (k + 1)))
     next = t.left ∙ ap (λ j. range_number (strip_from s c k j)) some_left ∙ ap range_number (strip_time_left s c k _)
 
-    read : n ≡ time_number 0 (number_at s (c + 2 * k) 2) most_time
-    read = e ∙ ap (λ x. time_number 0 x most_time) r.is
+    read : (m : ℕ) → m ≡ time_number 0 x most_time → m ≡ time_number 0 (number_at s (c + 2 * k) 2) most_time
+    read m e = e ∙ ap (λ x. time_number 0 x most_time) n.is
 
-    pub times_wrong : (n ≡ 0 → ⊥) → n ≡ range_number (content_values s c (mosaic_strip stations))
+    pub times_refused : (r : Result (Unit {0}) Refusal) (refusal : Refusal) → IsErrAnd r (λ d. d ≡ refusal) → number_of refusal ≡ time_number 0 x most_time
+        → number_given r ≡ range_number (content_values s c (mosaic_strip stations))
     unfolding value_number
-    times_wrong h = value_fails _ _ n read h ∙ sym next
+    times_refused r refusal h e = value_refused _ _ r refusal h (read _ e) ∙ sym next
 
-    pub times_more : n ≡ 0 → TimesPassed s c stations (k + 1)
+    pub times_more : 0 ≡ time_number 0 x most_time → TimesPassed s c stations (k + 1)
     unfolding value_number
-    times_more z =
+    times_more e =
         record {
           within = omega arith;
-          left = next ∙ sym (value_passes _ _ n read _ z refl);
+          left = next ∙ sym (value_passes _ _ _ (read 0 e) refl);
         }
 
-  pub times_bench : stations ≤ k → (x r : ℕ) → NumberRead s (c + 2 * k) 2 x → r ≡ time_number 1 x most_time → r ≡ range_number (content_values s c (mosaic_strip stations))
+  pub times_bench : stations ≤ k → (x r : ℕ) → NumberRead s (c + 2 * stations) 2 x → r ≡ time_number 1 x most_time
+      → r ≡ range_number (content_values s c (mosaic_strip stations))
   unfolding value_number
   times_bench h x r n e =
-      value_last _ r (e ∙ ap (λ x. time_number 1 x most_time) n.is)
+      value_last _ r (e ∙ ap (λ x. time_number 1 x most_time) (n.is ∙ ap (λ j. number_at s (c + 2 * j) 2) last))
       ∙ sym (t.left ∙ ap (λ j. range_number (strip_from s c k j)) none_left ∙ ap range_number (strip_bench_left s c k))
     where
+      last : stations ≡ k
+      last = let w = t.within in omega arith
+
       none_left : stations - k ≡ 0
       none_left = omega arith
 
@@ -136,7 +148,7 @@ range_behind : (values more : List Value) → range_number (values ++ more) ≡ 
 unfolding range_number
 range_behind values more = ap first_failure (numbers_behind values more) ∙ failure_behind (value_numbers values) (value_numbers more)
 
--- the weight of a strip, and the strip by what stands before its weight
+-- the weight of a strip
 module _ (s : List ℕ) (c len others : ℕ) where
   pub weight_absent : len ≡ others → 0 ≡ range_number (weight_values s c len others)
   unfolding weight_values
@@ -146,13 +158,6 @@ module _ (s : List ℕ) (c len others : ℕ) where
       → r ≡ range_number (weight_values s c len others)
   unfolding weight_values value_number
   weight_there n w r read e = rw (ne_eqb len others n) (value_last _ r (e ∙ ap (λ x. count_number 1 x most_weight) read.is))
-
-module _ (before weight : ℕ) where
-  pub before_decides : (before ≡ 0 → ⊥) → before ≡ first_failure (before ∷ weight ∷ [])
-  before_decides n = given_fails (weight ∷ []) before before refl n
-
-  pub weight_decides : (r : ℕ) → before ≡ 0 → r ≡ weight → r ≡ first_failure (before ∷ weight ∷ [])
-  weight_decides r z e = given_passes (weight ∷ []) before before r refl z (given_last r weight e)
 
 -- an empty flight head has no value, and the pass order no range
 module _ (len turn : ℕ) where
@@ -198,30 +203,28 @@ module _ (s : List ℕ) (c tag len stations desks r : ℕ) (pre : RangePre c tag
   pub mosaic_weight_pre : tag ≡ mosaic_strip_tag → WeightPre c (2 * stations + 2)
   mosaic_weight_pre e = let p = strip_pre e in record { begins = pre.begins; soon = omega (arith, p.few_stations) }
 
-  pub mosaic_strip_read : tag ≡ mosaic_strip_tag → (before : ℕ) → before ≡ range_number (content_values s c (mosaic_strip stations))
-      → r ≡ first_failure (before ∷ range_number (weight_values s c len (2 * stations + 2)) ∷ [])
+  mosaic_strip_parts : tag ≡ mosaic_strip_tag
+      → r ≡ first_failure (range_number (content_values s c (mosaic_strip stations)) ∷ range_number (weight_values s c len (2 * stations + 2)) ∷ [])
       → r ≡ range_number (field_values s c tag len (field_table stations desks))
-  mosaic_strip_read e before b h =
+  mosaic_strip_parts e h =
       of_tag mosaic_strip_tag _ e (mosaic_strip_values s c len stations desks)
-      (h ∙ ap (λ n. first_failure (n ∷ range_number (weight_values s c len (2 * stations + 2)) ∷ [])) b
-      ∙ sym (range_behind (content_values s c (mosaic_strip stations)) (weight_values s c len (2 * stations + 2))))
+      (h ∙ sym (range_behind (content_values s c (mosaic_strip stations)) (weight_values s c len (2 * stations + 2))))
 
   pub sorting_head_read : tag ≡ sorting_head_tag → (m : ℕ) → NumberRead s c 1 m → r ≡ range_number (values_of sorting_head (m ∷ []))
       → r ≡ range_number (field_values s c tag len (field_table stations desks))
   sorting_head_read e m n h = of_tag sorting_head_tag _ e (sorting_head_values_lem s c len stations desks) (rw (← n.is) h)
 
-  pub sorting_strip_read : tag ≡ sorting_strip_tag → (desk scan desk_time : ℕ) → NumberRead s c 1 desk → NumberRead s (c + 1) 2 scan → NumberRead s (c + 3) 2 desk_time
-      → (before : ℕ) → before ≡ range_number (values_of (sorting_strip desks) (desk ∷ scan ∷ desk_time ∷ []))
-      → r ≡ first_failure (before ∷ range_number (weight_values s c len 5) ∷ [])
-      → r ≡ range_number (field_values s c tag len (field_table stations desks))
-  sorting_strip_read e desk scan desk_time n₁ n₂ n₃ before b h =
-      of_tag sorting_strip_tag _ e (sorting_strip_values s c len stations desks)
-      (h ∙ ap (λ n. first_failure (n ∷ range_number (weight_values s c len 5) ∷ [])) (b ∙ read)
-      ∙ sym (range_behind (values_of (sorting_strip desks) (number_at s c 1 ∷ number_at s (c + 1) 2 ∷ number_at s (c + 3) 2 ∷ [])) (weight_values s c len 5)))
-    where
-      read : range_number (values_of (sorting_strip desks) (desk ∷ scan ∷ desk_time ∷ []))
-          ≡ range_number (values_of (sorting_strip desks) (number_at s c 1 ∷ number_at s (c + 1) 2 ∷ number_at s (c + 3) 2 ∷ []))
-      read = rw (n₁.is, n₂.is, n₃.is)
+  module _ (e : tag ≡ sorting_strip_tag) (desk scan desk_time : ℕ) (n₁ : NumberRead s c 1 desk) (n₂ : NumberRead s (c + 1) 2 scan) (n₃ : NumberRead s (c + 3) 2 desk_time) where
+    sorting_strip_parts : r ≡ first_failure (range_number (values_of (sorting_strip desks) (desk ∷ scan ∷ desk_time ∷ [])) ∷ range_number (weight_values s c len 5) ∷ [])
+        → r ≡ range_number (field_values s c tag len (field_table stations desks))
+    sorting_strip_parts h =
+        of_tag sorting_strip_tag _ e (sorting_strip_values s c len stations desks)
+        (h ∙ ap (λ n. first_failure (n ∷ range_number (weight_values s c len 5) ∷ [])) read
+        ∙ sym (range_behind (values_of (sorting_strip desks) (number_at s c 1 ∷ number_at s (c + 1) 2 ∷ number_at s (c + 3) 2 ∷ [])) (weight_values s c len 5)))
+      where
+        read : range_number (values_of (sorting_strip desks) (desk ∷ scan ∷ desk_time ∷ []))
+            ≡ range_number (values_of (sorting_strip desks) (number_at s c 1 ∷ number_at s (c + 1) 2 ∷ number_at s (c + 3) 2 ∷ []))
+        read = rw (n₁.is, n₂.is, n₃.is)
 
   pub flight_head_read : tag ≡ flight_head_tag → (turn : ℕ) → NumberRead s c 2 turn
       → r ≡ range_number (cond (eqb len 0) [] (values_of turn_flight_head (turn ∷ []))) → r ≡ range_number (field_values s c tag len (field_table stations desks))
@@ -237,6 +240,32 @@ module _ (s : List ℕ) (c tag len stations desks r : ℕ) (pre : RangePre c tag
       → r ≡ range_number (field_values s c tag len (field_table stations desks))
   flight_window_block_read e a shortest longest b n₁ n₂ n₃ n₄ h =
       of_tag flight_window_block_tag _ e (flight_window_block_values s c len stations desks) (rw (← n₁.is, ← n₂.is, ← n₃.is, ← n₄.is) h)
+
+-- a strip: what stands before its weight decides, or the weight does
+module _ (s : List ℕ) (c tag len stations desks : ℕ) (pre : RangePre c tag len stations desks) where
+  module _ (e : tag ≡ mosaic_strip_tag) where
+    pub mosaic_strip_refused : (r : Result (Unit {0}) Refusal) (refusal : Refusal) → IsErrAnd r (λ d. d ≡ refusal)
+        → number_of refusal ≡ range_number (content_values s c (mosaic_strip stations))
+        → number_given r ≡ range_number (field_values s c tag len (field_table stations desks))
+    mosaic_strip_refused r refusal h before =
+        mosaic_strip_parts s c tag len stations desks _ pre e (given_refused (range_number (weight_values s c len (2 * stations + 2)) ∷ []) _ r refusal h before)
+
+    pub mosaic_strip_weighed : (r : ℕ) → 0 ≡ range_number (content_values s c (mosaic_strip stations)) → r ≡ range_number (weight_values s c len (2 * stations + 2))
+        → r ≡ range_number (field_values s c tag len (field_table stations desks))
+    mosaic_strip_weighed r before w =
+        mosaic_strip_parts s c tag len stations desks r pre e (given_nothing (range_number (weight_values s c len (2 * stations + 2)) ∷ []) _ r before (given_last r _ w))
+
+  module _ (e : tag ≡ sorting_strip_tag) (desk scan desk_time : ℕ) (n₁ : NumberRead s c 1 desk) (n₂ : NumberRead s (c + 1) 2 scan) (n₃ : NumberRead s (c + 3) 2 desk_time) where
+    pub sorting_strip_refused : (r : Result (Unit {0}) Refusal) (refusal : Refusal) → IsErrAnd r (λ d. d ≡ refusal)
+        → number_of refusal ≡ range_number (values_of (sorting_strip desks) (desk ∷ scan ∷ desk_time ∷ []))
+        → number_given r ≡ range_number (field_values s c tag len (field_table stations desks))
+    sorting_strip_refused r refusal h before =
+        sorting_strip_parts s c tag len stations desks _ pre e desk scan desk_time n₁ n₂ n₃ (given_refused (range_number (weight_values s c len 5) ∷ []) _ r refusal h before)
+
+    pub sorting_strip_weighed : (r : ℕ) → 0 ≡ range_number (values_of (sorting_strip desks) (desk ∷ scan ∷ desk_time ∷ []))
+        → r ≡ range_number (weight_values s c len 5) → r ≡ range_number (field_values s c tag len (field_table stations desks))
+    sorting_strip_weighed r before w =
+        sorting_strip_parts s c tag len stations desks r pre e desk scan desk_time n₁ n₂ n₃ (given_nothing (range_number (weight_values s c len 5) ∷ []) _ r before (given_last r _ w))
 
 -- a field of any other tag has no value with a range
 module _ (s : List ℕ) (c tag len stations desks : ℕ) (pre : RangePre c tag len stations desks) where

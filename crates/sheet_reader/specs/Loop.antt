@@ -1,12 +1,13 @@
 -- What the reader's callees require holds at every step: a whole field lies within the sheet, and one that passes its checks has room.
-use Prim.Native.Nat.{ℕ, suc, ◌+◌, ◌-◌, ◌*◌, ◌≤◌, ◌<◌, ◌^◌}
-use Rattle.std.specs.Prelude.{◌≡◌, Bool, cond, List, length}
+use Prim.Native.Nat.{ℕ, ◌+◌, ◌-◌, ◌*◌, ◌≤◌, ◌<◌, ◌^◌}
+use Rattle.std.specs.Prelude.{◌≡◌, Bool, cond, List, length, Result, Ok, Err}
 use Rattle.std.proofs.Math.Path.{refl, subst}
-use Rattle.std.proofs.Common.{sym, ◌∙◌, true≢false}
+use Rattle.std.proofs.Common.{sym, ap, ◌∙◌}
+use Rattle.std.proofs.lemmas.Bool.{lt-leb}
 use Rattle.std.proofs.Math.Bool.{true, false}
 use native.Mathlib.Omega.{arith}
 use Rattle.std.proofs.Math.Dec.{eqb}
-use borrow.Author.Tests.{eqb-true, eqb-false, eq-eqb, ne_eqb}
+use borrow.Author.Tests.{eqb-true, ne_eqb}
 use Rattle.field.specs.Bytes.{number_at}
 use Rattle.field.specs.Field.{field_at, end_of}
 use Rattle.field.specs.Fields.{whole_at}
@@ -29,11 +30,15 @@ use Rattle.sheet.proofs.Invariant.{below}
 use Rattle.sheet.specs.Progress.{Progress}
 use Rattle.sheet.proofs.Progress.{progress_start, progress_end, progress_cut, progress_next, progress_refused, progress_less}
 use Rattle.sheet.specs.declared.Reading.{Reading}
-use Rattle.sheet.specs.declared.Sheet.{Sheet}
+use Rattle.sheet.specs.declared.refusals.Refusal.TheVariants.{FieldCut}
+use Rattle.sheet.specs.declared.refusals.Refused.{Refused}
+use Rattle.sheet.specs.Given.{number_of}
+use Rattle.sheet.proofs.GivenNumbers.{refusal_not_zero}
+use Rattle.std.specs.Result.{IsErrAnd}
+use Rattle.field.specs.Fields.{field_end}
 use Rattle.sheet_checks.specs.FieldPre.{FieldPre}
 use Rattle.sheet_decode.specs.Pre.{NextReadingPre}
-use Rattle.sheet_reader.specs.Step.{first_step, ended, goes_on, step_at, sheet_of}
-use Rattle.sheet_reader.specs.declared.Step.{Step}
+use Rattle.sheet_reader.specs.Answer.{sheet_of}
 
 module _ (s : List ℕ) (st : Reading) (tag len : ℕ) (k : Kept s st) (w : st.at + 3 + len ≤ length s) (p : Passed s st tag len) where
   strip_fits : tag ≡ mosaic_strip_tag → st.mosaic.strips < most_strips
@@ -78,122 +83,106 @@ module _ (s : List ℕ) (st : Reading) (tag len : ℕ) (k : Kept s st) (w : st.a
         flight = record { content = omega arith; block_fits = block_fits; window_block_fits = window_block_fits };
       }
 
-module _ (s : List ℕ) (st : Reading) (p : Progress s st) (f : Field) (ef : f ≡ field_at s st.at) (tag len : ℕ) (e : f ≡ Whole tag len) where
-  within : st.at + 3 + len ≤ length s
-  within = (whole_at s st.at tag len (sym ef ∙ e)).within
+-- The loop: the reader stands on the same sheet, at the offset of the reading, and what is left to read gives the sheet's answer.
+pub record ReadingHolds (s row : List ℕ) (at : ℕ) (st : Reading) : Type 0 where
+  pub same_sheet : row ≡ s
+  pub same_place : at ≡ st.at
+  pub progress : Progress s st
 
-  pub field_pre : FieldPre s st len
-  field_pre = record { within = within }
+start_at : start_reading.at ≡ 0
+unfolding start_reading
+start_at = refl
 
-  pub progress_pre : (number : ℕ) → number ≡ field_number s st tag len → number ≡ 0 → length s * 1 < 2 ^ 63 → NextReadingPre s st tag len
-  progress_pre number en hn big = next_pre s st tag len p.kept within (passes s st tag len (sym ef ∙ e) (sym en ∙ hn)) big
+pub reading_first : (s row : List ℕ) (at : ℕ) (st : Reading) → row ≡ s → at ≡ 0 → st ≡ start_reading → ReadingHolds s row at st
+reading_first s row at st er ea es =
+    record { same_sheet = er; same_place = ea ∙ sym (ap (λ (u : Reading). u.at) es ∙ start_at); progress = progress_start s st es }
 
--- each way out of a step is the step's definition
-pub first_step_is : (st : Reading) → st ≡ start_reading → ◌≡◌ {A = Step} (record { more = true; number = 0; place = 0; reading = st }) first_step
-unfolding first_step
-first_step_is st e = rw e
+-- what `?` hands on is the answer of the refusal that it was given
+handed_on : (result : Result Reading Refused) (r : Refused) → IsErrAnd result (λ d. d ≡ r) → sheet_of result ≡ refused (number_of r.refusal) r.place
+handed_on (Ok st) r e = absurd e
+handed_on (Err d) r e = ap (λ (r : Refused). refused (number_of r.refusal) r.place) e
 
-module _ (s : List ℕ) (st : Reading) (f : Field) where
-  pub step_at_end : (number : ℕ) → f ≡ End → number ≡ end_number st.section st.members
-      → ◌≡◌ {A = Step} (record { more = false; number = number; place = st.head; reading = st }) (step_at s st f)
-  unfolding step_at ended
-  step_at_end number e en = rw (e, en)
+-- before the end of the sheet a field that is not whole is cut
+some_field : (short fits : Bool) (tag len : ℕ) → End ≡ cond short Cut (cond fits (Whole tag len) Cut) → ⊥
+some_field true fits tag len e = let z : ◌≡◌ {A = ℕ} 0 1 = cc in absurd (omega arith)
+some_field false true tag len e = let z : ◌≡◌ {A = ℕ} 0 1 = cc in absurd (omega arith)
+some_field false false tag len e = let z : ◌≡◌ {A = ℕ} 0 1 = cc in absurd (omega arith)
 
-  pub step_at_cut : f ≡ Cut → ◌≡◌ {A = Step} (record { more = false; number = 3; place = st.at; reading = st }) (step_at s st f)
-  unfolding step_at ended
-  step_at_cut e = rw e
+not_end : (s : List ℕ) (at : ℕ) → at < length s → End ≡ field_at s at → ⊥
+unfolding field_at
+not_end s at h e = some_field _ _ _ _ (rw (lt-leb (length s) at h) at e)
 
-  module _ (tag len : ℕ) (e : f ≡ Whole tag len) (number : ℕ) (en : number ≡ field_number s st tag len) where
-    pub step_at_refused : (place : ℕ) → (number ≡ 0 → ⊥) → place ≡ place_of number st.head st.at
-        → ◌≡◌ {A = Step} (record { more = false; number = number; place = place; reading = st }) (step_at s st f)
-    unfolding step_at ended
-    step_at_refused place h ep = rw (e, ← en, ne_eqb number 0 h, ep)
+is_cut : (s : List ℕ) (at : ℕ) → at < length s → (f : Field) → f ≡ field_at s at → ((tag len : ℕ) → f ≡ Whole tag len → ⊥) → f ≡ Cut
+is_cut s at h End e n = absurd (not_end s at h e)
+is_cut s at h Cut e n = refl
+is_cut s at h (Whole tag len) e n = absurd (n tag len refl)
 
-    pub step_at_next : (next : Reading) → number ≡ 0 → next ≡ next_reading s st tag len
-        → ◌≡◌ {A = Step} (record { more = true; number = 0; place = 0; reading = next }) (step_at s st f)
-    unfolding step_at goes_on
-    step_at_next next z h = rw (e, ← en, eq-eqb number 0 z, h)
+module _ (s row : List ℕ) (at : ℕ) (st : Reading) (h : ReadingHolds s row at st) where
+  module _ (f : Field) (ef : f ≡ field_at row at) where
+    field_is : f ≡ field_at s st.at
+    field_is = ef ∙ ap (λ (r : List ℕ). field_at r at) h.same_sheet ∙ ap (field_at s) h.same_place
 
-module _ (t : Step) (r : Sheet) where
-  pub sheet_refused : (t.number ≡ 0 → ⊥) → r ≡ refused t.number t.place → r ≡ sheet_of t
-  unfolding sheet_of
-  sheet_refused h e = rw (ne_eqb t.number 0 h) e
+    pub cut_refused : at < length s → ((tag len : ℕ) → f ≡ Whole tag len → ⊥) → (r : Refused) → r ≡ record { refusal = FieldCut; place = st.at }
+        → refused (number_of r.refusal) r.place ≡ read_sheet s
+    cut_refused more n r e =
+        ap (λ (r : Refused). refused (number_of r.refusal) r.place) e
+        ∙ progress_cut s st h.progress f field_is _ (is_cut s st.at (subst (λ k. k < length s) h.same_place more) f field_is n) refl
 
-  pub sheet_accepted : t.number ≡ 0 → r ≡ accepted t.reading → r ≡ sheet_of t
-  unfolding sheet_of
-  sheet_accepted h e = rw (eq-eqb t.number 0 h) e
+    module _ (tag len : ℕ) (e : f ≡ Whole tag len) where
+      within : st.at + 3 + len ≤ length s
+      within = (whole_at s st.at tag len (sym field_is ∙ e)).within
 
--- The loop: while a field is due, what is left to read gives the sheet's answer; when none is, the step has it.
-pub record StepHolds (s : List ℕ) (t : Step) : Type 0 where
-  pub goes : t.more ≡ true → Progress s t.reading
-  pub done : t.more ≡ false → sheet_of t ≡ read_sheet s
+      pub field_pre : FieldPre s st len
+      field_pre = record { within = within }
 
--- how much is left to read
-unfoldable pub left : List ℕ → Step → ℕ
-left s t = cond t.more (suc (length s - t.reading.at)) 0
+      pub field_refused : (result : Result Reading Refused) (r : Refused) → IsErrAnd result (λ d. d ≡ r) → number_of r.refusal ≡ field_number s st tag len
+          → r.place ≡ place_of (number_of r.refusal) st.head st.at → sheet_of result ≡ read_sheet s
+      field_refused result r i en ep =
+          handed_on result r i ∙ progress_refused s st h.progress f field_is tag len e _ r.place _ en (refusal_not_zero r.refusal) ep refl
 
-pub first_holds : (s : List ℕ) → StepHolds s first_step
-unfolding first_step
-first_holds s = record { goes = λ _. progress_start s start_reading refl; done = λ e. absurd (true≢false e) }
+      module _ (z : 0 ≡ field_number s st tag len) where
+        pub reading_pre : length s * 1 < 2 ^ 63 → NextReadingPre s st tag len
+        reading_pre big = next_pre s st tag len h.progress.kept within (passes s st tag len (sym field_is ∙ e) (sym z)) big
 
-pub first_at : first_step.reading.at ≡ 0
-unfolding first_step start_reading
-first_at = refl
+        module _ (next : Reading) (en : next ≡ next_reading s st tag len) (to : ℕ) (et : to ≡ end_of at (field_at row at)) where
+          ahead : (next_reading s st tag len).at ≡ st.at + 3 + len
+          unfolding next_reading
+          ahead = refl
 
-module _ (s : List ℕ) (st : Reading) (p : Progress s st) where
-  -- the step that takes the field which stands there, by what the field is
-  pub next_holds : (f : Field) → f ≡ field_at s st.at → StepHolds s (step_at s st f)
-  unfolding step_at ended goes_on sheet_of at_end
-  next_holds End e = record { goes = λ g. absurd (true≢false (sym g)); done = λ _. progress_end s st p End e _ refl refl }
-  next_holds Cut e = record { goes = λ g. absurd (true≢false (sym g)); done = λ _. progress_cut s st p Cut e _ refl refl }
-  next_holds (Whole tag len) e = go _ refl
-    where
-      go : (b : Bool) → eqb (field_number s st tag len) 0 ≡ b
-          → StepHolds s
-          (cond b (goes_on (next_reading s st tag len)) (ended st (field_number s st tag len) (place_of (field_number s st tag len) st.head st.at)))
-      go true h =
-          record {
-            goes = λ _. progress_next s st p (Whole tag len) e tag len refl (field_number s st tag len) (next_reading s st tag len) refl (eqb-true _ _ h) refl;
-            done = λ g. absurd (true≢false g);
-          }
-      go false h =
-          record {
-            goes = λ g. absurd (true≢false (sym g));
-            done =
-                λ _. rw (ne_eqb _ _ (eqb-false _ _ h)) (progress_refused s st p (Whole tag len) e tag len refl (field_number s st tag len) _ _ refl (eqb-false _ _ h) refl refl);
-          }
+          behind : end_of at (field_at row at) ≡ at + 3 + len
+          unfolding end_of
+          behind = rw (← ef, e)
 
-  -- it leaves less to read ..
-  pub next_less : (f : Field) → f ≡ field_at s st.at → left s (step_at s st f) < suc (length s - st.at)
-  unfolding step_at ended goes_on left
-  next_less End e = omega arith
-  next_less Cut e = omega arith
-  next_less (Whole tag len) e = go (eqb (field_number s st tag len) 0)
-    where
-      go : (b : Bool)
-          → left s (cond b (goes_on (next_reading s st tag len)) (ended st (field_number s st tag len) (place_of (field_number s st tag len) st.head st.at)))
-          < suc (length s - st.at)
-      go true = let h = progress_less s st p (Whole tag len) e tag len refl (next_reading s st tag len) refl in omega arith
-      go false = omega arith
+          next_place : to ≡ next.at
+          next_place = et ∙ behind ∙ ap (λ k. k + 3 + len) h.same_place ∙ sym (ap (λ (u : Reading). u.at) en ∙ ahead)
 
--- .. and where a field is due next, the reading stands behind this one
-pub next_at : (s : List ℕ) (st : Reading) (f : Field) → (step_at s st f).more ≡ true → (step_at s st f).reading.at ≡ end_of st.at f
-unfolding step_at ended goes_on end_of next_reading
-next_at s st End g = absurd (true≢false (sym g))
-next_at s st Cut g = absurd (true≢false (sym g))
-next_at s st (Whole tag len) g = go (eqb (field_number s st tag len) 0) g
-  where
-    next : Step
-    next = goes_on (next_reading s st tag len)
+          pub reading_next : (rest : List ℕ) → rest ≡ row → ReadingHolds s rest to next
+          reading_next rest er =
+              record {
+                same_sheet = er ∙ h.same_sheet;
+                same_place = next_place;
+                progress = progress_next s st h.progress f field_is tag len e 0 next z refl en;
+              }
 
-    stopped : Step
-    stopped = ended st (field_number s st tag len) (place_of (field_number s st tag len) st.head st.at)
+          pub reading_less : length s - to < length s - at
+          reading_less =
+              let q = progress_less s st h.progress f field_is tag len e next en in
+              let a = next_place in
+              let b = h.same_place in
+              omega arith
 
-    go : (b : Bool) → (cond b next stopped).more ≡ true → (cond b next stopped).reading.at ≡ st.at + 3 + len
-    go true g = refl
-    go false g = absurd (true≢false (sym g))
+  -- the end of the sheet
+  module _ (past : length s ≤ at) where
+    end_is : End ≡ field_at s st.at
+    end_is = field_end s st.at (subst (λ k. length s ≤ k) h.same_place past)
 
--- what is left where a field is due
-pub left_more : (s : List ℕ) (t : Step) → t.more ≡ true → left s t ≡ suc (length s - t.reading.at)
-unfolding left
-left_more s t e = rw e
+    pub end_refused : (result : Result Reading Refused) (r : Refused) → IsErrAnd result (λ d. d ≡ r) → number_of r.refusal ≡ end_number st.section st.members
+        → r.place ≡ st.head → sheet_of result ≡ read_sheet s
+    unfolding at_end
+    end_refused result r i en ep =
+        handed_on result r i
+        ∙ progress_end s st h.progress End end_is _ refl (rw (← en, ne_eqb _ _ (refusal_not_zero r.refusal), ep))
+
+    pub end_accepted : 0 ≡ end_number st.section st.members → accepted st ≡ read_sheet s
+    unfolding at_end
+    end_accepted z = progress_end s st h.progress End end_is _ refl (rw (← z))

@@ -1,4 +1,5 @@
 -- `field_end` meets its contract: a whole field lies within the row, so that the offset behind it fits.
+use Rattle.std.proofs.Common.{inl, inr}
 use Rattle.field.specs.Fields.{end_none, end_cut, end_whole, near_fits, behind_fits}
 use borrow.Author.Rules.{rules}
 use Rattle.field.proofs.field_end.Goals as goal
@@ -10,10 +11,7 @@ pub overflow_add-result-in-Whole : goal.overflow_add-result-in-Whole
 overflow_add-result-in-Whole c = record { fits = search (behind_fits, rules) }
 
 pub returns-in-End : goal.returns-in-End
-returns-in-End c = search end_none
-
-pub returns-in-Cut : goal.returns-in-Cut
-returns-in-Cut c = search end_cut
+returns-in-End c = elim c.in-End.is [ inl e ↦ end_none _ _ _ c.field_at.ensures e | inr e ↦ end_cut _ _ _ c.field_at.ensures e ]
 
 pub returns-in-Whole : goal.returns-in-Whole
 returns-in-Whole c = search end_whole

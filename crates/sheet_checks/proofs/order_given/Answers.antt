@@ -3,10 +3,10 @@ use Rattle.base.specs.Branch.{flags}
 use Rattle.sheet.specs.Checks.{order_given}
 use Rattle.sheet_checks.proofs.order_given.Goals as goal
 
-pub returns-then-ends_section : goal.returns-then-ends_section
+pub returns-then-not-ends_section : goal.returns-then-not-ends_section
 unfolding order_given
-returns-then-ends_section c = search flags depth 14
+returns-then-not-ends_section c = search flags depth 14
 
-pub returns : goal.returns
+pub returns-else-not-ends_section : goal.returns-else-not-ends_section
 unfolding order_given
-returns c = search flags depth 14
+returns-else-not-ends_section c = search flags depth 14

@@ -3,10 +3,10 @@ use Rattle.base.specs.Branch.{flags}
 use Rattle.sheet.specs.Checks.{order_proper}
 use Rattle.sheet_checks.proofs.order_proper.Goals as goal
 
-pub returns-then-tag-eq-FLIGHT_ORDER : goal.returns-then-tag-eq-FLIGHT_ORDER
+pub returns-then-tag-ne-FLIGHT_ORDER : goal.returns-then-tag-ne-FLIGHT_ORDER
 unfolding order_proper
-returns-then-tag-eq-FLIGHT_ORDER c = search flags depth 14
+returns-then-tag-ne-FLIGHT_ORDER c = search flags depth 14
 
-pub returns : goal.returns
+pub returns-else-tag-ne-FLIGHT_ORDER : goal.returns-else-tag-ne-FLIGHT_ORDER
 unfolding order_proper
-returns c = search flags depth 14
+returns-else-tag-ne-FLIGHT_ORDER c = search flags depth 14

@@ -1,2 +1,0 @@
--- What the proof of `clear` cites: zeros written from the front.
-mod Clearing
