@@ -1,6 +1,6 @@
 -- Laws of a flight's passes: what the bytes give is what the rules name, and the loops over the order and over all passes.
-use Rattle.std.specs.Prelude.{ℕ, zero, suc, ◌+◌, ◌-◌, ◌*◌, ◌^◌, ◌≤◌, ◌<◌, max, ◌≡◌, refl, Bool, true, false, not, ◌&&◌, ◌||◌, List, leb, eqb}
-use Rattle.std.proofs.Common.{sym, ◌∙◌}
+use Rattle.std.specs.Prelude.{ℕ, zero, suc, ◌+◌, ◌-◌, ◌*◌, ◌^◌, ◌≤◌, ◌<◌, max, ◌≡◌, refl, Bool, true, false, not, ◌&&◌, ◌||◌, ◌⊎◌, List, leb, eqb}
+use Rattle.std.proofs.Common.{sym, ◌∙◌, inl, inr}
 use Rattle.std.proofs.Math.Path.{ap}
 use Rattle.std.proofs.Math.Decide.{dec_lt}
 use Rattle.std.proofs.Math.Numerals.{add-one}
@@ -61,9 +61,6 @@ module _ (f : FlightSection) (plan : List ℕ) (at p : ℕ) where
   unfolding clear_in_plan
   clear_told end t = rw t.is
 
-  pub turn_fits : PassEndPre f at p → (end : ℕ) → FigureTold (end_in_plan f plan at p) end → end + f.turn < 2 ^ 64
-  turn_fits a end t = omega (arith, t.fits, a.sound.most_turn_holds)
-
 -- the first k passes of the order come one after another
 pub record OrderedSoFar (f : FlightSection) (order : ℕ) (ps : List Passes) (k : ℕ) : Type 0 where
   pub within : k ≤ 2 * f.blocks - 1
@@ -87,62 +84,67 @@ pub ordered_none : (f : FlightSection) (order : ℕ) (ps : List Passes) → Orde
 unfolding passes_in_order
 ordered_none f order ps = record { within = omega arith; so_far = refl }
 
+-- at position k, behind the first: p and q are the passes at the position before and at this one
 module _ (f : FlightSection) (order : ℕ) (plan : List ℕ) (at k : ℕ) (a : PassesInOrderPre f order at)
-    (t : OrderedSoFar f order (blocks_from plan at f.blocks) k)
-    (less : k + 1 < 2 * f.blocks) (p q start clear : ℕ) (ep : p ≡ pass_at f.blocks order k) (eq : q ≡ pass_at f.blocks order (k + 1))
+    (t : OrderedSoFar f order (blocks_from plan at f.blocks) (k - 1)) (behind : 1 ≤ k)
+    (less : k < 2 * f.blocks) (p q start clear : ℕ) (ep : p ≡ pass_at f.blocks order (k - 1)) (eq : q ≡ pass_at f.blocks order k)
     (ts : StartTold (start_in_plan plan at f.blocks q) start) (te : clear ≡ clear_in_plan f plan at p) where
   known_p : p < 2 * f.blocks
-  known_p = rw ep (pass_known a.proper k (omega arith))
+  known_p = rw ep (pass_known a.proper (k - 1) (omega arith))
 
   known_q : q < 2 * f.blocks
-  known_q = rw eq (pass_known a.proper (k + 1) less)
+  known_q = rw eq (pass_known a.proper k less)
 
-  clear_there : clear ≡ clear_at f (blocks_from plan at f.blocks) (pass_at f.blocks order k)
+  clear_there : clear ≡ clear_at f (blocks_from plan at f.blocks) (pass_at f.blocks order (k - 1))
   clear_there = te ∙ clear_is f plan at p known_p ∙ ap (clear_at f (blocks_from plan at f.blocks)) ep
 
-  start_there : start ≡ pass_start f (blocks_from plan at f.blocks) (pass_at f.blocks order (k + 1))
-  start_there = ts.is ∙ start_is f plan at q known_q ∙ ap (pass_start f (blocks_from plan at f.blocks)) eq
+  start_there : start ≡ pass_start f (blocks_from plan at f.blocks) (pass_at f.blocks order (k - 1 + 1))
+  start_there =
+      ts.is
+      ∙ start_is f plan at q known_q
+      ∙ ap (pass_start f (blocks_from plan at f.blocks)) eq
+      ∙ ap (λ n. pass_start f (blocks_from plan at f.blocks) (pass_at f.blocks order n)) (omega arith)
 
-  pub ordered_more : clear ≤ start → OrderedSoFar f order (blocks_from plan at f.blocks) (k + 1)
+  pub ordered_more : clear ≤ start → OrderedSoFar f order (blocks_from plan at f.blocks) (k + 1 - 1)
   ordered_more h =
       record {
         within = omega arith;
         so_far =
-            ap (passes_in_order f order (blocks_from plan at f.blocks)) (add-one k)
-            ∙ order_suc f order (blocks_from plan at f.blocks) k
+            ap (passes_in_order f order (blocks_from plan at f.blocks)) next
+            ∙ order_suc f order (blocks_from plan at f.blocks) (k - 1)
             ∙ rw (t.so_far, ← clear_there, ← start_there, le-leb _ _ h);
       }
+    where
+      next : k + 1 - 1 ≡ suc (k - 1)
+      next = omega arith
 
   pub ordered_wrong : start < clear → false ≡ passes_in_order f order (blocks_from plan at f.blocks) (2 * f.blocks - 1)
   ordered_wrong h =
       sym
-      (ap (passes_in_order f order (blocks_from plan at f.blocks)) all ∙ order_stays f order (blocks_from plan at f.blocks) (suc k) (2 * f.blocks - 1 - suc k) here)
+      (ap (passes_in_order f order (blocks_from plan at f.blocks)) all ∙ order_stays f order (blocks_from plan at f.blocks) (suc (k - 1)) (2 * f.blocks - 1 - suc (k - 1)) here)
     where
-      all : 2 * f.blocks - 1 ≡ suc k + (2 * f.blocks - 1 - suc k)
+      all : 2 * f.blocks - 1 ≡ suc (k - 1) + (2 * f.blocks - 1 - suc (k - 1))
       all = omega arith
 
-      here : passes_in_order f order (blocks_from plan at f.blocks) (suc k) ≡ false
-      here = order_suc f order (blocks_from plan at f.blocks) k ∙ rw (t.so_far, ← clear_there, ← start_there, lt-leb _ _ h)
+      here : passes_in_order f order (blocks_from plan at f.blocks) (suc (k - 1)) ≡ false
+      here = order_suc f order (blocks_from plan at f.blocks) (k - 1) ∙ rw (t.so_far, ← clear_there, ← start_there, lt-leb _ _ h)
 
-pub ordered_all : (f : FlightSection) (order : ℕ) (ps : List Passes) (k : ℕ) → OrderedSoFar f order ps k → 2 * f.blocks ≤ k + 1
+pub ordered_all : (f : FlightSection) (order : ℕ) (ps : List Passes) (k : ℕ) → OrderedSoFar f order ps (k - 1) → 2 * f.blocks ≤ k
     → true ≡ passes_in_order f order ps (2 * f.blocks - 1)
 ordered_all f order ps k t h = sym (ap (passes_in_order f order ps) all ∙ t.so_far)
   where
-    all : 2 * f.blocks - 1 ≡ k
+    all : 2 * f.blocks - 1 ≡ k - 1
     all = let w = t.within in omega arith
 
-module _ (f : FlightSection) (order at k p : ℕ) (a : PassesInOrderPre f order at) (less : k + 1 < 2 * f.blocks) where
-  pub this_position : k < 64
-  this_position = omega (arith, a.sound.most_blocks_holds)
-
-  pub next_position : k + 1 < 64
-  next_position = omega (arith, a.sound.most_blocks_holds)
-
-  pub next_start : p ≡ pass_at f.blocks order (k + 1) → PassStartPre at f.blocks p
-  next_start e = record { room = a.room; few = a.sound.most_blocks_holds; known = rw e (pass_known a.proper (k + 1) less) }
+module _ (f : FlightSection) (order at k p : ℕ) (a : PassesInOrderPre f order at) (less : k < 2 * f.blocks) where
+  pub this_start : p ≡ pass_at f.blocks order k → PassStartPre at f.blocks p
+  this_start e = record { room = a.room; few = a.sound.most_blocks_holds; known = rw e (pass_known a.proper k less) }
 
   pub this_end : p ≡ pass_at f.blocks order k → PassEndPre f at p
-  this_end e = record { sound = a.sound; room = a.room; known = rw e (pass_known a.proper k (omega arith)) }
+  this_end e = record { sound = a.sound; room = a.room; known = rw e (pass_known a.proper k less) }
+
+  pub end_before : p ≡ pass_at f.blocks order (k - 1) → PassEndPre f at p
+  end_before e = record { sound = a.sound; room = a.room; known = rw e (pass_known a.proper (k - 1) (omega arith)) }
 
 -- the greatest end of the first p passes
 pub record LatestSoFar (f : FlightSection) (ps : List Passes) (p value : ℕ) : Type 0 where
@@ -182,11 +184,10 @@ pub order_asked : (f : FlightSection) (order at : ℕ) (x : Bool) → x ≡ is_p
     → PassesInOrderPre f order at
 order_asked f order at x ex hx a = record { sound = a.sound; room = a.room; proper = proper_true f.blocks order (sym ex ∙ not-false x hx) }
 
-given_right : (o e : Bool) → o ≡ true → e ≡ true → (not o || e) ≡ true
-given_right o e g h = rw (g, h)
-
-none_given : (o e : Bool) → o ≡ false → (not o || e) ≡ true
-none_given o e g = rw g
+-- the order number is the one given, or none is given
+order_allowed : (f : FlightSection) (order : ℕ) → ((f.ordered ≡ true) × (order ≡ f.order)) ⊎ (f.ordered ≡ false) → (not f.ordered || eqb order f.order) ≡ true
+order_allowed f order (inl given) = rw (given.0, eq-eqb _ _ given.1)
+order_allowed f order (inr free) = rw free
 
 given_other : (o e : Bool) → o ≡ true → e ≡ false → (not o || e) ≡ false
 given_other o e g h = rw (g, h)
@@ -212,16 +213,10 @@ module _ (f : FlightSection) (members order : ℕ) (plan : List ℕ) (at : ℕ) 
       unfolding flight_head
       given_wrong g h = third_wrong _ _ _ _ (eq-eqb _ _ em) (sym ex ∙ not-false x hx) (given_other f.ordered (eqb order f.order) g (ne_eqb _ _ h))
 
-      pub head_given : (r : Bool) → f.ordered ≡ true → order ≡ f.order → r ≡ passes_in_order f order (blocks_from plan at f.blocks) (2 * f.blocks - 1)
+      pub head_right : (r : Bool) → ((f.ordered ≡ true) × (order ≡ f.order)) ⊎ (f.ordered ≡ false)
+          → r ≡ passes_in_order f order (blocks_from plan at f.blocks) (2 * f.blocks - 1)
           → r ≡ flight_head f members order (blocks_from plan at members)
       unfolding flight_head
-      head_given r g h e =
-          all_right _ _ _ _ r (eq-eqb _ _ em) (sym ex ∙ not-false x hx) (given_right f.ordered (eqb order f.order) g (eq-eqb _ _ h))
-          (e ∙ ap (λ n. passes_in_order f order (blocks_from plan at n) (2 * f.blocks - 1)) (sym em))
-
-      pub head_free : (r : Bool) → f.ordered ≡ false → r ≡ passes_in_order f order (blocks_from plan at f.blocks) (2 * f.blocks - 1)
-          → r ≡ flight_head f members order (blocks_from plan at members)
-      unfolding flight_head
-      head_free r g e =
-          all_right _ _ _ _ r (eq-eqb _ _ em) (sym ex ∙ not-false x hx) (none_given f.ordered (eqb order f.order) g)
+      head_right r allowed e =
+          all_right _ _ _ _ r (eq-eqb _ _ em) (sym ex ∙ not-false x hx) (order_allowed f order allowed)
           (e ∙ ap (λ n. passes_in_order f order (blocks_from plan at n) (2 * f.blocks - 1)) (sym em))

@@ -9,7 +9,6 @@ ghost use Rattle.judge_rules.specs.Follows.{passes_in_order, flight_head};
 ghost use Rattle.judge_flight.specs.Starts.{PassStartPre, StartTold, PassEndPre, PassesInOrderPre, FigureTold, FlightHeadPre, start_in_plan, end_in_plan};
 ghost use Rattle.judge_flight.specs.Starts.{clear_in_plan};
 
-use base::greater;
 use order::pass_at;
 use plan_format::PASSES_SIZE;
 use plan_read::passes_from;
@@ -22,11 +21,10 @@ fn pass_start(plan: &[u8], at: usize, n: usize, p: usize) -> u64
     ensures { StartTold (start_in_plan plan.now at n p) result }
 {
     if p < n {
-        let block = passes_from(plan, at + PASSES_SIZE * p);
-        return block.first;
+        passes_from(plan, at + PASSES_SIZE * p).first
+    } else {
+        passes_from(plan, at + PASSES_SIZE * (p - n)).second
     }
-    let block = passes_from(plan, at + PASSES_SIZE * (p - n));
-    block.second
 }
 
 // The end of pass p.
@@ -50,15 +48,12 @@ pub fn passes_in_order(f: FlightSection, order: u64, plan: &[u8], at: usize) -> 
     requires { PassesInOrderPre f order at }
     ensures { result ≡ passes_in_order f order (blocks_from plan.now at f.blocks) (2 * f.blocks - 1) }
 {
-    let n = f.blocks;
-    let mut k: usize = 0;
-    while k + 1 < 2 * n {
-        let p = pass_at(f.blocks, order, k);
-        let q = pass_at(f.blocks, order, k + 1);
-        if pass_start(plan, at, n, q) < clear_at(f, plan, at, p) {
+    for k in 1..2 * f.blocks {
+        let p = pass_at(f.blocks, order, k - 1);
+        let q = pass_at(f.blocks, order, k);
+        if pass_start(plan, at, f.blocks, q) < clear_at(f, plan, at, p) {
             return false;
         }
-        k += 1;
     }
     true
 }
@@ -68,12 +63,9 @@ pub fn flight_figure(f: FlightSection, plan: &[u8], at: usize) -> u64
     requires { FlightHeadPre f at }
     ensures { FigureTold (flight_figure f (blocks_from plan.now at f.blocks)) result }
 {
-    let n = f.blocks;
     let mut greatest: u64 = 0;
-    let mut p: usize = 0;
-    while p < 2 * n {
-        greatest = greater(greatest, pass_end(f, plan, at, p));
-        p += 1;
+    for p in 0..2 * f.blocks {
+        greatest = greatest.max(pass_end(f, plan, at, p));
     }
     greatest
 }
@@ -89,11 +81,8 @@ pub fn flight_head(f: FlightSection, members: usize, order: u64, plan: &[u8], at
     if !order::proper(f.blocks as u64, order) {
         return false;
     }
-    if f.ordered {
-        if order != f.order {
-            return false;
-        }
-        return passes_in_order(f, order, plan, at);
+    if f.ordered && order != f.order {
+        return false;
     }
     passes_in_order(f, order, plan, at)
 }

@@ -15,22 +15,18 @@ use sheet::desks::{desk_index, strips_of_desk};
 use sheet::limits::CEILING;
 use sheet::{FlightSection, MosaicSection, SortingSection};
 
+#[tactic(auto, unfolding(crate::specs::Follows::batch_in_run))]
 fn batch_in_run(strips: u64, before: u64, last: u64) -> bool
     ensures { result ≡ batch_in_run strips before last }
 {
     before < last && last <= strips
 }
 
+#[tactic(auto, unfolding(crate::specs::Follows::batch_in_time))]
 fn batch_in_time(before: u64, start: u64, finish: u64, due: u64) -> bool
     ensures { result ≡ batch_in_time before start finish due }
 {
-    if start < before {
-        return false;
-    }
-    if finish != due {
-        return false;
-    }
-    finish <= CEILING
+    before <= start && finish == due && finish <= CEILING
 }
 
 // Whether a batch may follow the batch before it.
@@ -45,35 +41,19 @@ pub fn batch_follows(m: MosaicSection, before: Batch, b: Batch) -> bool
     batch_in_time(before.finish, b.start, b.finish, due)
 }
 
+#[tactic(auto, unfolding(crate::specs::Follows::job_in_turn))]
 fn job_in_turn(desks: u64, strips: u64, done: u64, desk: u64, number: u64) -> bool
     requires { done ≤ most_strips_of_desk }
     ensures { result ≡ job_in_turn desks strips done desk number }
 {
-    if desk < 1 {
-        return false;
-    }
-    if desks < desk {
-        return false;
-    }
-    if number != done + 1 {
-        return false;
-    }
-    number <= strips
+    1 <= desk && desk <= desks && number == done + 1 && number <= strips
 }
 
+#[tactic(auto, unfolding(crate::specs::Follows::job_in_time))]
 fn job_in_time(scanner: u64, free: u64, scan: u64, scanned: u64, start: u64, finish: u64) -> bool
     ensures { result ≡ job_in_time scanner free scan scanned start finish }
 {
-    if scan < scanner {
-        return false;
-    }
-    if start < scanned {
-        return false;
-    }
-    if start < free {
-        return false;
-    }
-    finish <= CEILING
+    scanner <= scan && scanned <= start && free <= start && finish <= CEILING
 }
 
 // The value of a desk, which is numbered from 1.
@@ -89,42 +69,27 @@ pub fn job_follows(s: SortingSection, d: Desks, j: Job) -> bool
     requires { JobFollowsPre s d j }
     ensures { result ≡ job_follows s d j }
 {
-    let desk = j.desk;
-    let counts = s.counts;
-    let done = d.done;
-    let free = d.free;
-    let strips = strips_of_desk(counts, desk) as u64;
-    if !job_in_turn(s.desks as u64, strips, of_desk(done, desk), desk, j.number) {
+    let strips = strips_of_desk(s.counts, j.desk) as u64;
+    let done = of_desk(d.done, j.desk);
+    if !job_in_turn(s.desks as u64, strips, done, j.desk, j.number) {
         return false;
     }
+    let free = of_desk(d.free, j.desk);
     let scanned = j.scan + scan_time(s, j);
     let finish = j.start + desk_time(s, j);
-    job_in_time(
-        d.scanner,
-        of_desk(free, desk),
-        j.scan,
-        scanned,
-        j.start,
-        finish,
-    )
+    job_in_time(d.scanner, free, j.scan, scanned, j.start, finish)
 }
 
 // The desks and the scanner after one more job.
-pub fn after_job(s: SortingSection, d: Desks, j: Job) -> Desks
+pub fn after_job(s: SortingSection, mut d: Desks, j: Job) -> Desks
     requires { AfterJobPre s d j }
     ensures { result ≡ after_job s d j }
 {
     let i = desk_index(j.desk);
-    let mut done = d.done;
-    let mut free = d.free;
-    done[i] = j.number;
-    free[i] = j.start + desk_time(s, j);
-    let scanner = j.scan + scan_time(s, j);
-    Desks {
-        done,
-        free,
-        scanner,
-    }
+    d.done[i] = j.number;
+    d.free[i] = j.start + desk_time(s, j);
+    d.scanner = j.scan + scan_time(s, j);
+    d
 }
 
 // Whether each desk has had all its strips.
@@ -132,26 +97,19 @@ pub fn all_done(counts: [usize; 3], done: [u64; 3], desks: usize) -> bool
     requires { desks ≤ 3 }
     ensures { result ≡ all_done counts done desks }
 {
-    let mut d: usize = 0;
-    while d < desks {
+    for d in 0..desks {
         if done[d] != counts[d] as u64 {
             return false;
         }
-        d += 1;
     }
     true
 }
 
+#[tactic(auto, unfolding(crate::specs::Follows::block_in_time))]
 fn block_in_time(earliest: u64, latest: u64, second: u64, end: u64) -> bool
     ensures { result ≡ block_in_time earliest latest second end }
 {
-    if second < earliest {
-        return false;
-    }
-    if latest < second {
-        return false;
-    }
-    end <= CEILING
+    earliest <= second && second <= latest && end <= CEILING
 }
 
 // Whether the delay between the passes of block i lies in its window.
@@ -162,13 +120,9 @@ pub fn block_follows(f: FlightSection, i: usize, p: Passes) -> bool
     if f.blocks <= i {
         return false;
     }
-    let first = f.first;
-    let shortest = f.shortest;
-    let longest = f.longest;
-    let second = f.second;
-    let flown = p.first + first[i];
-    let earliest = flown + shortest[i];
-    let latest = flown + longest[i];
-    let end = p.second + second[i];
+    let flown = p.first + f.first[i];
+    let earliest = flown + f.shortest[i];
+    let latest = flown + f.longest[i];
+    let end = p.second + f.second[i];
     block_in_time(earliest, latest, p.second, end)
 }

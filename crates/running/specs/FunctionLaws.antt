@@ -1,10 +1,12 @@
 -- What the functions on sections require and tell, and the laws of their loops: a sum so far, the greatest value so far.
-use Rattle.std.specs.Prelude.{ℕ, suc, ◌+◌, ◌-◌, ◌*◌, ◌^◌, ◌≤◌, ◌<◌, max, ◌≡◌, refl, List, length}
+use Rattle.std.specs.Prelude.{ℕ, zero, suc, ◌+◌, ◌-◌, ◌*◌, ◌^◌, ◌≤◌, ◌<◌, max, ◌≡◌, refl, List, length, take, drop, sum}
 use Rattle.std.proofs.Common.{sym, ◌∙◌, add-one}
 use Rattle.std.proofs.Math.Path.{ap}
 use Rattle.std.proofs.Math.Decide.{dec_lt}
 use native.Mathlib.Omega.{arith}
-use Rattle.std.proofs.Math.ListN.{get_or}
+use Rattle.std.proofs.Math.ListN.{get_or, length-drop}
+use Rattle.std.proofs.lemmas.List.{get_or-drop}
+use Rattle.std.proofs.lemmas.List.Sums.{sum_by_more}
 use Rattle.order.specs.Passes.{time_of}
 use Rattle.order.specs.PassLaws.{first_time, second_time}
 use Rattle.sheet.specs.Limits.{most_time, most_weight, most_strips, most_desks, most_strips_of_desk}
@@ -13,7 +15,7 @@ use Rattle.sheet.specs.declared.MosaicSection.{MosaicSection}
 use Rattle.sheet.specs.declared.SortingSection.{SortingSection}
 use Rattle.sheet.specs.declared.FlightSection.{FlightSection}
 use Rattle.base.specs.Sums.{sum_over, sum_after, greatest_over}
-use Rattle.base.specs.SumLaws.{after_most}
+use Rattle.base.specs.SumLaws.{sum_same, after_most}
 use Rattle.rules.specs.Mosaic.{station_sum, ready, bench_sum, setup_time, bench_work_start, finish_due}
 use Rattle.rules.specs.Sorting.{slot, scan_time, desk_time, job_weight}
 use Rattle.rules.specs.Flight.{pass_time}
@@ -138,21 +140,29 @@ module _ (m : MosaicSection) (k j : ℕ) (a : StationSumPre m k j) where
       let l = a.strips in
       record { is = sum_all (λ i. get_or m.station (4 * i + k) 0) j i sum s h; fits = omega arith }
 
+-- the first n numbers of a list, added up
+sum_taken : (values : List ℕ) (n : ℕ) → n ≤ length values → sum (take n values) ≡ sum_over n (λ k. get_or values k 0)
+unfolding sum_over
+sum_taken values zero h = refl
+sum_taken values (suc n) h =
+    ap (λ k. sum (take k values)) (sym (add-one n))
+    ∙ sum_by_more (λ x. x) values n 0 (omega arith)
+    ∙ ap (λ k. k + get_or values n 0) (sum_taken values n (omega arith))
+
 module _ (values : List ℕ) (i count : ℕ) (a : SumAfterPre values i count) where
-  pub after_more : (k sum : ℕ) → Summed (λ k. get_or values (i + k) 0) most_time count k sum → k < count
-      → Summed (λ k. get_or values (i + k) 0) most_time count (k + 1) (sum + get_or values (i + k) 0)
-  after_more k sum s h = sum_more (λ k. get_or values (i + k) 0) count k sum _ s h refl (a.most (i + k))
-
-  pub after_fits : (k sum : ℕ) → Summed (λ k. get_or values (i + k) 0) most_time count k sum → k < count → sum + get_or values (i + k) 0 < 2 ^ 64
-  after_fits k sum s h = let b = s.fits in let l = a.few in omega (arith, a.most (i + k))
-
-  pub after_all : (k sum : ℕ) → Summed (λ k. get_or values (i + k) 0) most_time count k sum → count ≤ k → SumTold (sum_after values i count) sum
+  -- what the slice of `count` values after the first i adds up to
+  pub after_is : sum (take (i + count - i) (drop i values)) ≡ sum_after values i count
   unfolding sum_after
-  after_all k sum s h =
-      let b = s.fits in
-      let w = s.within in
-      let l = a.few in
-      record { is = sum_all (λ k. get_or values (i + k) 0) count k sum s h; fits = omega arith }
+  after_is =
+      ap (λ n. sum (take n (drop i values))) (omega arith)
+      ∙ sum_taken (drop i values) count (omega (arith, a.long, length-drop i values))
+      ∙ sum_same count _ _ (λ k h. get_or-drop i values k 0)
+
+  pub after_fits : sum (take (i + count - i) (drop i values)) < 2 ^ 64
+  after_fits = omega (arith, after_is, after_most values most_time a.most i count, a.few)
+
+  pub after_told : (r : ℕ) → r ≡ sum (take (i + count - i) (drop i values)) → SumTold (sum_after values i count) r
+  after_told r e = record { is = e ∙ after_is; fits = omega (arith, e, after_is, after_most values most_time a.most i count, a.few) }
 
 -- the weight of a batch of known strips
 pub record BatchWeightPre (m : MosaicSection) (before b : Batch) : Type 0 where
@@ -181,9 +191,9 @@ weight_told m before b sum a t = record {
 }
 
 pub work_start_told : (m : MosaicSection) (b : Batch) (r setup ready_at : ℕ) → BenchWorkStartPre m b → SetupTold m setup → SumTold (ready m b.last) ready_at
-    → r ≡ max (b.start + setup) ready_at → BenchWorkStartTold m b r
+    → r ≡ max ready_at (b.start + setup) → BenchWorkStartTold m b r
 unfolding bench_work_start
-work_start_told m b r setup ready_at a u t e = record { is = rw (← u.is, ← t.is) e; fits = omega (arith, a.fits, u.fits, t.fits) }
+work_start_told m b r setup ready_at a u t e = record { is = rw (← u.is, ← t.is) (omega arith); fits = omega (arith, a.fits, u.fits, t.fits) }
 
 pub finish_is : (m : MosaicSection) (before b : Batch) (begin sum : ℕ) → BenchWorkStartTold m b begin
     → SumTold (sum_after m.bench before.last (b.last - before.last)) sum → begin + sum ≡ finish_due m before b

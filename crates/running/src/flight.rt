@@ -10,7 +10,5 @@ pub fn pass_time(f: FlightSection, p: usize) -> u64
     requires { PassTimePre f p }
     ensures { TimeTold (pass_time f p) result }
 {
-    let first = f.first;
-    let second = f.second;
-    time_of(f.blocks, &first, &second, p)
+    time_of(f.blocks, &f.first, &f.second, p)
 }

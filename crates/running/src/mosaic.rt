@@ -5,7 +5,6 @@ ghost use Rattle.rules.specs.Mosaic.{station_sum, ready, finish_due};
 ghost use Rattle.running.specs.FunctionLaws.{StationSumPre, ReadyTimePre, SumAfterPre, BatchWeightPre, WeightTold, BenchWorkStartPre, BenchWorkStartTold, FinishDuePre, SetupTold, SumTold};
 ghost use Rattle.sheet.specs.Sound.{MosaicSound};
 
-use base::greater;
 use rules::Batch;
 use sheet::MosaicSection;
 
@@ -14,12 +13,9 @@ fn station_sum(m: MosaicSection, k: usize, j: usize) -> u64
     requires { StationSumPre m k j }
     ensures { SumTold (station_sum m k j) result }
 {
-    let times = m.station;
-    let mut sum: u64 = 0;
-    let mut i: usize = 0;
-    while i < j {
-        sum += times[4 * i + k];
-        i += 1;
+    let mut sum = 0;
+    for i in 0..j {
+        sum += m.station[4 * i + k];
     }
     sum
 }
@@ -29,12 +25,9 @@ pub fn ready_time(m: MosaicSection, j: usize) -> u64
     requires { ReadyTimePre m j }
     ensures { SumTold (ready m j) result }
 {
-    let stations = m.stations;
     let mut greatest: u64 = 0;
-    let mut k: usize = 0;
-    while k < stations {
-        greatest = greater(greatest, station_sum(m, k, j));
-        k += 1;
+    for k in 0..m.stations {
+        greatest = greatest.max(station_sum(m, k, j));
     }
     greatest
 }
@@ -44,13 +37,7 @@ fn sum_after(values: &[u64], i: usize, count: usize) -> u64
     requires { SumAfterPre values.now i count }
     ensures { SumTold (sum_after values.now i count) result }
 {
-    let mut sum: u64 = 0;
-    let mut k: usize = 0;
-    while k < count {
-        sum += values[i + k];
-        k += 1;
-    }
-    sum
+    values[i..i + count].iter().sum()
 }
 
 // The weight of a batch, by the batch before it.
@@ -58,10 +45,8 @@ pub fn batch_weight(m: MosaicSection, before: Batch, b: Batch) -> u64
     requires { BatchWeightPre m before b }
     ensures { WeightTold m before.last b.last result }
 {
-    let weight = m.weight;
-    let from = before.last;
-    let count = b.last - from;
-    sum_after(&weight, from as usize, count as usize)
+    let count = b.last - before.last;
+    sum_after(&m.weight, before.last as usize, count as usize)
 }
 
 // How long a mount takes.
@@ -78,7 +63,8 @@ fn bench_work_start(m: MosaicSection, b: Batch) -> u64
     ensures { BenchWorkStartTold m b result }
 {
     let mounted = b.start + setup_time(m);
-    greater(mounted, ready_time(m, b.last as usize))
+    let ready = ready_time(m, b.last as usize);
+    ready.max(mounted)
 }
 
 // When a batch is due to finish, by the batch before it.
@@ -86,9 +72,7 @@ pub fn finish_due(m: MosaicSection, before: Batch, b: Batch) -> u64
     requires { FinishDuePre m before b }
     ensures { result ≡ finish_due m before b }
 {
-    let bench = m.bench;
-    let from = before.last;
-    let count = b.last - from;
+    let count = b.last - before.last;
     let begin = bench_work_start(m, b);
-    begin + sum_after(&bench, from as usize, count as usize)
+    begin + sum_after(&m.bench, before.last as usize, count as usize)
 }

@@ -19,8 +19,7 @@ pub fn scan_time(s: SortingSection, j: Job) -> u64
     requires { SlotPre s j }
     ensures { TimeTold (scan_time s j) result }
 {
-    let times = s.scan;
-    times[slot_of(j)]
+    s.scan[slot_of(j)]
 }
 
 // The desk time of a strip.
@@ -28,8 +27,7 @@ pub fn desk_time(s: SortingSection, j: Job) -> u64
     requires { SlotPre s j }
     ensures { TimeTold (desk_time s j) result }
 {
-    let times = s.desk;
-    times[slot_of(j)]
+    s.desk[slot_of(j)]
 }
 
 // The weight of a strip.
@@ -37,6 +35,5 @@ pub fn job_weight(s: SortingSection, j: Job) -> u64
     requires { SlotPre s j }
     ensures { JobWeightTold s j result }
 {
-    let weights = s.weight;
-    weights[slot_of(j)]
+    s.weight[slot_of(j)]
 }

@@ -1,17 +1,15 @@
 -- `flight_figure` meets its contract. Invariant: `greatest` is the latest end of the passes before p.
-use mathlib.Core.Path.{refl}
-use borrow.Author.Rules.{rules}
 use Rattle.judge_flight.specs.Laws.{latest_none, latest_more, latest_asked, latest_all}
 use Rattle.judge_flight.proofs.flight_figure.Goals as goal
 
 pub loop-p-init : goal.loop-p-init
-loop-p-init c = (refl, latest_none _ _)
+loop-p-init c = latest_none _ _
 
 pub pass_end-requires : goal.pass_end-requires
 pass_end-requires c = search latest_asked
 
 pub loop-p-preserved : goal.loop-p-preserved
-loop-p-preserved c = (search rules, search latest_more)
+loop-p-preserved c = search latest_more
 
 pub returns : goal.returns
 returns c = search latest_all

@@ -1,12 +1,7 @@
 -- `flight_figure` meets its contract. Invariant: `greatest` is the latest end of the passes before p.
-use Prim.Native.Nat.{◌-◌, ◌*◌}
-use mathlib.Core.Path.{◌≡◌}
 use Rattle.plan_read.specs.PlanRead.{blocks_from}
 use Rattle.judge_flight.specs.Laws.{LatestSoFar}
 use Rattle.judge_flight.proofs.flight_figure.Given as goal
 
 abbrev pub invariant-loop-p : goal.invariant-loop-p
-invariant-loop-p l = (l.n ≡ l.f.blocks) × LatestSoFar l.f (blocks_from l.plan l.at l.f.blocks) l.p l.greatest
-
-abbrev pub decreases-loop-p : goal.decreases-loop-p
-decreases-loop-p l = 2 * l.f.blocks - l.p
+invariant-loop-p l = LatestSoFar l.f (blocks_from l.plan l.at l.f.blocks) l.p l.greatest

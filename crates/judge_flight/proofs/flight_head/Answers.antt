@@ -1,5 +1,5 @@
 -- `flight_head` meets its contract: members, order number and passes are tested in the order of the definition.
-use Rattle.judge_flight.specs.Laws.{members_wrong, proper_wrong, order_asked, given_wrong, head_given, head_free}
+use Rattle.judge_flight.specs.Laws.{members_wrong, proper_wrong, order_asked, given_wrong, head_right}
 use Rattle.judge_flight.proofs.flight_head.Goals as goal
 
 pub returns-then-members-f : goal.returns-then-members-f
@@ -14,11 +14,5 @@ returns-then-order-f c = search given_wrong
 pub passes_in_order-requires : goal.passes_in_order-requires
 passes_in_order-requires c = search order_asked
 
-pub returns-then-f : goal.returns-then-f
-returns-then-f c = search head_given
-
-pub passes_in_order-requires-2 : goal.passes_in_order-requires-2
-passes_in_order-requires-2 c = search order_asked
-
 pub returns : goal.returns
-returns c = search head_free
+returns c = search head_right

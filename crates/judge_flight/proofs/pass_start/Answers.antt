@@ -5,5 +5,5 @@ use Rattle.judge_flight.proofs.pass_start.Goals as goal
 pub returns-then-p-n : goal.returns-then-p-n
 returns-then-p-n c = search first_start
 
-pub returns : goal.returns
-returns c = search second_start
+pub returns-else-p-n : goal.returns-else-p-n
+returns-else-p-n c = search second_start

@@ -1,31 +1,22 @@
--- `passes_in_order` meets its contract. Invariant: the passes at positions up to k come one after another in the order, none before the turn after the one
+-- `passes_in_order` meets its contract. Invariant: the passes at positions below k come one after another in the order, none before the turn after the one
 -- before is over.
-use mathlib.Core.Path.{refl}
-use borrow.Author.Rules.{rules}
-use Rattle.judge_flight.specs.Laws.{ordered_none, ordered_more, ordered_wrong, ordered_all, this_position, next_position, next_start}
-use Rattle.judge_flight.specs.Laws.{this_end}
+use Rattle.judge_flight.specs.Laws.{ordered_none, ordered_more, ordered_wrong, ordered_all, this_start, end_before, this_end}
 use Rattle.judge_flight.proofs.passes_in_order.Goals as goal
 
 pub loop-k-init : goal.loop-k-init
-loop-k-init c = (refl, ordered_none _ _ _)
-
-pub pass_at-p-requires : goal.pass_at-p-requires
-pass_at-p-requires c = (search rules, search this_position)
-
-pub pass_at-q-requires : goal.pass_at-q-requires
-pass_at-q-requires c = (search rules, search next_position)
+loop-k-init c = search ordered_none
 
 pub pass_start-requires : goal.pass_start-requires
-pass_start-requires c = search next_start
+pass_start-requires c = search this_start
 
 pub clear_at-requires : goal.clear_at-requires
-clear_at-requires c = search this_end
+clear_at-requires c = search (end_before, this_end)
 
 pub returns-then-pass_start-clear_at : goal.returns-then-pass_start-clear_at
 returns-then-pass_start-clear_at c = search ordered_wrong
 
 pub loop-k-preserved : goal.loop-k-preserved
-loop-k-preserved c = (search rules, search ordered_more)
+loop-k-preserved c = search ordered_more
 
 pub returns : goal.returns
 returns c = search ordered_all

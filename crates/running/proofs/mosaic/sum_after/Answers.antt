@@ -1,15 +1,15 @@
--- `sum_after` meets its contract. Invariant: `sum` is the sum of the first k values, each at most the greatest time.
-use Rattle.running.specs.FunctionLaws.{sum_none, after_more, after_fits, after_all}
+-- `sum_after` meets its contract: the slice of those values adds up to it, and none is above the greatest time.
+use Prim.Native.Nat.{◌+◌, ◌-◌, ◌^◌, ◌<◌}
+use lib.ListN.{take, drop}
+use Rattle.std.specs.List.{sum}
+use borrow.Author.Rules.{rules}
+use Rattle.running.specs.FunctionLaws.{after_fits, after_told}
 use Rattle.running.proofs.mosaic.sum_after.Goals as goal
 
-pub loop-k-init : goal.loop-k-init
-loop-k-init c = search sum_none
-
-pub overflow_add-sum-in-loop-k : goal.overflow_add-sum-in-loop-k
-overflow_add-sum-in-loop-k c = search after_fits
-
-pub loop-k-preserved : goal.loop-k-preserved
-loop-k-preserved c = search after_more
+pub sum-requires-clause-fits : goal.sum-requires-clause-fits
+sum-requires-clause-fits c =
+    let fits : sum (take (c.args.i + c.args.count - c.args.i) (drop c.args.i c.args.values.now)) < 2 ^ 64 = after_fits _ _ _ c.requires in
+    search rules
 
 pub returns : goal.returns
-returns c = search after_all
+returns c = after_told _ _ _ c.requires _ (search rules)
