@@ -3,7 +3,7 @@ use Rattle.std.specs.Prelude.{ℕ, suc, ◌+◌, ◌-◌, ◌*◌, ◌^◌, ◌�
 use Rattle.std.proofs.Math.Path.{sym, ap}
 use Rattle.std.proofs.Common.{ap₂, ◌∙◌, mul_comm, mul-le-mul_left}
 use native.Mathlib.Omega.{arith}
-use borrow.Author.Tests.{ne_eqb, not-true, not-false}
+use borrow.Author.Tests.{eq-eqb, ne_eqb, not-true, not-false}
 use Rattle.sheet.specs.Given.{number_of}
 use Rattle.sheet.specs.Refusals.{rule_broken}
 use Rattle.sheet.specs.Read.{read_sheet}
@@ -14,14 +14,15 @@ use Rattle.sheet.specs.declared.refusals.Refusal.{Refusal}
 use Rattle.sheet.specs.declared.refusals.Refusal.TheVariants.{TableTooSmall, BufferTooSmall, FieldCut, TagNotPermitted, LengthWrong, OutOfRange, TooMany, NoMembers, OrderNotProper}
 use Rattle.sheet.specs.declared.refusals.Refusal.TheVariants.{OrderMissing, OrderImpossible, LayoutWrong, RuleBroken, FigureUntrue, TimeTooLarge, TimeOfZero, LongestBelowShortest}
 use Rattle.plan_format.specs.Format.{size_of, mosaic_head_form, batch_form, sorting_head_form, job_form, flight_head_form, passes_form}
-use Rattle.judge_layout.specs.Layout.{mosaic_part, sorting_part, flight_part, Verdict, verdict, verdict_of}
+use Rattle.judge_layout.specs.Layout.{mosaic_part, sorting_part, flight_part, Verdict, verdict, verdict_of, layout_verdict}
 use Rattle.judge_layout.specs.Laws.{LayoutVerdictPre, PartFits, parts_fit}
 use Rattle.judge_layout.specs.declared.Part.{Part}
 use Rattle.judge_members.specs.Members.{present, head_form, member_form, member_place, begun, member_follows, after_member, head_number}
 use Rattle.judge_members.specs.Laws.{Kept, MemberPlacePre, MemberFollowsPre, AfterMemberPre, HeadNumberPre}
 use Rattle.judge_members.proofs.Laws.{begun_kept, member_kept}
 use Rattle.judge_members.specs.declared.Progress.{Progress}
-use Rattle.judge.specs.Judged.{pick_part, part_at, section_from, section_verdict, sections_from}
+use Rattle.judge.specs.Judged.{pick_part, part_at, section_from, section_verdict, sections_from, stated_figure, turned_back, found, concluded, judged_plan, judged}
+use Rattle.judge.specs.declared.Judged.{Judged}
 
 -- a section of the plan of a sound sheet, and where it stands
 pub record SectionPre (s : Sheet) (plan : List ℕ) (section : ℕ) (part : Part) : Type 0 where
@@ -89,10 +90,28 @@ refused_number TimeTooLarge e = omega arith
 refused_number TimeOfZero e = omega arith
 refused_number LongestBelowShortest e = omega arith
 
--- a section that has a fault
-section_wrong : (s : Sheet) (plan : List ℕ) (section : ℕ) (v : Verdict) → v ≡ section_verdict s plan section → (v.number ≡ 0 → ⊥) → v ≡ sections_from 1 s plan section
+-- the sections from one on
+
+pub section_absent : (s : Sheet) (plan : List ℕ) (section : ℕ) → present s section ≡ false → section_verdict s plan section ≡ verdict 0 0
+unfolding section_verdict
+section_absent s plan section e = rw e
+
+pub zero_number : (place : ℕ) → (verdict 0 place).number ≡ 0
+unfolding verdict
+zero_number place = refl
+
+pub sections_next : (left : ℕ) (s : Sheet) (plan : List ℕ) (section : ℕ) → (section_verdict s plan section).number ≡ 0
+    → sections_from (suc left) s plan section ≡ sections_from left s plan (section + 1)
 unfolding sections_from
-section_wrong s plan section v h n = h ∙ rw (ne_eqb _ _ (λ z. n (ap (λ w. w.number) h ∙ z)), sections_from)
+sections_next left s plan section e = rw (eq-eqb _ _ e, sections_from)
+
+pub sections_stop : (left : ℕ) (s : Sheet) (plan : List ℕ) (section : ℕ) → ((section_verdict s plan section).number ≡ 0 → ⊥)
+    → sections_from (suc left) s plan section ≡ section_verdict s plan section
+unfolding sections_from
+sections_stop left s plan section e = rw (ne_eqb _ _ e, sections_from)
+
+fault_alone : (s : Sheet) (plan : List ℕ) (section : ℕ) (v : Verdict) → v ≡ section_verdict s plan section → (v.number ≡ 0 → ⊥) → v ≡ sections_from 1 s plan section
+fault_alone s plan section v h n = h ∙ sym (sections_stop 0 s plan section (λ z. n (ap (λ w. w.number) h ∙ z)))
 
 -- the members of a section from one on
 
@@ -169,7 +188,7 @@ module _ (s : Sheet) (plan : List ℕ) (section : ℕ) (part : Part) (k : ℕ) (
       pub inner_wrong : not x ≡ true → verdict_of (Err (record { refusal = RuleBroken; place = place })) ≡ sections_from 1 s plan section
       unfolding verdict
       inner_wrong h =
-          section_wrong s plan section (verdict rule_broken place)
+          fault_alone s plan section (verdict rule_broken place)
           (ap (λ n. verdict rule_broken n) ep
           ∙ sym (member_wrong (part.members - (k + 1)) s plan section part k p (here false (not-true x h)))
           ∙ opened_member)
@@ -199,8 +218,33 @@ module _ (s : Sheet) (plan : List ℕ) (section : ℕ) (part : Part) (k : ℕ) (
 
 -- the answer
 
-pub sheet_sound : (sheet : List ℕ) (s : Sheet) → s ≡ read_sheet sheet → s.number ≡ 0 → SheetSound s
-sheet_sound sheet s es h = rw es (read_sound sheet (sym (ap (λ x. x.number) es) ∙ h))
+module _ (s : Sheet) (plan : List ℕ) (layout : Verdict) (el : layout ≡ layout_verdict s plan) where
+  pub layout_wrong_lem : (r : Judged) → (layout.number ≡ 0 → ⊥) → r ≡ turned_back layout.number layout.place → r ≡ judged_plan s plan
+  unfolding judged_plan
+  layout_wrong_lem r h e = e ∙ rw (← el, ne_eqb _ _ h)
+
+  module _ (hl : layout.number ≡ 0) (v : Verdict) (ev : v ≡ sections_from 3 s plan 1) where
+    pub section_wrong : (r : Judged) → (v.number ≡ 0 → ⊥) → r ≡ turned_back v.number v.place → r ≡ judged_plan s plan
+    unfolding judged_plan concluded
+    section_wrong r h e = e ∙ rw (← el, eq-eqb _ _ hl, ← ev, ne_eqb _ _ h)
+
+    pub all_right : (mosaic sorting flight : ℕ) → v.number ≡ 0 → mosaic ≡ stated_figure s plan 1 → sorting ≡ stated_figure s plan 2
+        → flight ≡ stated_figure s plan 3
+        → ◌≡◌ {A = Judged} (record { number = 0; place = 0; mosaic = mosaic; sorting = sorting; flight = flight }) (judged_plan s plan)
+    unfolding judged_plan concluded found
+    all_right mosaic sorting flight h e₁ e₂ e₃ = rw (← el, eq-eqb _ _ hl, ← ev, eq-eqb _ _ h, e₁, e₂, e₃)
+
+module _ (sheet plan : List ℕ) (s : Sheet) (es : s ≡ read_sheet sheet) where
+  pub sheet_wrong : (r : Judged) → (s.number ≡ 0 → ⊥) → r ≡ turned_back s.number s.place → r ≡ judged sheet plan
+  unfolding judged
+  sheet_wrong r h e = e ∙ rw (← es, ne_eqb _ _ h)
+
+  pub sheet_right : (r : Judged) → s.number ≡ 0 → r ≡ judged_plan s plan → r ≡ judged sheet plan
+  unfolding judged
+  sheet_right r h e = e ∙ rw (← es, eq-eqb _ _ h)
+
+  pub sheet_sound : s.number ≡ 0 → SheetSound s
+  sheet_sound h = rw es (read_sound sheet (sym (ap (λ x. x.number) es) ∙ h))
 
 pub sorting_at_lem : (s : Sheet) (plan : List ℕ) (mosaic : Part) → SheetSound s → mosaic ≡ mosaic_part s plan
     → (SortingSound s.sorting) × (mosaic.end ≡ (mosaic_part s plan).end)
