@@ -3,13 +3,11 @@ use Rattle.std.specs.Prelude.{ℕ, ◌≡◌, Bool, List, eqb}
 use Rattle.std.proofs.Math.Path.{refl}
 use Rattle.std.proofs.Common.{ap, ◌∙◌}
 use Rattle.std.proofs.Math.Bool.{true, false, cond}
-use borrow.Author.Tests.{eq-eqb, ne_eqb}
 use Rattle.sheet.specs.Read.{read_sheet}
 use Rattle.sheet.specs.declared.Sheet.{Sheet}
 use Rattle.judge_layout.specs.Layout.{mosaic_part, sorting_part, flight_part}
 use Rattle.judge_layout.specs.declared.Part.{Part}
 use Rattle.judge.specs.Judged.{turned_back, judged_plan, judged}
-use Rattle.judge.specs.declared.Judged.{Judged}
 use Rattle.judge.specs.declared.Examined.{Examined}
 
 unfoldable pub no_part : Part
@@ -25,25 +23,6 @@ examined sheet plan =
     cond (eqb (read_sheet sheet).number 0)
     (examined_plan (read_sheet sheet) plan)
     (record { judged = turned_back (read_sheet sheet).number (read_sheet sheet).place; mosaic = no_part; sorting = no_part; flight = no_part })
-
--- the parts that a plan for a sound sheet is judged by are handed out
-module _ (s : Sheet) (plan : List ℕ) (mosaic sorting flight : Part) (em : mosaic ≡ mosaic_part s plan) (es : sorting ≡ sorting_part s plan)
-    (ef : flight ≡ flight_part s plan) where
-  pub plan_examined : (j : Judged) → j ≡ judged_plan s plan
-      → ◌≡◌ {A = Examined} (record { judged = j; mosaic = mosaic; sorting = sorting; flight = flight }) (examined_plan s plan)
-  unfolding examined_plan
-  plan_examined j e = rw (e, em, es, ef)
-
--- the sheet is turned back, or the plan is examined
-module _ (sheet plan : List ℕ) (s : Sheet) (es : s ≡ read_sheet sheet) where
-  pub sheet_refused : (j : Judged) (p q r : Part) → (s.number ≡ 0 → ⊥) → j ≡ turned_back s.number s.place → p ≡ no_part → q ≡ no_part → r ≡ no_part
-      → ◌≡◌ {A = Examined} (record { judged = j; mosaic = p; sorting = q; flight = r }) (examined sheet plan)
-  unfolding examined
-  sheet_refused j p q r h e ep eq er = rw (e, ep, eq, er, ← es, ne_eqb s.number 0 h)
-
-  pub sheet_examined : (r : Examined) → s.number ≡ 0 → r ≡ examined_plan s plan → r ≡ examined sheet plan
-  unfolding examined
-  sheet_examined r h e = e ∙ rw (← es, eq-eqb s.number 0 h)
 
 -- what is judged is what the judge answers
 module _ (sheet plan : List ℕ) where

@@ -1,13 +1,14 @@
 -- What the judge answers. "The judge .. checks the sheet (3 to 10), then all of 12, then section by section 13 on its members in order, 13 at its
 -- head, then 14. The first field that breaks a rule ends the judging." 15 and 16 of 02 (Req 04) and 17 (Req 07) are numbers of the sheet, too.
-use Rattle.std.specs.Prelude.{ℕ, zero, suc, ◌+◌, true, false, cond, List, eqb}
+use Rattle.std.specs.Prelude.{ℕ, zero, suc, ◌+◌, true, false, cond, List, eqb, Result, Ok, Err}
+use Rattle.sheet.specs.Given.{number_of}
 use Rattle.sheet.specs.Refusals.{rule_broken}
 use Rattle.sheet.specs.Read.{read_sheet}
 use Rattle.sheet.specs.declared.Sheet.{Sheet}
+use Rattle.sheet.specs.declared.refusals.Refused.{Refused}
 use Rattle.plan_read.specs.PlanRead.{figure_from}
-use Rattle.judge_layout.specs.Layout.{mosaic_part, sorting_part, flight_part, verdict, layout_verdict}
+use Rattle.judge_layout.specs.Layout.{mosaic_part, sorting_part, flight_part, verdict, layout_verdict, Verdict}
 use Rattle.judge_layout.specs.declared.Part.{Part}
-use Rattle.judge_layout.specs.declared.Verdict.{Verdict}
 use Rattle.judge_members.specs.Members.{present, head_form, member_place, begun, member_follows, after_member, head_number}
 use Rattle.judge_members.specs.declared.Progress.{Progress}
 use Rattle.judge.specs.declared.Judged.{Judged}
@@ -48,6 +49,11 @@ stated_figure s plan section = cond (present s section) (figure_from (head_form 
 -- "a refused one has .. figures 0"
 unfoldable pub turned_back : ℕ → ℕ → Judged
 turned_back number place = record { number = number; place = place; mosaic = 0; sorting = 0; flight = 0 }
+
+-- the answer that a judging comes to
+abbrev pub answer_of : Result Judged Refused → Judged
+answer_of (Ok answer) = answer
+answer_of (Err refused) = turned_back (number_of refused.refusal) refused.place
 
 unfoldable pub found : Sheet → List ℕ → Judged
 found s plan = record { number = 0; place = 0; mosaic = stated_figure s plan 1; sorting = stated_figure s plan 2; flight = stated_figure s plan 3 }

@@ -1,41 +1,50 @@
--- The judge's two loops: over the sections, and over the members of one. Wherever they stand, what is left to judge gives the answer.
-use Rattle.std.specs.Prelude.{ℕ, suc, ◌+◌, ◌-◌, ◌*◌, ◌^◌, ◌≤◌, ◌<◌, ◌≡◌, refl, Bool, true, false, cond, not, List, length, eqb}
+-- The judge's loop over the members of a section: wherever it stands, what is left to judge gives the section's verdict.
+use Rattle.std.specs.Prelude.{ℕ, suc, ◌+◌, ◌-◌, ◌*◌, ◌^◌, ◌≤◌, ◌<◌, ◌≡◌, refl, Bool, true, false, cond, not, List, length, eqb, Err}
 use Rattle.std.proofs.Math.Path.{sym, ap}
 use Rattle.std.proofs.Common.{ap₂, ◌∙◌, mul_comm, mul-le-mul_left}
 use native.Mathlib.Omega.{arith}
 use borrow.Author.Tests.{eq-eqb, ne_eqb, not-true, not-false}
+use Rattle.sheet.specs.Given.{number_of}
 use Rattle.sheet.specs.Refusals.{rule_broken}
 use Rattle.sheet.specs.Read.{read_sheet}
 use Rattle.sheet.specs.Sound.{SheetSound, SortingSound}
 use Rattle.sheet.proofs.Theorems.{read_sound}
 use Rattle.sheet.specs.declared.Sheet.{Sheet}
+use Rattle.sheet.specs.declared.refusals.Refusal.{Refusal}
+use Rattle.sheet.specs.declared.refusals.Refusal.TheVariants.{TableTooSmall, BufferTooSmall, FieldCut, TagNotPermitted, LengthWrong, OutOfRange, TooMany, NoMembers, OrderNotProper}
+use Rattle.sheet.specs.declared.refusals.Refusal.TheVariants.{OrderMissing, OrderImpossible, LayoutWrong, RuleBroken, FigureUntrue, TimeTooLarge, TimeOfZero, LongestBelowShortest}
 use Rattle.plan_format.specs.Format.{size_of, mosaic_head_form, batch_form, sorting_head_form, job_form, flight_head_form, passes_form}
-use Rattle.plan_read.specs.PlanRead.{figure_from}
-use Rattle.judge_layout.specs.Layout.{mosaic_part, sorting_part, flight_part, verdict, layout_verdict}
+use Rattle.judge_layout.specs.Layout.{mosaic_part, sorting_part, flight_part, Verdict, verdict, verdict_of, layout_verdict}
 use Rattle.judge_layout.specs.Laws.{LayoutVerdictPre, PartFits, parts_fit}
 use Rattle.judge_layout.specs.declared.Part.{Part}
-use Rattle.judge_layout.specs.declared.Verdict.{Verdict}
 use Rattle.judge_members.specs.Members.{present, head_form, member_form, member_place, begun, member_follows, after_member, head_number}
 use Rattle.judge_members.specs.Laws.{Kept, MemberPlacePre, MemberFollowsPre, AfterMemberPre, HeadNumberPre}
 use Rattle.judge_members.proofs.Laws.{begun_kept, member_kept}
 use Rattle.judge_members.specs.declared.Progress.{Progress}
-use Rattle.judge.specs.Judged.{pick_part, part_at, section_from, section_verdict, sections_from, stated_figure, turned_back, found, concluded, judged_plan}
-use Rattle.judge.specs.Judged.{judged}
+use Rattle.judge.specs.Judged.{pick_part, part_at, section_from, section_verdict, sections_from, stated_figure, turned_back, found, concluded, judged_plan, judged}
 use Rattle.judge.specs.declared.Judged.{Judged}
 
-pub record JudgeSectionsPre (s : Sheet) (plan : List ℕ) (mosaic sorting flight : Part) : Type 0 where
+-- a section of the plan of a sound sheet, and where it stands
+pub record SectionPre (s : Sheet) (plan : List ℕ) (section : ℕ) (part : Part) : Type 0 where
+  pub sound : SheetSound s
+  pub here : part ≡ part_at s plan section
+
+pub record SectionsPre (s : Sheet) (plan : List ℕ) (mosaic sorting flight : Part) : Type 0 where
   pub sound : SheetSound s
   pub parts : LayoutVerdictPre s plan mosaic sorting flight
 
-pub record StatedFigurePre (s : Sheet) (plan : List ℕ) (section head : ℕ) : Type 0 where
-  pub sound : SheetSound s
-  pub here : head ≡ (part_at s plan section).head
+module _ (s : Sheet) (plan : List ℕ) (mosaic sorting flight : Part) (a : SectionsPre s plan mosaic sorting flight) where
+  pub mosaic_asked : SectionPre s plan 1 mosaic
+  unfolding part_at pick_part
+  mosaic_asked = record { sound = a.sound; here = a.parts.mosaic_is }
 
--- the part that is picked is the plan's
-pub picked : (s : Sheet) (plan : List ℕ) (section : ℕ) (mosaic sorting flight part : Part) → LayoutVerdictPre s plan mosaic sorting flight
-    → part ≡ pick_part section mosaic sorting flight → part ≡ part_at s plan section
-unfolding part_at
-picked s plan section mosaic sorting flight part a e = e ∙ rw (a.mosaic_is, a.sorting_is, a.flight_is)
+  pub sorting_asked : SectionPre s plan 2 sorting
+  unfolding part_at pick_part
+  sorting_asked = record { sound = a.sound; here = a.parts.sorting_is }
+
+  pub flight_asked : SectionPre s plan 3 flight
+  unfolding part_at pick_part
+  flight_asked = record { sound = a.sound; here = a.parts.flight_is }
 
 part_fits : (s : Sheet) (plan : List ℕ) (section : ℕ) → PartFits plan (size_of (member_form section)) (part_at s plan section)
 unfolding part_at pick_part member_form
@@ -61,6 +70,26 @@ place_small : (section head k : ℕ) → head + size_of (member_form section) * 
 unfolding member_place
 place_small section head k h = omega (arith, head_small section, mul_comm (size_of (member_form section)) k)
 
+-- a refusal has a number
+pub refused_number : (r : Refusal) → number_of r ≡ 0 → ⊥
+refused_number TableTooSmall e = omega arith
+refused_number BufferTooSmall e = omega arith
+refused_number FieldCut e = omega arith
+refused_number TagNotPermitted e = omega arith
+refused_number LengthWrong e = omega arith
+refused_number OutOfRange e = omega arith
+refused_number TooMany e = omega arith
+refused_number NoMembers e = omega arith
+refused_number OrderNotProper e = omega arith
+refused_number OrderMissing e = omega arith
+refused_number OrderImpossible e = omega arith
+refused_number LayoutWrong e = omega arith
+refused_number RuleBroken e = omega arith
+refused_number FigureUntrue e = omega arith
+refused_number TimeTooLarge e = omega arith
+refused_number TimeOfZero e = omega arith
+refused_number LongestBelowShortest e = omega arith
+
 -- the sections from one on
 
 pub section_absent : (s : Sheet) (plan : List ℕ) (section : ℕ) → present s section ≡ false → section_verdict s plan section ≡ verdict 0 0
@@ -70,14 +99,6 @@ section_absent s plan section e = rw e
 pub zero_number : (place : ℕ) → (verdict 0 place).number ≡ 0
 unfolding verdict
 zero_number place = refl
-
-pub record Outer (s : Sheet) (plan : List ℕ) (section : ℕ) : Type 0 where
-  pub low : 1 ≤ section
-  pub high : section ≤ 4
-  pub same : sections_from (4 - section) s plan section ≡ sections_from 3 s plan 1
-
-pub outer_start : (s : Sheet) (plan : List ℕ) → Outer s plan 1
-outer_start s plan = record { low = omega arith; high = omega arith; same = refl }
 
 pub sections_next : (left : ℕ) (s : Sheet) (plan : List ℕ) (section : ℕ) → (section_verdict s plan section).number ≡ 0
     → sections_from (suc left) s plan section ≡ sections_from left s plan (section + 1)
@@ -89,52 +110,14 @@ pub sections_stop : (left : ℕ) (s : Sheet) (plan : List ℕ) (section : ℕ) �
 unfolding sections_from
 sections_stop left s plan section e = rw (ne_eqb _ _ e, sections_from)
 
-module _ (s : Sheet) (plan : List ℕ) (section : ℕ) (o : Outer s plan section) where
-  pub outer_end : 3 < section → ◌≡◌ {A = Verdict} (record { number = 0; place = 0 }) (sections_from 3 s plan 1)
-  unfolding sections_from verdict
-  outer_end h = ap (λ n. sections_from n s plan section) none ∙ o.same
-    where
-      none : 0 ≡ 4 - section
-      none = omega arith
-
-  module _ (h : section ≤ 3) where
-    left : 4 - section ≡ suc (3 - section)
-    left = omega arith
-
-    opened : sections_from (suc (3 - section)) s plan section ≡ sections_from 3 s plan 1
-    opened = ap (λ n. sections_from n s plan section) (sym left) ∙ o.same
-
-    outer_next : (section_verdict s plan section).number ≡ 0 → Outer s plan (section + 1)
-    outer_next e =
-        let l = o.low in
-        record {
-          low = omega arith;
-          high = omega arith;
-          same = ap (λ n. sections_from n s plan (section + 1)) fewer ∙ sym
-              (sections_next (3 - section) s plan section e) ∙ opened;
-        }
-      where
-        fewer : 4 - (section + 1) ≡ 3 - section
-        fewer = omega arith
-
-    outer_wrong : ((section_verdict s plan section).number ≡ 0 → ⊥) → section_verdict s plan section ≡ sections_from 3 s plan 1
-    outer_wrong e = sym (sections_stop (3 - section) s plan section e) ∙ opened
-
-    pub outer_absent : (x : Bool) → x ≡ present s section → not x ≡ true → Outer s plan (section + 1)
-    outer_absent x ex e = outer_next (ap (λ v. v.number) absent ∙ zero_number 0)
-      where
-        absent : section_verdict s plan section ≡ verdict 0 0
-        absent = section_absent s plan section (sym ex ∙ not-true x e)
+fault_alone : (s : Sheet) (plan : List ℕ) (section : ℕ) (v : Verdict) → v ≡ section_verdict s plan section → (v.number ≡ 0 → ⊥) → v ≡ sections_from 1 s plan section
+fault_alone s plan section v h n = h ∙ sym (sections_stop 0 s plan section (λ z. n (ap (λ w. w.number) h ∙ z)))
 
 -- the members of a section from one on
 
 pub record Inner (s : Sheet) (plan : List ℕ) (section : ℕ) (part : Part) (k : ℕ) (p : Progress) : Type 0 where
-  pub sound : SheetSound s
+  pub asked : SectionPre s plan section part
   pub small : length plan * 1 < 2 ^ 63
-  pub outer : Outer s plan section
-  pub below : section ≤ 3
-  pub here : part ≡ part_at s plan section
-  pub within : k ≤ part.members
   pub kept : Kept p
   pub same : section_from (part.members - k) s plan section part k p ≡ section_verdict s plan section
 
@@ -161,21 +144,14 @@ pub members_judged : (s : Sheet) (plan : List ℕ) (section : ℕ) (part : Part)
 unfolding section_from
 members_judged s plan section part k p = refl
 
-pub inner_start : (s : Sheet) (plan : List ℕ) (section : ℕ) (part mosaic sorting flight : Part) (p : Progress) (x : Bool) → Outer s plan section → section ≤ 3
-    → x ≡ present s section → not x ≡ false → JudgeSectionsPre s plan mosaic sorting flight → length plan * 1 < 2 ^ 63
-    → part ≡ pick_part section mosaic sorting flight
-    → p ≡ begun → Inner s plan section part 0 p
-inner_start s plan section part mosaic sorting flight p x o h ex hx a small ep eb =
-    let e = picked s plan section mosaic sorting flight part a.parts ep in
+pub inner_start : (s : Sheet) (plan : List ℕ) (section : ℕ) (part : Part) (p : Progress) (x : Bool) → x ≡ present s section → not x ≡ false
+    → SectionPre s plan section part → length plan * 1 < 2 ^ 63 → p ≡ begun → Inner s plan section part 0 p
+inner_start s plan section part p x ex hx a small eb =
     record {
-      sound = a.sound;
+      asked = a;
       small = small;
-      outer = o;
-      below = h;
-      here = e;
-      within = omega arith;
       kept = rw eb begun_kept;
-      same = ap₂ (λ n q. section_from n s plan section part 0 q) all eb ∙ section_here s plan section part e (sym ex ∙ not-false x hx);
+      same = ap₂ (λ n q. section_from n s plan section part 0 q) all eb ∙ section_here s plan section part a.here (sym ex ∙ not-false x hx);
     }
   where
     all : part.members - 0 ≡ part.members
@@ -183,7 +159,10 @@ inner_start s plan section part mosaic sorting flight p x o h ex hx a small ep e
 
 module _ (s : Sheet) (plan : List ℕ) (section : ℕ) (part : Part) (k : ℕ) (p : Progress) (i : Inner s plan section part k p) where
   fits : PartFits plan (size_of (member_form section)) part
-  fits = rw i.here (part_fits s plan section)
+  fits = rw i.asked.here (part_fits s plan section)
+
+  pub member_asked : MemberFollowsPre s p
+  member_asked = record { sound = i.asked.sound; kept = i.kept }
 
   module _ (less : k < part.members) where
     left_over : part.members - k ≡ suc (part.members - (k + 1))
@@ -199,97 +178,45 @@ module _ (s : Sheet) (plan : List ℕ) (section : ℕ) (part : Part) (k : ℕ) (
     pub place_asked : MemberPlacePre section part.head k
     place_asked = record { room = place_small section part.head k before_end }
 
-    pub index_fits : k + 1 < 2 ^ 64
-    index_fits =
-        let l : 1 ≤ size_of (member_form section) = omega arith in
-        omega (arith, before_end, mul-le-mul_left k l, mul_comm (size_of (member_form section)) k)
+    module _ (place : ℕ) (ep : place ≡ member_place section part.head k) (x : Bool) (ex : x ≡ member_follows s plan section k place p) where
+      here : (b : Bool) → x ≡ b → member_follows s plan section k (member_place section part.head k) p ≡ b
+      here b h = ap (λ n. member_follows s plan section k n p) (sym ep) ∙ sym ex ∙ h
 
-    module _ (place : ℕ) (ep : place ≡ member_place section part.head k) where
-      pub member_asked : MemberFollowsPre s p
-      member_asked = record { sound = i.sound; kept = i.kept }
+      pub after_asked : not x ≡ false → AfterMemberPre s plan section place p
+      after_asked h = record { asked = member_asked; index = k; follows = sym ex ∙ not-false x h }
 
-      module _ (x : Bool) (ex : x ≡ member_follows s plan section k place p) where
-        followed : not x ≡ false → member_follows s plan section k (member_place section part.head k) p ≡ true
-        followed h = ap (λ n. member_follows s plan section k n p) (sym ep) ∙ sym ex ∙ not-false x h
+      pub inner_wrong : not x ≡ true → verdict_of (Err (record { refusal = RuleBroken; place = place })) ≡ sections_from 1 s plan section
+      unfolding verdict
+      inner_wrong h =
+          fault_alone s plan section (verdict rule_broken place)
+          (ap (λ n. verdict rule_broken n) ep
+          ∙ sym (member_wrong (part.members - (k + 1)) s plan section part k p (here false (not-true x h)))
+          ∙ opened_member)
+          (λ z. omega arith)
 
-        pub after_asked : not x ≡ false → AfterMemberPre s plan section place p
-        after_asked h = record { asked = member_asked; index = k; follows = sym ex ∙ not-false x h }
-
-        pub inner_wrong : not x ≡ true → ◌≡◌ {A = Verdict} (record { number = rule_broken; place = place }) (sections_from 3 s plan 1)
-        unfolding verdict
-        inner_wrong h =
-            ap (λ n. verdict rule_broken n) ep ∙ sym fault ∙ outer_wrong s plan section i.outer i.below (λ z. broken (sym (ap (λ v. v.number) fault) ∙ z))
-          where
-            fault : section_verdict s plan section ≡ verdict rule_broken (member_place section part.head k)
-            fault =
-                sym opened_member
-                ∙ member_wrong (part.members - (k + 1)) s plan section part k p (ap (λ n. member_follows s plan section k n p) (sym ep) ∙ sym ex ∙ not-true x h)
-
-            broken : ◌≡◌ {A = ℕ} rule_broken 0 → ⊥
-            broken z = omega arith
-
-        pub inner_more : (next : Progress) → not x ≡ false → next ≡ after_member s plan section place p → Inner s plan section part (k + 1) next
-        inner_more next h en =
-            record {
-              sound = i.sound;
-              small = i.small;
-              outer = i.outer;
-              below = i.below;
-              here = i.here;
-              within = omega arith;
-              kept = rw en (member_kept s plan section k place p i.sound i.kept (sym ex ∙ not-false x h));
-              same =
-                  ap (λ q. section_from (part.members - (k + 1)) s plan section part (k + 1) q) (en ∙ ap (λ n. after_member s plan section n p) ep)
-                  ∙ sym (member_next (part.members - (k + 1)) s plan section part k p (followed h))
-                  ∙ opened_member;
-            }
+      pub inner_more : (next : Progress) → not x ≡ false → next ≡ after_member s plan section place p → Inner s plan section part (k + 1) next
+      inner_more next h en =
+          record {
+            asked = i.asked;
+            small = i.small;
+            kept = rw en (member_kept s plan section k place p i.asked.sound i.kept (sym ex ∙ not-false x h));
+            same =
+                ap (λ q. section_from (part.members - (k + 1)) s plan section part (k + 1) q) (en ∙ ap (λ n. after_member s plan section n p) ep)
+                ∙ sym (member_next (part.members - (k + 1)) s plan section part k p (here true (not-false x h)))
+                ∙ opened_member;
+          }
 
   pub head_asked : HeadNumberPre s part
-  head_asked = record { sound = i.sound; room = omega (arith, i.small, fits.within, fits.members) }
+  head_asked = record { sound = i.asked.sound; room = omega (arith, i.small, fits.within, fits.members) }
 
-  module _ (all : part.members ≤ k) (number : ℕ) (en : number ≡ head_number s plan section part p) where
-    judged_head : section_verdict s plan section ≡ verdict number part.head
-    judged_head =
-        sym i.same
-        ∙ ap (λ n. section_from n s plan section part k p) none
-        ∙ members_judged s plan section part k p
-        ∙ ap (λ n. verdict n part.head) (sym en)
+  module _ (all : part.members ≤ k) where
+    pub judged_head : verdict (head_number s plan section part p) part.head ≡ section_verdict s plan section
+    judged_head = sym (members_judged s plan section part k p) ∙ ap (λ n. section_from n s plan section part k p) none ∙ i.same
       where
-        none : part.members - k ≡ 0
+        none : 0 ≡ part.members - k
         none = omega arith
 
-    pub head_wrong : (number ≡ 0 → ⊥) → ◌≡◌ {A = Verdict} (record { number = number; place = part.head }) (sections_from 3 s plan 1)
-    unfolding verdict
-    head_wrong h = sym judged_head ∙ outer_wrong s plan section i.outer i.below (λ z. h (sym (ap (λ v. v.number) judged_head) ∙ z))
-
-    pub inner_next : number ≡ 0 → Outer s plan (section + 1)
-    unfolding verdict
-    inner_next h = outer_next s plan section i.outer i.below (ap (λ v. v.number) judged_head ∙ h)
-
 -- the answer
-
-module _ (s : Sheet) (plan : List ℕ) (section head : ℕ) (a : StatedFigurePre s plan section head) (x : Bool) (ex : x ≡ present s section) where
-  pub stated_none : not x ≡ true → 0 ≡ stated_figure s plan section
-  unfolding stated_figure
-  stated_none h = rw (← ex, not-true x h)
-
-  pub stated_here : (figure : ℕ) → not x ≡ false → figure ≡ figure_from (head_form section) plan head → figure ≡ stated_figure s plan section
-  unfolding stated_figure
-  stated_here figure h e = e ∙ rw (← ex, not-false x h, a.here)
-
-module _ (s : Sheet) (plan : List ℕ) (mosaic sorting flight : Part) (em : mosaic ≡ mosaic_part s plan) (es : sorting ≡ sorting_part s plan)
-    (ef : flight ≡ flight_part s plan) where
-  pub stated_mosaic : SheetSound s → StatedFigurePre s plan 1 mosaic.head
-  unfolding part_at pick_part
-  stated_mosaic sound = record { sound = sound; here = ap (λ p. p.head) em }
-
-  pub stated_sorting : SheetSound s → StatedFigurePre s plan 2 sorting.head
-  unfolding part_at pick_part
-  stated_sorting sound = record { sound = sound; here = ap (λ p. p.head) es }
-
-  pub stated_flight : SheetSound s → StatedFigurePre s plan 3 flight.head
-  unfolding part_at pick_part
-  stated_flight sound = record { sound = sound; here = ap (λ p. p.head) ef }
 
 module _ (s : Sheet) (plan : List ℕ) (layout : Verdict) (el : layout ≡ layout_verdict s plan) where
   pub layout_wrong_lem : (r : Judged) → (layout.number ≡ 0 → ⊥) → r ≡ turned_back layout.number layout.place → r ≡ judged_plan s plan

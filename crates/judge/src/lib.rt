@@ -3,16 +3,17 @@
 
 ghost use Rattle.std.specs.Prelude.{◌≡◌, ◌+◌, ◌<◌};
 ghost use Rattle.sheet.specs.Sound.{SheetSound};
-ghost use Rattle.judge.specs.Judged.{pick_part, sections_from, stated_figure, turned_back, judged_plan, judged};
+ghost use Rattle.judge_layout.specs.Layout.{verdict_of};
+ghost use Rattle.judge.specs.Judged.{sections_from, stated_figure, turned_back, answer_of, judged_plan, judged};
 ghost use Rattle.judge.specs.Examined.{no_part, examined_plan, examined};
-ghost use Rattle.judge.specs.Loops.{JudgeSectionsPre, StatedFigurePre};
+ghost use Rattle.judge.specs.Loops.{SectionPre, SectionsPre};
 
-use judge_layout::{Part, Verdict, flight_part, layout_verdict, mosaic_part, sorting_part};
+use judge_layout::{Part, flight_part, layout_verdict, mosaic_part, sorting_part};
 use judge_members::{
-    after_member, begin, head_figure, head_number, is_present, member_follows, member_place,
+    after_member, begin, check_head, head_figure, is_present, member_follows, member_place,
 };
 use sheet::Sheet;
-use sheet::numbers::RULE_BROKEN;
+use sheet::refusals::{Refusal, Refused};
 use sheet_reader::read;
 
 // What the judge answers: number 0, place 0 and the figure of each section, 0 for an absent one; or the number and place of a fault and no figure.
@@ -35,6 +36,7 @@ pub struct Examined {
     pub flight: Part,
 }
 
+#[tactic(auto, unfolding(crate::specs::Judged::turned_back))]
 fn turn_back(number: u64, place: usize) -> Judged
     ensures { result ≡ turned_back number place }
 {
@@ -48,6 +50,7 @@ fn turn_back(number: u64, place: usize) -> Judged
 }
 
 // No section: what a sheet that is turned back has.
+#[tactic(auto, unfolding(crate::specs::Examined::no_part))]
 fn no_part() -> Part
     ensures { result ≡ no_part }
 {
@@ -59,97 +62,72 @@ fn no_part() -> Part
     }
 }
 
-// The section of a plan by its number: 1, mosaic; 2, sorting; 3, flight.
-fn pick_part(section: u64, mosaic: Part, sorting: Part, flight: Part) -> Part
-    ensures { result ≡ pick_part section mosaic sorting flight }
+// Judges a section, by its number, where its part of the plan stands: the members in order, then the head.
+#[tactic(auto, unfolding(crate::specs::Judged::sections_from, crate::specs::Judged::section_verdict, judge_layout::specs::Layout::verdict))]
+fn judge_section(s: Sheet, plan: &[u8], section: u64, part: Part) -> Result<(), Refused>
+    requires { SectionPre s plan.now section part }
+    ensures { verdict_of result ≡ sections_from 1 s plan.now section }
 {
-    if section == 1 {
-        return mosaic;
+    if !is_present(s, section) {
+        return Ok(());
     }
-    if section == 2 {
-        return sorting;
+    let mut progress = begin();
+    for k in 0..part.members {
+        let at = member_place(section, part.head, k);
+        if !member_follows(s, plan, section, k, at, progress) {
+            return Err(Refused {
+                refusal: Refusal::RuleBroken,
+                place: at,
+            });
+        }
+        progress = after_member(s, plan, section, at, progress);
     }
-    flight
-}
-
-// Judges section by section the members in order, then the head. The first field that breaks a rule ends the judging.
-fn judge_sections(s: Sheet, plan: &[u8], mosaic: Part, sorting: Part, flight: Part) -> Verdict
-    requires { JudgeSectionsPre s plan.now mosaic sorting flight }
-    ensures { result ≡ sections_from 3 s plan.now 1 }
-{
-    let mut section: u64 = 1;
-    'sections: loop {
-        if 3 < section {
-            break 'sections Verdict {
-                number: 0,
-                place: 0,
-            };
-        }
-        if !is_present(s, section) {
-            section += 1;
-            continue 'sections;
-        }
-        let part = pick_part(section, mosaic, sorting, flight);
-        let head = part.head;
-        let members = part.members;
-        let mut progress = begin();
-        let mut k: usize = 0;
-        while k < members {
-            let place = member_place(section, head, k);
-            if !member_follows(s, plan, section, k, place, progress) {
-                break 'sections Verdict {
-                    number: RULE_BROKEN,
-                    place,
-                };
-            }
-            progress = after_member(s, plan, section, place, progress);
-            k += 1;
-        }
-        let number = head_number(s, plan, section, part, progress);
-        if number != 0 {
-            break 'sections Verdict {
-                number,
-                place: head,
-            };
-        }
-        section += 1;
-    }
+    check_head(s, plan, section, part, progress).map_err(|refusal| Refused {
+        refusal,
+        place: part.head,
+    })
 }
 
 // The figure that a plan states at the head of a section, 0 for an absent one.
-fn stated_figure(s: Sheet, plan: &[u8], section: u64, head: usize) -> u64
-    requires { StatedFigurePre s plan.now section head }
+#[tactic(auto, unfolding(crate::specs::Judged::stated_figure))]
+fn stated_figure(s: Sheet, plan: &[u8], section: u64, part: Part) -> u64
+    requires { SectionPre s plan.now section part }
     ensures { result ≡ stated_figure s plan.now section }
 {
-    if !is_present(s, section) {
-        return 0;
+    if is_present(s, section) {
+        head_figure(plan, section, part.head)
+    } else {
+        0
     }
-    head_figure(plan, section, head)
 }
 
-// Judges a plan for a sound sheet by its sections.
-fn judge_plan(s: Sheet, plan: &[u8], mosaic: Part, sorting: Part, flight: Part) -> Judged
-    requires { JudgeSectionsPre s plan.now mosaic sorting flight }
-    ensures { result ≡ judged_plan s plan.now }
+// Judges a plan for a sound sheet: its layout, then section by section. The first field that breaks a rule ends the judging.
+#[tactic(auto, using(crate::specs::Loops::refused_number), unfolding(crate::specs::Judged::judged_plan, crate::specs::Judged::concluded, crate::specs::Judged::found, crate::specs::Judged::sections_from, judge_layout::specs::Layout::verdict))]
+fn judge_plan(
+    s: Sheet,
+    plan: &[u8],
+    mosaic: Part,
+    sorting: Part,
+    flight: Part,
+) -> Result<Judged, Refused>
+    requires { SectionsPre s plan.now mosaic sorting flight }
+    ensures { answer_of result ≡ judged_plan s plan.now }
 {
-    let layout = layout_verdict(s, plan, mosaic, sorting, flight);
-    if layout.number != 0 {
-        return turn_back(layout.number, layout.place);
-    }
-    let verdict = judge_sections(s, plan, mosaic, sorting, flight);
-    if verdict.number != 0 {
-        return turn_back(verdict.number, verdict.place);
-    }
-    Judged {
+    layout_verdict(s, plan, mosaic, sorting, flight)?;
+    judge_section(s, plan, 1, mosaic)?;
+    judge_section(s, plan, 2, sorting)?;
+    judge_section(s, plan, 3, flight)?;
+    Ok(Judged {
         number: 0,
         place: 0,
-        mosaic: stated_figure(s, plan, 1, mosaic.head),
-        sorting: stated_figure(s, plan, 2, sorting.head),
-        flight: stated_figure(s, plan, 3, flight.head),
-    }
+        mosaic: stated_figure(s, plan, 1, mosaic),
+        sorting: stated_figure(s, plan, 2, sorting),
+        flight: stated_figure(s, plan, 3, flight),
+    })
 }
 
 // Examines a plan for a sound sheet.
+#[tactic(auto, unfolding(crate::specs::Examined::examined_plan))]
 fn examine_plan(s: Sheet, plan: &[u8]) -> Examined
     requires { SheetSound s }
     ensures { result ≡ examined_plan s plan.now }
@@ -157,8 +135,12 @@ fn examine_plan(s: Sheet, plan: &[u8]) -> Examined
     let mosaic = mosaic_part(s, plan);
     let sorting = sorting_part(s, plan, mosaic.end);
     let flight = flight_part(s, plan, sorting.end);
+    let judged = match judge_plan(s, plan, mosaic, sorting, flight) {
+        Ok(judged) => judged,
+        Err(refused) => turn_back(refused.refusal.number(), refused.place),
+    };
     Examined {
-        judged: judge_plan(s, plan, mosaic, sorting, flight),
+        judged,
         mosaic,
         sorting,
         flight,
@@ -166,6 +148,7 @@ fn examine_plan(s: Sheet, plan: &[u8]) -> Examined
 }
 
 // Examines a plan for a sheet, for all contents and lengths of both. Where the sheet is turned back, no section is looked for.
+#[tactic(auto, unfolding(crate::specs::Examined::examined))]
 pub fn examine(sheet: &[u8], plan: &[u8]) -> Examined
     ensures { result ≡ examined sheet.now plan.now }
 {

@@ -2,7 +2,7 @@
 use Rattle.std.specs.Prelude.{ℕ, zero, suc, ◌+◌, ◌-◌, ◌*◌, ◌^◌, ◌≤◌, ◌<◌, ◌≡◌, refl, Bool, cond, not, List, length, ltb, eqb}
 use Rattle.std.proofs.Common.{sym, ap, ◌∙◌, add-mul, one-mul, mul_comm, add-one, arith}
 use Rattle.std.proofs.Math.Bool.{true, false}
-use borrow.Author.Tests.{eq-eqb, ne_eqb, eqb-true, not-true, not-false}
+use borrow.Author.Tests.{eqb-true, not-false}
 use Rattle.field.specs.Field.{field_at}
 use Rattle.field.specs.Fields.{whole_at}
 use Rattle.field.specs.declared.Field.{Field}
@@ -10,23 +10,13 @@ use Rattle.field.specs.declared.Field.TheVariants.{End, Cut, Whole}
 use Rattle.plan_format.specs.Format.{Form, content_length, size_of, mosaic_head_form, batch_form, sorting_head_form, job_form, flight_head_form, passes_form}
 use Rattle.sheet.specs.Sound.{strips_in_all}
 use Rattle.sheet.specs.declared.Sheet.{Sheet}
-use Rattle.judge_layout.specs.Layout.{is_field, run, part_from, part_of, part_by_forms, mosaic_part, sorting_part, flight_part, verdict, layout_verdict}
+use Rattle.judge_layout.specs.Layout.{is_field, run, part_from, part_of, part_by_forms, mosaic_part, sorting_part, flight_part}
 use Rattle.judge_layout.specs.declared.Part.{Part}
-use Rattle.judge_layout.specs.declared.Verdict.{Verdict}
 
 -- a head of a content length stands at the offset
 pub record PartFromPre (plan : List ℕ) (at head_len len : ℕ) : Type 0 where
   pub within : at + (3 + head_len) ≤ length plan
   pub short : len ≤ 65535
-
-module _ (r : Bool) (tag len : ℕ) where
-  pub field_none : (f : Field) → f ≡ End → false ≡ is_field f tag len
-  unfolding is_field
-  field_none f e = rw e
-
-  pub field_cut_lem : (f : Field) → f ≡ Cut → false ≡ is_field f tag len
-  unfolding is_field
-  field_cut_lem f e = rw e
 
 -- a field that is the one looked for
 pub is_field_true : (f : Field) (tag len : ℕ) → is_field f tag len ≡ true → f ≡ Whole tag len
@@ -42,22 +32,6 @@ is_field_true (Whole t l) tag len e = same (eqb t tag) refl e
 -- a field that is the one looked for lies within the plan
 pub field_within : (plan : List ℕ) (at tag len : ℕ) → is_field (field_at plan at) tag len ≡ true → at + (3 + len) ≤ length plan
 field_within plan at tag len e = let w = (whole_at plan at tag len (is_field_true (field_at plan at) tag len e)).within in omega arith
-
--- the field at an offset is found, or not
-module _ (plan : List ℕ) (at tag len : ℕ) (f : Field) (ef : f ≡ field_at plan at) where
-  pub found_none : f ≡ End → false ≡ is_field (field_at plan at) tag len
-  found_none e = rw (← ef) (field_none false tag len f e)
-
-  pub found_cut : f ≡ Cut → false ≡ is_field (field_at plan at) tag len
-  found_cut e = rw (← ef) (field_cut_lem false tag len f e)
-
-  pub found_other : (t l : ℕ) → f ≡ Whole t l → (t ≡ tag → ⊥) → false ≡ is_field (field_at plan at) tag len
-  unfolding is_field
-  found_other t l e h = rw (← ef, e, ne_eqb _ _ h)
-
-  pub found_same : (t l : ℕ) → f ≡ Whole t l → t ≡ tag → eqb l len ≡ is_field (field_at plan at) tag len
-  unfolding is_field
-  found_same t l e h = rw (← ef, e, eq-eqb _ _ h)
 
 -- how many fields follow
 
@@ -130,21 +104,6 @@ module _ (plan : List ℕ) (first tag len members end : ℕ) (c : Counted plan f
 pub counted_less : (plan : List ℕ) (end len : ℕ) → end + (3 + len) ≤ length plan → length plan - (end + (3 + len)) < length plan - end
 counted_less plan end len h = omega arith
 
-module _ (present : Bool) (plan : List ℕ) (at head_tag head_len tag len : ℕ) where
-  pub part_absent : not present ≡ true
-      → ◌≡◌ {A = Part} (record { right = true; head = at; members = 0; end = at }) (part_of present plan at head_tag head_len tag len)
-  unfolding part_of
-  part_absent h = rw (not-true present h)
-
-  module _ (hp : not present ≡ false) (x : Bool) (ex : x ≡ is_field (field_at plan at) head_tag head_len) where
-    pub part_wrong : not x ≡ true → ◌≡◌ {A = Part} (record { right = false; head = at; members = 0; end = at }) (part_of present plan at head_tag head_len tag len)
-    unfolding part_of
-    part_wrong h = rw (not-false present hp, ← ex, not-true x h)
-
-    pub part_right : (r : Part) → not x ≡ false → r ≡ part_from plan at head_len tag len → r ≡ part_of present plan at head_tag head_len tag len
-    unfolding part_of
-    part_right r h e = rw (not-false present hp, ← ex, not-false x h) e
-
 pub part_asked : (plan : List ℕ) (at head_tag head_len len : ℕ) (x : Bool) → x ≡ is_field (field_at plan at) head_tag head_len → not x ≡ false → len ≤ 65535
     → PartFromPre plan at head_len len
 part_asked plan at head_tag head_len len x ex h l = record { within = field_within plan at head_tag head_len (sym ex ∙ not-false x h); short = l }
@@ -191,63 +150,6 @@ pub record LayoutVerdictPre (s : Sheet) (plan : List ℕ) (mosaic sorting flight
   pub mosaic_is : mosaic ≡ mosaic_part s plan
   pub sorting_is : sorting ≡ sorting_part s plan
   pub flight_is : flight ≡ flight_part s plan
-
--- 12, by what is not right first
-module _ (s : Sheet) (plan : List ℕ) (mosaic sorting flight : Part) (a : LayoutVerdictPre s plan mosaic sorting flight) where
-  right_of : (p q : Part) (b : Bool) → p ≡ q → p.right ≡ b → q.right ≡ b
-  right_of p q b e h = sym (ap (λ x. x.right) e) ∙ h
-
-  m : (b : Bool) → mosaic.right ≡ b → (mosaic_part s plan).right ≡ b
-  m b = right_of mosaic (mosaic_part s plan) b a.mosaic_is
-
-  o : (b : Bool) → sorting.right ≡ b → (sorting_part s plan).right ≡ b
-  o b = right_of sorting (sorting_part s plan) b a.sorting_is
-
-  g : (b : Bool) → flight.right ≡ b → (flight_part s plan).right ≡ b
-  g b = right_of flight (flight_part s plan) b a.flight_is
-
-  pub mosaic_wrong : not mosaic.right ≡ true → ◌≡◌ {A = Verdict} (record { number = 12; place = mosaic.head }) (layout_verdict s plan)
-  unfolding layout_verdict verdict
-  mosaic_wrong h = rw (m false (not-true _ h)) (ap (λ x. verdict 12 x.head) a.mosaic_is)
-
-  module _ (hm : not mosaic.right ≡ false) where
-    pub sorting_wrong : not sorting.right ≡ true → ◌≡◌ {A = Verdict} (record { number = 12; place = sorting.head }) (layout_verdict s plan)
-    unfolding layout_verdict verdict
-    sorting_wrong h = rw (m true (not-false _ hm), o false (not-true _ h)) (ap (λ x. verdict 12 x.head) a.sorting_is)
-
-    module _ (ho : not sorting.right ≡ false) where
-      pub flight_wrong : not flight.right ≡ true → ◌≡◌ {A = Verdict} (record { number = 12; place = flight.head }) (layout_verdict s plan)
-      unfolding layout_verdict verdict
-      flight_wrong h = rw (m true (not-false _ hm), o true (not-false _ ho), g false (not-true _ h)) (ap (λ x. verdict 12 x.head) a.flight_is)
-
-      module _ (hg : not flight.right ≡ false) where
-        pub more_behind : (flight.end ≡ length plan → ⊥) → ◌≡◌ {A = Verdict} (record { number = 12; place = flight.end }) (layout_verdict s plan)
-        unfolding layout_verdict verdict
-        more_behind h =
-            rw
-            (m true (not-false _ hm), o true (not-false _ ho), g true (not-false _ hg), ne_eqb (flight_part s plan).end (length plan) (λ q. h (ap (λ x. x.end) a.flight_is ∙ q)))
-            (ap (λ x. verdict 12 x.end) a.flight_is)
-
-        pub layout_right : flight.end ≡ length plan → ◌≡◌ {A = Verdict} (record { number = 0; place = 0 }) (layout_verdict s plan)
-        unfolding layout_verdict verdict
-        layout_right h =
-            rw
-            (m true (not-false _ hm), o true (not-false _ ho), g true (not-false _ hg), eq-eqb (flight_part s plan).end (length plan) (sym (ap (λ x. x.end) a.flight_is) ∙ h))
-
-pub mosaic_part_is : (s : Sheet) (plan : List ℕ) (r : Part) → r ≡ part_by_forms (ltb 0 s.mosaic.strips) plan 0 mosaic_head_form batch_form
-    → r ≡ mosaic_part s plan
-unfolding mosaic_part
-mosaic_part_is s plan r e = e
-
-pub sorting_part_is : (s : Sheet) (plan : List ℕ) (r : Part) (n at : ℕ) → n ≡ strips_in_all s.sorting → at ≡ (mosaic_part s plan).end
-    → r ≡ part_by_forms (ltb 0 n) plan at sorting_head_form job_form → r ≡ sorting_part s plan
-unfolding sorting_part
-sorting_part_is s plan r n at en ea e = rw (← en, ← ea) e
-
-pub flight_part_is : (s : Sheet) (plan : List ℕ) (r : Part) (at : ℕ) → at ≡ (sorting_part s plan).end
-    → r ≡ part_by_forms (ltb 0 s.flight.blocks) plan at flight_head_form passes_form → r ≡ flight_part s plan
-unfolding flight_part
-flight_part_is s plan r at ea e = rw (← ea) e
 
 by_forms : (present : Bool) (plan : List ℕ) (at : ℕ) (head member : Form) → at ≤ length plan
     → PartFits plan (size_of member) (part_by_forms present plan at head member)

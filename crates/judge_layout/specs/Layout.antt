@@ -1,15 +1,16 @@
 -- The layout of a plan: 12, "plan's tags, lengths or sections wrong".
 -- "Sections are the sheet's, in its order": each has its head, then as many members as follow; behind the last section the plan ends.
-use Rattle.std.specs.Prelude.{ℕ, zero, suc, ◌+◌, ◌*◌, Bool, true, false, cond, List, length, ltb, eqb}
+use Rattle.std.specs.Prelude.{ℕ, zero, suc, ◌+◌, ◌*◌, Bool, true, false, cond, List, length, ltb, eqb, Result}
 use Rattle.field.specs.Field.{field_at}
 use Rattle.field.specs.declared.Field.{Field}
 use Rattle.field.specs.declared.Field.TheVariants.{End, Cut, Whole}
 use Rattle.plan_format.specs.Format.{Form, content_length, mosaic_head_form, batch_form, sorting_head_form, job_form, flight_head_form, passes_form}
+use Rattle.sheet.specs.Given.{found_number, found_place}
 use Rattle.sheet.specs.Refusals.{layout_wrong}
 use Rattle.sheet.specs.Sound.{strips_in_all}
 use Rattle.sheet.specs.declared.Sheet.{Sheet}
+use Rattle.sheet.specs.declared.refusals.Refused.{Refused}
 use Rattle.judge_layout.specs.declared.Part.{Part}
-use Rattle.judge_layout.specs.declared.Verdict.{Verdict}
 
 -- a field of a tag and a content length
 unfoldable pub is_field : Field → ℕ → ℕ → Bool
@@ -53,8 +54,17 @@ sorting_part s plan = part_by_forms (ltb 0 (strips_in_all s.sorting)) plan (mosa
 unfoldable pub flight_part : Sheet → List ℕ → Part
 flight_part s plan = part_by_forms (ltb 0 s.flight.blocks) plan (sorting_part s plan).end flight_head_form passes_form
 
+-- the number and place of a fault, 0 and 0 where there is none
+pub record Verdict : Type 0 where
+  pub number : ℕ
+  pub place : ℕ
+
 unfoldable pub verdict : ℕ → ℕ → Verdict
 verdict number place = record { number = number; place = place }
+
+-- the same of what a check gives
+abbrev pub verdict_of : Result (Unit {0}) Refused → Verdict
+verdict_of given = record { number = found_number given; place = found_place given }
 
 -- 12: the head that is not the one due, or what stands behind the last section
 unfoldable pub layout_verdict : Sheet → List ℕ → Verdict

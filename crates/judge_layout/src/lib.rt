@@ -1,9 +1,10 @@
 // The layout of a plan: its sections, each a head and the members that follow.
 #![tactic(auto)]
 
-ghost use Rattle.std.specs.Prelude.{◌≡◌, ◌+◌, ◌≤◌, ◌<◌, length};
+ghost use Rattle.std.specs.Prelude.{◌≡◌, ◌+◌, ◌≤◌, ◌<◌, length, cond};
 ghost use Rattle.field.specs.Field.{field_at};
-ghost use Rattle.judge_layout.specs.Layout.{is_field, part_from, part_of, mosaic_part, sorting_part, flight_part, layout_verdict};
+ghost use Rattle.sheet.specs.Refusals.{layout_wrong};
+ghost use Rattle.judge_layout.specs.Layout.{is_field, part_from, part_of, mosaic_part, sorting_part, flight_part, verdict, verdict_of, layout_verdict};
 ghost use Rattle.judge_layout.specs.Laws.{PartFromPre, LayoutVerdictPre};
 ghost use Rattle.sheet.specs.Sound.{SortingSound};
 
@@ -14,7 +15,7 @@ use plan_format::{
 };
 use sheet::Sheet;
 use sheet::desks::strips_in_all;
-use sheet::numbers::LAYOUT_WRONG;
+use sheet::refusals::{Refusal, Refused};
 use sheet::tags::{PLAN_BATCH, PLAN_BLOCK, PLAN_FLIGHT, PLAN_MOSAIC, PLAN_SORTING, PLAN_STRIP};
 
 // A section of a plan: the place of its head, its members, and the place behind its last one. Where its head is not the one due, it is not right.
@@ -26,38 +27,63 @@ pub struct Part {
     pub end: usize,
 }
 
-// The number and place of a fault, 0 and 0 where there is none.
+// A field that is due: its tag and the length of its content.
 #[derive(Clone, Copy)]
-pub struct Verdict {
-    pub number: u64,
-    pub place: usize,
+struct Due {
+    tag: u8,
+    length: usize,
 }
 
-// Whether a field of a tag and a content length stands at an offset.
-fn is_field(plan: &[u8], at: usize, tag: u8, length: usize) -> bool
-    ensures { result ≡ is_field (field_at plan.now at) tag length }
+const MOSAIC_HEAD: Due = Due {
+    tag: PLAN_MOSAIC,
+    length: MOSAIC_HEAD_LENGTH,
+};
+
+const BATCH: Due = Due {
+    tag: PLAN_BATCH,
+    length: BATCH_LENGTH,
+};
+
+const SORTING_HEAD: Due = Due {
+    tag: PLAN_SORTING,
+    length: SORTING_HEAD_LENGTH,
+};
+
+const STRIP: Due = Due {
+    tag: PLAN_STRIP,
+    length: JOB_LENGTH,
+};
+
+const FLIGHT_HEAD: Due = Due {
+    tag: PLAN_FLIGHT,
+    length: FLIGHT_HEAD_LENGTH,
+};
+
+const BLOCK: Due = Due {
+    tag: PLAN_BLOCK,
+    length: PASSES_LENGTH,
+};
+
+// Whether the field that is due stands at an offset.
+#[tactic(auto, unfolding(crate::specs::Layout::is_field))]
+fn is_field(plan: &[u8], at: usize, due: Due) -> bool
+    ensures { result ≡ is_field (field_at plan.now at) due.tag due.length }
 {
     match field_at(plan, at) {
-        Field::End => false,
-        Field::Cut => false,
-        Field::Whole(t, l) => {
-            if t != tag {
-                return false;
-            }
-            l == length
-        }
+        Field::End | Field::Cut => false,
+        Field::Whole(tag, length) => tag == due.tag && length == due.length,
     }
 }
 
 // The section whose head stands at an offset, with the members that follow it.
-fn part_from(plan: &[u8], at: usize, head_length: usize, tag: u8, length: usize) -> Part
-    requires { PartFromPre plan.now at head_length length }
-    ensures { result ≡ part_from plan.now at head_length tag length }
+fn part_from(plan: &[u8], at: usize, head: Due, member: Due) -> Part
+    requires { PartFromPre plan.now at head.length member.length }
+    ensures { result ≡ part_from plan.now at head.length member.tag member.length }
 {
-    let mut end = at + (CONTENT + head_length);
+    let mut end = at + (CONTENT + head.length);
     let mut members: usize = 0;
-    while is_field(plan, end, tag, length) {
-        end += CONTENT + length;
+    while is_field(plan, end, member) {
+        end += CONTENT + member.length;
         members += 1;
     }
     Part {
@@ -69,118 +95,83 @@ fn part_from(plan: &[u8], at: usize, head_length: usize, tag: u8, length: usize)
 }
 
 // A section of a plan at an offset: absent, not right, or with its members.
-fn part_of(
-    present: bool,
-    plan: &[u8],
-    at: usize,
-    head_tag: u8,
-    head_length: usize,
-    tag: u8,
-    length: usize,
-) -> Part
-    requires { length ≤ 65535 }
-    ensures { result ≡ part_of present plan.now at head_tag head_length tag length }
+#[tactic(auto, unfolding(crate::specs::Layout::part_of))]
+fn part_of(present: bool, plan: &[u8], at: usize, head: Due, member: Due) -> Part
+    requires { member.length ≤ 65535 }
+    ensures { result ≡ part_of present plan.now at head.tag head.length member.tag member.length }
 {
+    let absent = Part {
+        right: true,
+        head: at,
+        members: 0,
+        end: at,
+    };
     if !present {
-        return Part {
-            right: true,
-            head: at,
-            members: 0,
-            end: at,
-        };
+        return absent;
     }
-    if !is_field(plan, at, head_tag, head_length) {
+    if !is_field(plan, at, head) {
         return Part {
             right: false,
-            head: at,
-            members: 0,
-            end: at,
+            ..absent
         };
     }
-    part_from(plan, at, head_length, tag, length)
+    part_from(plan, at, head, member)
 }
 
+#[tactic(auto, unfolding(crate::specs::Layout::mosaic_part))]
 pub fn mosaic_part(s: Sheet, plan: &[u8]) -> Part
     ensures { result ≡ mosaic_part s plan.now }
 {
-    let present = 0 < s.mosaic.strips;
-    part_of(
-        present,
-        plan,
-        0,
-        PLAN_MOSAIC,
-        MOSAIC_HEAD_LENGTH,
-        PLAN_BATCH,
-        BATCH_LENGTH,
-    )
+    part_of(0 < s.mosaic.strips, plan, 0, MOSAIC_HEAD, BATCH)
 }
 
 // The sorting of a plan, whose mosaic ends at an offset.
+#[tactic(auto, unfolding(crate::specs::Layout::sorting_part))]
 pub fn sorting_part(s: Sheet, plan: &[u8], at: usize) -> Part
     requires { (SortingSound s.sorting) × (at ≡ (mosaic_part s plan.now).end) }
     ensures { result ≡ sorting_part s plan.now }
 {
-    let t = s.sorting;
-    let present = 0 < strips_in_all(t);
-    part_of(
-        present,
-        plan,
-        at,
-        PLAN_SORTING,
-        SORTING_HEAD_LENGTH,
-        PLAN_STRIP,
-        JOB_LENGTH,
-    )
+    part_of(0 < strips_in_all(s.sorting), plan, at, SORTING_HEAD, STRIP)
 }
 
 // The flight of a plan, whose sorting ends at an offset.
+#[tactic(auto, unfolding(crate::specs::Layout::flight_part))]
 pub fn flight_part(s: Sheet, plan: &[u8], at: usize) -> Part
     requires { at ≡ (sorting_part s plan.now).end }
     ensures { result ≡ flight_part s plan.now }
 {
-    let present = 0 < s.flight.blocks;
-    part_of(
-        present,
-        plan,
-        at,
-        PLAN_FLIGHT,
-        FLIGHT_HEAD_LENGTH,
-        PLAN_BLOCK,
-        PASSES_LENGTH,
-    )
+    part_of(0 < s.flight.blocks, plan, at, FLIGHT_HEAD, BLOCK)
 }
 
-// 12 and its place, 0 and 0 where the plan is laid out as its sheet asks.
-pub fn layout_verdict(s: Sheet, plan: &[u8], mosaic: Part, sorting: Part, flight: Part) -> Verdict
-    requires { LayoutVerdictPre s plan.now mosaic sorting flight }
-    ensures { result ≡ layout_verdict s plan.now }
+// 12 at a place, unless the layout is right there.
+#[tactic(auto, unfolding(crate::specs::Layout::verdict))]
+fn check_place(right: bool, place: usize) -> Result<(), Refused>
+    ensures { verdict_of result ≡ cond right (verdict 0 0) (verdict layout_wrong place) }
 {
-    if !mosaic.right {
-        return Verdict {
-            number: LAYOUT_WRONG,
-            place: mosaic.head,
-        };
+    if right {
+        Ok(())
+    } else {
+        Err(Refused {
+            refusal: Refusal::LayoutWrong,
+            place,
+        })
     }
-    if !sorting.right {
-        return Verdict {
-            number: LAYOUT_WRONG,
-            place: sorting.head,
-        };
-    }
-    if !flight.right {
-        return Verdict {
-            number: LAYOUT_WRONG,
-            place: flight.head,
-        };
-    }
-    if flight.end != plan.len() {
-        return Verdict {
-            number: LAYOUT_WRONG,
-            place: flight.end,
-        };
-    }
-    Verdict {
-        number: 0,
-        place: 0,
-    }
+}
+
+// 12 at the first place where the plan is not laid out as its sheet asks.
+#[tactic(auto, unfolding(crate::specs::Layout::layout_verdict, crate::specs::Layout::verdict))]
+pub fn layout_verdict(
+    s: Sheet,
+    plan: &[u8],
+    mosaic: Part,
+    sorting: Part,
+    flight: Part,
+) -> Result<(), Refused>
+    requires { LayoutVerdictPre s plan.now mosaic sorting flight }
+    ensures { verdict_of result ≡ layout_verdict s plan.now }
+{
+    check_place(mosaic.right, mosaic.head)?;
+    check_place(sorting.right, sorting.head)?;
+    check_place(flight.right, flight.head)?;
+    check_place(flight.end == plan.len(), flight.end)
 }

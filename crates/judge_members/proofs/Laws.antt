@@ -1,130 +1,53 @@
 -- What the judge of a member and of a head requires and keeps to, and that what the code reads is what the definitions name.
-use Rattle.std.specs.Prelude.{ℕ, zero, suc, ◌+◌, ◌-◌, ◌*◌, ◌^◌, ◌≤◌, ◌<◌, ◌≡◌, refl, Bool, true, false, not, cond, ◌&&◌, List, ◌∷◌, [], length, get_or, set, ltb, leb, eqb}
+use Rattle.std.specs.Prelude.{ℕ, zero, suc, ◌+◌, ◌-◌, ◌*◌, ◌^◌, ◌≤◌, ◌<◌, ◌≡◌, refl, Bool, true, false, cond, ◌&&◌, List, ◌∷◌, [], length, get_or, set, leb, eqb}
 use Rattle.std.proofs.Common.{sym, ◌∙◌, arith, length-set}
 use Rattle.std.proofs.Math.Path.{ap}
 use Rattle.std.proofs.Math.Nat.{mul-le-mul}
-use borrow.Author.Tests.{eq-eqb, ne_eqb, eqb-true, ltb-true, leb-true, not-true, not-false}
-use Rattle.base.specs.Branch.{both, check}
+use borrow.Author.Tests.{ne_eqb, eqb-true, ltb-true, leb-true}
+use Rattle.base.specs.Branch.{both}
 use Rattle.sheet.specs.Limits.{most_desks, most_strips_of_desk, ceiling}
-use Rattle.sheet.specs.Refusals.{rule_broken, figure_untrue}
-use Rattle.sheet.specs.Sound.{SortingSound, SheetSound, strips_in_all}
+use Rattle.sheet.specs.Sound.{SortingSound, SheetSound}
 use Rattle.sheet.proofs.Stores.{set_here, set_there, set_most}
 use Rattle.sheet.specs.declared.Sheet.{Sheet}
 use Rattle.rules.specs.Mosaic.{no_batch}
 use Rattle.rules.specs.Sorting.{strips_of, slot, job_weight, desk_finish, desk_time}
 use Rattle.rules.specs.Flight.{flight_figure}
-use Rattle.plan_format.specs.Format.{size_of, mosaic_head_form, batch_form, sorting_head_form, job_form, flight_head_form, passes_form}
-use Rattle.plan_read.specs.PlanRead.{figure_from, order_from, batch_from, job_from, passes_from, blocks_from, BatchRead, JobRead, PassesRead}
+use Rattle.plan_format.specs.Format.{size_of, flight_head_form}
+use Rattle.plan_read.specs.PlanRead.{batch_from, job_from, passes_from, blocks_from, BatchRead, JobRead}
 use Rattle.running.specs.Running.{batch_weight, free_desks, after_job}
 use Rattle.running.specs.FunctionLaws.{TimeTold, WeightTold, JobWeightTold, batch_weight_most}
 use Rattle.rules.specs.declared.Batch.{Batch}
 use Rattle.rules.specs.declared.Job.{Job}
-use Rattle.rules.specs.declared.Passes.{Passes}
 use Rattle.running.specs.declared.Desks.{Desks}
-use Rattle.judge_rules.specs.Follows.{batch_in_run, batch_in_time, batch_follows, job_in_turn, job_in_time, job_follows, block_follows, all_done, flight_head}
-use Rattle.judge_rules.specs.Clauses.{DesksFit, BatchFollowsPre, JobFollowsPre, BlockFollowsPre}
+use Rattle.judge_rules.specs.Follows.{batch_in_run, batch_in_time, batch_follows, job_in_turn, job_in_time, job_follows, block_follows, flight_head}
+use Rattle.judge_rules.specs.Clauses.{DesksFit, JobFollowsPre}
 use Rattle.judge_flight.specs.Starts.{FigureTold}
 use Rattle.judge_layout.specs.declared.Part.{Part}
-use Rattle.judge_members.specs.Members.{present, head_form, member_form, member_place, begun, member_follows, after_batch, after_strip, after_member}
-use Rattle.judge_members.specs.Members.{head_follows, figure_of, head_number}
+use Rattle.judge_members.specs.Members.{section_of, begun, member_follows, after_batch, after_strip, after_member, head_follows, figure_of}
 use Rattle.judge_members.specs.declared.Progress.{Progress}
-use Rattle.judge_members.specs.Laws.{most_of_strip, Kept, MemberPlacePre, MemberFollowsPre, AfterMemberPre, AfterBatchPre, AfterStripPre, HeadNumberPre, FigureOfPre}
+use Rattle.judge_members.specs.declared.Section.{Section}
+use Rattle.judge_members.specs.declared.Section.TheVariants.{Mosaic, Sorting, Flight}
+use Rattle.judge_members.specs.Laws.{most_of_strip, Kept, MemberFollowsPre, AfterMemberPre, AfterBatchPre, AfterStripPre, FigureOfPre}
 
 -- the section by its number
-module _ (s : Sheet) (section : ℕ) where
-  pub present_mosaic : section ≡ 1 → ltb 0 s.mosaic.strips ≡ present s section
-  unfolding present
-  present_mosaic e = rw e
+module _ (section : ℕ) (x : Section) (ex : x ≡ section_of section) where
+  pub of_mosaic : x ≡ Mosaic → section ≡ 1
+  of_mosaic h = grind arith
 
-  pub present_sorting : (n : ℕ) → section ≡ 2 → n ≡ strips_in_all s.sorting → ltb 0 n ≡ present s section
-  unfolding present
-  present_sorting n e en = rw (e, en)
+  pub of_sorting : x ≡ Sorting → section ≡ 2
+  of_sorting h = grind arith
 
-  pub present_flight : (section ≡ 1 → ⊥) → (section ≡ 2 → ⊥) → ltb 0 s.flight.blocks ≡ present s section
-  unfolding present
-  present_flight h₁ h₂ = rw (ne_eqb _ _ h₁, ne_eqb _ _ h₂)
+  pub not_mosaic : x ≡ Flight → section ≡ 1 → ⊥
+  not_mosaic h e = grind arith
 
-module _ (section : ℕ) where
-  pub head_size_mosaic : section ≡ 1 → size_of mosaic_head_form ≡ size_of (head_form section)
-  unfolding head_form
-  head_size_mosaic e = rw e
-
-  pub head_size_sorting : section ≡ 2 → size_of sorting_head_form ≡ size_of (head_form section)
-  unfolding head_form
-  head_size_sorting e = rw e
-
-  pub head_size_flight : (section ≡ 1 → ⊥) → (section ≡ 2 → ⊥) → size_of flight_head_form ≡ size_of (head_form section)
-  unfolding head_form
-  head_size_flight h₁ h₂ = rw (ne_eqb _ _ h₁, ne_eqb _ _ h₂)
-
-  pub member_size_mosaic : section ≡ 1 → size_of batch_form ≡ size_of (member_form section)
-  unfolding member_form
-  member_size_mosaic e = rw e
-
-  pub member_size_sorting : section ≡ 2 → size_of job_form ≡ size_of (member_form section)
-  unfolding member_form
-  member_size_sorting e = rw e
-
-  pub member_size_flight : (section ≡ 1 → ⊥) → (section ≡ 2 → ⊥) → size_of passes_form ≡ size_of (member_form section)
-  unfolding member_form
-  member_size_flight h₁ h₂ = rw (ne_eqb _ _ h₁, ne_eqb _ _ h₂)
-
-  module _ (plan : List ℕ) (head figure : ℕ) where
-    pub figure_of_mosaic_lem : section ≡ 1 → figure ≡ figure_from mosaic_head_form plan head → figure ≡ figure_from (head_form section) plan head
-    unfolding head_form
-    figure_of_mosaic_lem e h = h ∙ rw e
-
-    pub figure_of_sorting_lem : section ≡ 2 → figure ≡ figure_from sorting_head_form plan head → figure ≡ figure_from (head_form section) plan head
-    unfolding head_form
-    figure_of_sorting_lem e h = h ∙ rw e
-
-    pub figure_of_flight_lem : (section ≡ 1 → ⊥) → (section ≡ 2 → ⊥) → figure ≡ figure_from flight_head_form plan head
-        → figure ≡ figure_from (head_form section) plan head
-    unfolding head_form
-    figure_of_flight_lem h₁ h₂ h = h ∙ rw (ne_eqb _ _ h₁, ne_eqb _ _ h₂)
-
-  -- the place of a member, by the sizes of its section
-  module _ (head k skip step : ℕ) (es : skip ≡ size_of (head_form section)) (et : step ≡ size_of (member_form section)) where
-    pub place_is : head + skip + k * step ≡ member_place section head k
-    unfolding member_place
-    place_is = rw (es, et)
-
-    pub place_fits : MemberPlacePre section head k → head + skip + k * step < 2 ^ 64
-    place_fits a = omega (arith, place_is, a.room)
-
-    pub members_fit : MemberPlacePre section head k → k * step < 2 ^ 64
-    members_fit a = omega (arith, place_fits a)
-
-  pub head_fits : (head k skip : ℕ) → skip ≡ size_of (head_form section) → MemberPlacePre section head k → head + skip < 2 ^ 64
-  unfolding member_place
-  head_fits head k skip es a = omega (arith, es, a.room)
+  pub not_sorting : x ≡ Flight → section ≡ 2 → ⊥
+  not_sorting h e = grind arith
 
 -- members
 
-module _ (s : Sheet) (plan : List ℕ) (section k place : ℕ) (p : Progress) (r : Bool) where
-  pub member_batch : (b : Batch) → section ≡ 1 → BatchRead plan place b → r ≡ batch_follows s.mosaic p.before b
-      → r ≡ member_follows s plan section k place p
-  unfolding member_follows
-  member_batch b e t h = h ∙ rw (e, t.is)
-
-  pub member_job : (j : Job) → section ≡ 2 → JobRead plan place j → r ≡ job_follows s.sorting p.desks j → r ≡ member_follows s plan section k place p
-  unfolding member_follows
-  member_job j e t h = h ∙ rw (e, t.is)
-
-  pub member_block : (q : Passes) → (section ≡ 1 → ⊥) → (section ≡ 2 → ⊥) → PassesRead plan place q → r ≡ block_follows s.flight k q
-      → r ≡ member_follows s plan section k place p
-  unfolding member_follows
-  member_block q h₁ h₂ t h = h ∙ rw (ne_eqb _ _ h₁, ne_eqb _ _ h₂, t.is)
-
 module _ (s : Sheet) (plan : List ℕ) (place : ℕ) (p : Progress) (a : MemberFollowsPre s p) where
-  pub batch_asked : (b : Batch) → BatchRead plan place b → BatchFollowsPre s.mosaic b
-  batch_asked b t = record { sound = a.sound.mosaic; fits = t.fits }
-
   pub job_asked : (j : Job) → JobRead plan place j → JobFollowsPre s.sorting p.desks j
   job_asked j t = record { sound = a.sound.sorting; desks = a.kept.desks; fits = t.fits }
-
-  pub block_asked : (q : Passes) → PassesRead plan place q → BlockFollowsPre s.flight q
-  block_asked q t = record { sound = a.sound.flight; fits = t.fits }
 
 -- after a member that follows
 
@@ -186,18 +109,6 @@ module _ (s : Sheet) (plan : List ℕ) (section place : ℕ) (p : Progress) (a :
         within = f.4;
       }
 
-  pub after_mosaic : (b : Batch) (r : Progress) → section ≡ 1 → BatchRead plan place b → r ≡ after_batch s p b → r ≡ after_member s plan section place p
-  unfolding after_member
-  after_mosaic b r e t h = h ∙ rw (e, t.is)
-
-  pub after_sorting : (j : Job) (r : Progress) → section ≡ 2 → JobRead plan place j → r ≡ after_strip s p j → r ≡ after_member s plan section place p
-  unfolding after_member
-  after_sorting j r e t h = h ∙ rw (e, t.is)
-
-  pub after_flight : (section ≡ 1 → ⊥) → (section ≡ 2 → ⊥) → p ≡ after_member s plan section place p
-  unfolding after_member
-  after_flight h₁ h₂ = rw (ne_eqb _ _ h₁, ne_eqb _ _ h₂)
-
 sums_few : (d : Desks) → DesksFit d → get_or d.done 0 0 + get_or d.done 1 0 + get_or d.done 2 0 ≤ most_desks * most_strips_of_desk
 sums_few d f = omega (arith, f.most_done 0, f.most_done 1, f.most_done 2)
 
@@ -205,12 +116,6 @@ module _ (s : Sheet) (p : Progress) (b : Batch) (a : AfterBatchPre s p b) where
   module _ (weight : ℕ) (t : WeightTold s.mosaic p.before.last b.last weight) where
     most : weight * b.finish ≤ (b.last - p.before.last) * most_of_strip
     most = omega (arith, mul-le-mul t.fits a.within)
-
-    pub completions_fit : weight * b.finish < 2 ^ 64
-    completions_fit = let l = a.most_last in omega (arith, most)
-
-    pub figure_fits : p.figure + weight * b.finish < 2 ^ 64
-    figure_fits = let l = a.most_last in let m = a.kept.most_last in omega (arith, most, a.kept.most_figure, sums_few p.desks a.kept.desks)
 
     pub after_batch_is : ◌≡◌ {A = Progress} (record { before = b; desks = p.desks; figure = p.figure + weight * b.finish }) (after_batch s p b)
     unfolding after_batch
@@ -231,9 +136,6 @@ module _ (s : Sheet) (p : Progress) (j : Job) (a : AfterStripPre s p j) where
     added : weight * (j.start + time) ≤ most_of_strip
     unfolding desk_finish
     added = let h : j.start + time ≤ ceiling = omega (arith, t.is, a.within) in mul-le-mul w.fits h
-
-    pub strip_completion_fits : weight * (j.start + time) < 2 ^ 64
-    strip_completion_fits = omega (arith, added)
 
     pub strip_figure_fits : p.figure + weight * (j.start + time) < 2 ^ 64
     strip_figure_fits = let l = a.kept.most_last in omega (arith, added, a.kept.most_figure, sums_few p.desks a.kept.desks)
@@ -322,28 +224,6 @@ begun_kept = record { desks = record { done_length = refl; free_length = refl; m
 -- heads
 
 module _ (s : Sheet) (plan : List ℕ) (section : ℕ) (part : Part) (p : Progress) where
-  pub head_mosaic : section ≡ 1 → eqb p.before.last s.mosaic.strips ≡ head_follows s plan section part p
-  unfolding head_follows
-  head_mosaic e = rw e
-
-  pub head_sorting : (r : Bool) → section ≡ 2 → r ≡ all_done s.sorting.counts p.desks.done s.sorting.desks → r ≡ head_follows s plan section part p
-  unfolding head_follows
-  head_sorting r e h = h ∙ rw e
-
-  pub head_flight : (r : Bool) (order : ℕ) → (section ≡ 1 → ⊥) → (section ≡ 2 → ⊥) → order ≡ order_from plan part.head
-      → r ≡ flight_head s.flight part.members order (blocks_from plan (part.head + size_of flight_head_form) part.members)
-      → r ≡ head_follows s plan section part p
-  unfolding head_follows
-  head_flight r order h₁ h₂ e h = h ∙ rw (ne_eqb _ _ h₁, ne_eqb _ _ h₂, e)
-
-  pub figure_mosaic : section ≡ 1 → p.figure ≡ figure_of s plan section part p
-  unfolding figure_of
-  figure_mosaic e = rw e
-
-  pub figure_sorting : section ≡ 2 → p.figure ≡ figure_of s plan section part p
-  unfolding figure_of
-  figure_sorting e = rw e
-
   pub figure_flight : (r : ℕ) → FigureOfPre s plan section part p → (section ≡ 1 → ⊥) → (section ≡ 2 → ⊥)
       → FigureTold (flight_figure s.flight (blocks_from plan (part.head + size_of flight_head_form) s.flight.blocks)) r → r ≡ figure_of s plan section part p
   unfolding figure_of head_follows flight_head
@@ -351,22 +231,3 @@ module _ (s : Sheet) (plan : List ℕ) (section : ℕ) (part : Part) (p : Progre
       let q = both _ _ (rw (ne_eqb _ _ h₁, ne_eqb _ _ h₂) at a.follows) in
       t.is
       ∙ rw (ne_eqb _ _ h₁, ne_eqb _ _ h₂) (ap (λ n. flight_figure s.flight (blocks_from plan (part.head + size_of flight_head_form) n)) (sym (eqb-true _ _ q.0)))
-
-  module _ (x : Bool) (ex : x ≡ head_follows s plan section part p) where
-    pub head_wrong : not x ≡ true → rule_broken ≡ head_number s plan section part p
-    unfolding head_number check
-    head_wrong h = rw (← ex, not-true x h)
-
-    module _ (hx : not x ≡ false) where
-      pub figure_asked : HeadNumberPre s part → FigureOfPre s plan section part p
-      figure_asked a = record { asked = a; follows = sym ex ∙ not-false x hx }
-
-      pub figure_wrong : (figure stated : ℕ) → figure ≡ figure_of s plan section part p → stated ≡ figure_from (head_form section) plan part.head
-          → (stated ≡ figure → ⊥) → figure_untrue ≡ head_number s plan section part p
-      unfolding head_number check
-      figure_wrong figure stated ef es h = rw (← ex, not-false x hx, ← es, ← ef, ne_eqb _ _ h)
-
-      pub head_right : (figure stated : ℕ) → figure ≡ figure_of s plan section part p → stated ≡ figure_from (head_form section) plan part.head
-          → stated ≡ figure → 0 ≡ head_number s plan section part p
-      unfolding head_number check
-      head_right figure stated ef es h = rw (← ex, not-false x hx, ← es, ← ef, eq-eqb _ _ h)

@@ -1,6 +1,5 @@
 -- What the judge of a member and of a head requires and keeps to, and that what the code reads is what the definitions name.
-use Rattle.std.specs.Prelude.{ℕ, ◌+◌, ◌-◌, ◌*◌, ◌^◌, ◌≤◌, ◌<◌, ◌≡◌, true, ◌&&◌, List, ◌∷◌, [], get_or}
-use Rattle.std.proofs.Common.{◌∙◌}
+use Rattle.std.specs.Prelude.{ℕ, ◌+◌, ◌-◌, ◌*◌, ◌^◌, ◌≤◌, ◌<◌, ◌≡◌, true, List, get_or}
 use Rattle.sheet.specs.Limits.{most_weight, most_strips, most_blocks, ceiling}
 use Rattle.sheet.specs.Sound.{MosaicSound, SheetSound}
 use Rattle.sheet.specs.declared.Sheet.{Sheet}

@@ -15,8 +15,13 @@ use Rattle.rules.specs.declared.Job.{Job}
 use Rattle.judge_rules.specs.Follows.{batch_follows, job_follows, block_follows, all_done, flight_head}
 use Rattle.judge_layout.specs.declared.Part.{Part}
 use Rattle.judge_members.specs.declared.Progress.{Progress}
+use Rattle.judge_members.specs.declared.Section.{Section}
+use Rattle.judge_members.specs.declared.Section.TheVariants.{Mosaic, Sorting, Flight}
 
 -- The sections are numbered 1, mosaic; 2, sorting; 3, flight.
+abbrev pub section_of : ℕ → Section
+section_of section = cond (eqb section 1) Mosaic (cond (eqb section 2) Sorting Flight)
+
 unfoldable pub present : Sheet → ℕ → Bool
 present s section =
     cond (eqb section 1) (ltb 0 s.mosaic.strips)

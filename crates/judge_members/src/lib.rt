@@ -2,10 +2,10 @@
 #![tactic(auto)]
 
 ghost use Rattle.std.specs.Prelude.{◌≡◌, ◌+◌, ◌*◌, ◌<◌};
+ghost use Rattle.sheet.specs.Given.{number_given};
 ghost use Rattle.sheet.specs.Sound.{SheetSound};
-ghost use Rattle.plan_format.specs.Format.{size_of};
 ghost use Rattle.plan_read.specs.PlanRead.{figure_from};
-ghost use Rattle.judge_members.specs.Members.{present, head_form, member_form, member_place, begun, member_follows, after_batch, after_strip, after_member};
+ghost use Rattle.judge_members.specs.Members.{section_of, present, head_form, member_place, begun, member_follows, after_batch, after_strip, after_member};
 ghost use Rattle.judge_members.specs.Members.{head_follows, figure_of, head_number};
 ghost use Rattle.judge_members.specs.Laws.{MemberPlacePre, MemberFollowsPre, AfterMemberPre, AfterBatchPre, AfterStripPre, HeadNumberPre, FigureOfPre};
 
@@ -25,7 +25,7 @@ use running::mosaic::batch_weight;
 use running::sorting::{desk_time, job_weight};
 use sheet::Sheet;
 use sheet::desks::strips_in_all;
-use sheet::numbers::{FIGURE_UNTRUE, RULE_BROKEN};
+use sheet::refusals::Refusal;
 
 // How far the members of a section have been judged: the batch before, the desks, the figure so far.
 #[derive(Clone, Copy)]
@@ -35,56 +35,54 @@ pub struct Progress {
     pub figure: u64,
 }
 
+// A section, by its number. Any number but 1 and 2 counts as the flight's.
+#[derive(Clone, Copy)]
+enum Section {
+    Mosaic,
+    Sorting,
+    Flight,
+}
+
+impl From<u64> for Section {
+    ghost from_gives = { λ number section. section ≡ section_of number };
+
+    fn from(number: u64) -> Section {
+        match number {
+            1 => Section::Mosaic,
+            2 => Section::Sorting,
+            _ => Section::Flight,
+        }
+    }
+}
+
 // Whether the sheet has a section.
+#[tactic(auto, unfolding(crate::specs::Members::present))]
 pub fn is_present(s: Sheet, section: u64) -> bool
     requires { SheetSound s }
     ensures { result ≡ present s section }
 {
-    if section == 1 {
-        return 0 < s.mosaic.strips;
+    match Section::from(section) {
+        Section::Mosaic => 0 < s.mosaic.strips,
+        Section::Sorting => 0 < strips_in_all(s.sorting),
+        Section::Flight => 0 < s.flight.blocks,
     }
-    if section == 2 {
-        let t = s.sorting;
-        return 0 < strips_in_all(t);
-    }
-    0 < s.flight.blocks
-}
-
-// The bytes that the head of a section takes.
-fn head_size(section: u64) -> usize
-    ensures { result ≡ size_of (head_form section) }
-{
-    if section == 1 {
-        return MOSAIC_HEAD_SIZE;
-    }
-    if section == 2 {
-        return SORTING_HEAD_SIZE;
-    }
-    FLIGHT_HEAD_SIZE
-}
-
-// The bytes that each of its members takes.
-fn member_size(section: u64) -> usize
-    ensures { result ≡ size_of (member_form section) }
-{
-    if section == 1 {
-        return BATCH_SIZE;
-    }
-    if section == 2 {
-        return JOB_SIZE;
-    }
-    PASSES_SIZE
 }
 
 // The place of member k, from 0, of a section whose head stands at an offset.
+#[tactic(auto, unfolding(crate::specs::Members::member_place, crate::specs::Members::head_form, crate::specs::Members::member_form))]
 pub fn member_place(section: u64, head: usize, k: usize) -> usize
     requires { MemberPlacePre section head k }
     ensures { result ≡ member_place section head k }
 {
-    head + head_size(section) + k * member_size(section)
+    match Section::from(section) {
+        Section::Mosaic => head + MOSAIC_HEAD_SIZE + k * BATCH_SIZE,
+        Section::Sorting => head + SORTING_HEAD_SIZE + k * JOB_SIZE,
+        Section::Flight => head + FLIGHT_HEAD_SIZE + k * PASSES_SIZE,
+    }
 }
 
 // Before the first member.
+#[tactic(auto, unfolding(crate::specs::Members::begun, rules::specs::Mosaic::no_batch, running::specs::Running::free_desks))]
 pub fn begin() -> Progress
     ensures { result ≡ begun }
 {
@@ -104,6 +102,7 @@ pub fn begin() -> Progress
 }
 
 // Whether member k of a section, which stands at a place, follows what was judged before it.
+#[tactic(auto, unfolding(crate::specs::Members::member_follows))]
 pub fn member_follows(
     s: Sheet,
     plan: &[u8],
@@ -115,32 +114,22 @@ pub fn member_follows(
     requires { MemberFollowsPre s progress }
     ensures { result ≡ member_follows s plan.now section k place progress }
 {
-    if section == 1 {
-        let m = s.mosaic;
-        let before = progress.before;
-        return batch_follows(m, before, batch_from(plan, place));
+    match Section::from(section) {
+        Section::Mosaic => batch_follows(s.mosaic, progress.before, batch_from(plan, place)),
+        Section::Sorting => job_follows(s.sorting, progress.desks, job_from(plan, place)),
+        Section::Flight => block_follows(s.flight, k, passes_from(plan, place)),
     }
-    if section == 2 {
-        let t = s.sorting;
-        let desks = progress.desks;
-        return job_follows(t, desks, job_from(plan, place));
-    }
-    let f = s.flight;
-    block_follows(f, k, passes_from(plan, place))
 }
 
 fn after_batch(s: Sheet, progress: Progress, b: Batch) -> Progress
     requires { AfterBatchPre s progress b }
     ensures { result ≡ after_batch s progress b }
 {
-    let m = s.mosaic;
-    let before = progress.before;
-    let desks = progress.desks;
-    let weight = batch_weight(m, before, b);
+    let weight = batch_weight(s.mosaic, progress.before, b);
     Progress {
         before: b,
-        desks,
         figure: progress.figure + weight * b.finish,
+        ..progress
     }
 }
 
@@ -148,19 +137,17 @@ fn after_strip(s: Sheet, progress: Progress, j: Job) -> Progress
     requires { AfterStripPre s progress j }
     ensures { result ≡ after_strip s progress j }
 {
-    let t = s.sorting;
-    let before = progress.before;
-    let desks = progress.desks;
-    let finish = j.start + desk_time(t, j);
-    let weight = job_weight(t, j);
+    let finish = j.start + desk_time(s.sorting, j);
+    let weight = job_weight(s.sorting, j);
     Progress {
-        before,
-        desks: after_job(t, desks, j),
+        desks: after_job(s.sorting, progress.desks, j),
         figure: progress.figure + weight * finish,
+        ..progress
     }
 }
 
 // What is judged after a member that follows.
+#[tactic(auto, unfolding(crate::specs::Members::after_member))]
 pub fn after_member(
     s: Sheet,
     plan: &[u8],
@@ -171,78 +158,73 @@ pub fn after_member(
     requires { AfterMemberPre s plan.now section place progress }
     ensures { result ≡ after_member s plan.now section place progress }
 {
-    if section == 1 {
-        return after_batch(s, progress, batch_from(plan, place));
+    match Section::from(section) {
+        Section::Mosaic => after_batch(s, progress, batch_from(plan, place)),
+        Section::Sorting => after_strip(s, progress, job_from(plan, place)),
+        Section::Flight => progress,
     }
-    if section == 2 {
-        return after_strip(s, progress, job_from(plan, place));
-    }
-    progress
 }
 
 // Whether a head follows its members.
+#[tactic(auto, unfolding(crate::specs::Members::head_follows))]
 fn head_follows(s: Sheet, plan: &[u8], section: u64, part: Part, progress: Progress) -> bool
     requires { HeadNumberPre s part }
     ensures { result ≡ head_follows s plan.now section part progress }
 {
-    if section == 1 {
-        return progress.before.last == s.mosaic.strips as u64;
+    match Section::from(section) {
+        Section::Mosaic => progress.before.last == s.mosaic.strips as u64,
+        Section::Sorting => all_done(s.sorting.counts, progress.desks.done, s.sorting.desks),
+        Section::Flight => flight_head(
+            s.flight,
+            part.members,
+            order_from(plan, part.head),
+            plan,
+            part.head + FLIGHT_HEAD_SIZE,
+        ),
     }
-    if section == 2 {
-        let counts = s.sorting.counts;
-        let done = progress.desks.done;
-        return all_done(counts, done, s.sorting.desks);
-    }
-    let f = s.flight;
-    let head = part.head;
-    flight_head(
-        f,
-        part.members,
-        order_from(plan, head),
-        plan,
-        head + FLIGHT_HEAD_SIZE,
-    )
 }
 
 // The figure that the rules give, the head judged.
+#[tactic(auto, unfolding(crate::specs::Members::figure_of))]
 fn figure_of(s: Sheet, plan: &[u8], section: u64, part: Part, progress: Progress) -> u64
     requires { FigureOfPre s plan.now section part progress }
     ensures { result ≡ figure_of s plan.now section part progress }
 {
-    if section == 1 {
-        return progress.figure;
+    match Section::from(section) {
+        Section::Mosaic | Section::Sorting => progress.figure,
+        Section::Flight => flight_figure(s.flight, plan, part.head + FLIGHT_HEAD_SIZE),
     }
-    if section == 2 {
-        return progress.figure;
-    }
-    let f = s.flight;
-    flight_figure(f, plan, part.head + FLIGHT_HEAD_SIZE)
 }
 
 // The figure that the head of a section states.
+#[tactic(auto, unfolding(crate::specs::Members::head_form))]
 pub fn head_figure(plan: &[u8], section: u64, head: usize) -> u64
     ensures { result ≡ figure_from (head_form section) plan.now head }
 {
-    if section == 1 {
-        return mosaic_figure_from(plan, head);
+    match Section::from(section) {
+        Section::Mosaic => mosaic_figure_from(plan, head),
+        Section::Sorting => sorting_figure_from(plan, head),
+        Section::Flight => flight_figure_from(plan, head),
     }
-    if section == 2 {
-        return sorting_figure_from(plan, head);
-    }
-    flight_figure_from(plan, head)
 }
 
-// 13 or 14 at a head, 0 where it follows and its figure is true.
-pub fn head_number(s: Sheet, plan: &[u8], section: u64, part: Part, progress: Progress) -> u64
+// 13 or 14 at a head, unless it follows and its figure is true.
+#[tactic(auto, unfolding(crate::specs::Members::head_number, base::specs::Branch::check))]
+pub fn check_head(
+    s: Sheet,
+    plan: &[u8],
+    section: u64,
+    part: Part,
+    progress: Progress,
+) -> Result<(), Refusal>
     requires { HeadNumberPre s part }
-    ensures { result ≡ head_number s plan.now section part progress }
+    ensures { number_given result ≡ head_number s plan.now section part progress }
 {
     if !head_follows(s, plan, section, part, progress) {
-        return RULE_BROKEN;
+        return Err(Refusal::RuleBroken);
     }
-    let figure = figure_of(s, plan, section, part, progress);
-    if head_figure(plan, section, part.head) != figure {
-        return FIGURE_UNTRUE;
+    if head_figure(plan, section, part.head) != figure_of(s, plan, section, part, progress) {
+        return Err(Refusal::FigureUntrue);
     }
-    0
+    Ok(())
 }

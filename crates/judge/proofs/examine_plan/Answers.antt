@@ -1,6 +1,5 @@
 -- `examine_plan` meets its contract: the sections are found one behind the other, and the plan is judged by them.
 use Rattle.judge.specs.Loops.{sorting_at_lem, flight_at_lem}
-use Rattle.judge.specs.Examined.{plan_examined}
 use Rattle.judge.proofs.examine_plan.Goals as goal
 
 pub sorting_part-sorting-requires : goal.sorting_part-sorting-requires
@@ -8,6 +7,3 @@ sorting_part-sorting-requires c = sorting_at_lem _ _ _ c.requires c.mosaic_part-
 
 pub flight_part-flight-requires : goal.flight_part-flight-requires
 flight_part-flight-requires c = search flight_at_lem
-
-pub returns : goal.returns
-returns c = search plan_examined

@@ -1,18 +1,9 @@
--- `after_member` meets its contract: one case a section.
-use Rattle.judge_members.proofs.Laws.{after_batch_asked, after_strip_asked, after_mosaic, after_sorting, after_flight}
+-- `after_member` meets its contract: the member that is stored follows what was judged before it.
+use Rattle.judge_members.proofs.Laws.{of_mosaic, of_sorting, after_batch_asked, after_strip_asked}
 use Rattle.judge_members.proofs.after_member.Goals as goal
 
 pub after_batch-requires : goal.after_batch-requires
-after_batch-requires c = search after_batch_asked
-
-pub returns-then-section-eq1 : goal.returns-then-section-eq1
-returns-then-section-eq1 c = search after_mosaic
+after_batch-requires c = search (after_batch_asked, of_mosaic)
 
 pub after_strip-requires : goal.after_strip-requires
-after_strip-requires c = search after_strip_asked
-
-pub returns-then-section-eq2 : goal.returns-then-section-eq2
-returns-then-section-eq2 c = search after_sorting
-
-pub returns : goal.returns
-returns c = search after_flight
+after_strip-requires c = search (after_strip_asked, of_sorting)

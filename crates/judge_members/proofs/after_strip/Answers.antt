@@ -1,9 +1,6 @@
--- `after_strip` meets its contract: the strip adds its weight times its desk's finish to the figure so far, and both fit.
-use Rattle.judge_members.proofs.Laws.{strip_completion_fits, strip_figure_fits, after_strip_is}
+-- `after_strip` meets its contract: the strip adds its weight times its desk's finish to the figure so far, and the sum fits.
+use Rattle.judge_members.proofs.Laws.{strip_figure_fits, after_strip_is}
 use Rattle.judge_members.proofs.after_strip.Goals as goal
-
-pub overflow_mul-result : goal.overflow_mul-result
-overflow_mul-result c = search strip_completion_fits
 
 pub overflow_add-result : goal.overflow_add-result
 overflow_add-result c = search strip_figure_fits

@@ -1,12 +1,6 @@
--- `figure_of` meets its contract: one case a section.
-use Rattle.judge_members.proofs.Laws.{figure_mosaic, figure_sorting, figure_flight}
+-- `figure_of` meets its contract: the flight's figure is that of as many blocks as the sheet has, which its head has been judged for.
+use Rattle.judge_members.proofs.Laws.{not_mosaic, not_sorting, figure_flight}
 use Rattle.judge_members.proofs.figure_of.Goals as goal
 
-pub returns-then-section-eq1 : goal.returns-then-section-eq1
-returns-then-section-eq1 c = search figure_mosaic
-
-pub returns-then-section-eq2 : goal.returns-then-section-eq2
-returns-then-section-eq2 c = search figure_sorting
-
-pub returns : goal.returns
-returns c = search figure_flight
+pub returns-in-Flight : goal.returns-in-Flight
+returns-in-Flight c = search (figure_flight, not_mosaic, not_sorting)
