@@ -1,17 +1,10 @@
--- `choose_batch` meets its contract. Invariant: of the candidates from n down to q, the one taken is the one that the recursion takes.
+-- `choose_batch` meets its contract.
 use native.Mathlib.Omega.{arith}
-use Rattle.batching.proofs.CandidateLaws.{from_candidate}
 use Rattle.batching.proofs.ChoiceLaws.{taken_start, taken_less, taken_more, taken_end}
-use Rattle.batching.proofs.choose_batch.Goals as goal
-
-pub candidate-least-requires : goal.candidate-least-requires
-candidate-least-requires c = search (from_candidate, arith)
+use Rattle.batching.proofs.input.Strips.choose_batch.Goals as goal
 
 pub loop-q-init : goal.loop-q-init
-loop-q-init c = search taken_start
-
-pub candidate-figure-requires : goal.candidate-figure-requires
-candidate-figure-requires c = search (from_candidate, arith)
+loop-q-init c = taken_start c.requires c.candidate-least.ensures
 
 pub loop-q-preserved-then-figure-least : goal.loop-q-preserved-then-figure-least
 loop-q-preserved-then-figure-least c = taken_less c.requires c.loop-q.invariant (omega arith)
@@ -22,4 +15,4 @@ loop-q-preserved c = taken_more c.requires c.loop-q.invariant (omega arith)
     c.candidate-figure.ensures c.if-figure-least.false
 
 pub returns : goal.returns
-returns c = search taken_end
+returns c = taken_end c.requires c.loop-q.invariant (omega arith)
