@@ -8,7 +8,7 @@ use Rattle.batching.specs.Least.{bench_start}
 use Rattle.batching.specs.Index.{least_at, open_at, closed_at}
 use Rattle.batching.specs.Caps.{finish_cap}
 use Rattle.batching.specs.Tables.{width, instance_in, closed_figure, ClosedFigurePre, ChooseBatchPre, CandidatePre}
-use Rattle.batching.specs.Recursion.{start_in_time, start_late, least_open_lem, open_last, open_more}
+use Rattle.batching.specs.Recursion.{start_in_time, start_late, least_opens, open_last, open_more}
 use Rattle.batching.specs.Bounds.{least_most}
 use Rattle.batching.specs.declared.input.Strips.{Strips}
 
@@ -83,4 +83,4 @@ module _ {x : Strips} {late row : List ℕ} {free i : ℕ} (P : ChooseBatchPre x
   pub least_end_is : {q least : ℕ} → LeastSoFar x free i q least → q ≤ i + 1 → least ≡ least_at (instance_in x) i free
   least_end_is {q} M k =
       let z : q ≡ i + 1 = omega (arith, M.from) in
-      (rw z at M.least_is) ∙ sym (least_open_lem (instance_in x) i free P.inside)
+      (rw z at M.least_is) ∙ sym (least_opens (instance_in x) i free P.inside)

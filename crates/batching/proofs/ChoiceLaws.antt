@@ -8,7 +8,7 @@ use Rattle.batching.specs.Least.{bench_start, finish_of}
 use Rattle.batching.specs.Chosen.{batch_of}
 use Rattle.batching.specs.Index.{closed_at, chosen_at, chosen_open_at}
 use Rattle.batching.specs.Tables.{instance_in, ChooseBatchPre, First}
-use Rattle.batching.specs.Recursion.{chosen_open_lem, chosen_last, chosen_close, chosen_extend}
+use Rattle.batching.specs.Recursion.{chosen_opens, chosen_last, chosen_close, chosen_extend}
 use Rattle.batching.proofs.CandidateLaws.{LeastSoFar, least_start, least_less, least_more, least_end_is}
 use Rattle.batching.specs.declared.input.Strips.{Strips}
 
@@ -64,7 +64,7 @@ module _ {x : Strips} {late row : List ℕ} {free i : ℕ} (P : ChooseBatchPre x
       let z : i + 1 ≡ q = omega (arith, M.so_far.from) in record {
         first = M.first;
         last = M.last;
-        taken = chosen_open_lem (instance_in x) i free P.inside ∙ ap (λ (p : ℕ). chosen_open_at (instance_in x) i p free) z ∙ M.batches;
+        taken = chosen_opens (instance_in x) i free P.inside ∙ ap (λ (p : ℕ). chosen_open_at (instance_in x) i p free) z ∙ M.batches;
         figure = least_end_is P M.so_far k;
         closed = M.figure;
       }

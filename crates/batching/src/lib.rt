@@ -57,19 +57,17 @@ impl Strips<'_> {
         requires { ChooseBatchPre self.now late.now row.now free i }
         ensures { First self.now free i result.last result.figure }
     {
-        let mut last = self.count;
-        let mut least = self.candidate(late, row, free, i, last);
+        let mut best = Choice {
+            last: self.count,
+            figure: self.candidate(late, row, free, i, self.count),
+        };
         for q in (i + 1..self.count).rev() {
             let figure = self.candidate(late, row, free, i, q);
-            if figure < least {
-                last = q;
-                least = figure;
+            if figure < best.figure {
+                best = Choice { last: q, figure };
             }
         }
-        Choice {
-            last,
-            figure: least,
-        }
+        best
     }
 
     // Turns the row of the block with one batch more into that of this one, in place: entries lo and up.

@@ -15,7 +15,7 @@ use Rattle.batching.specs.Index.{least_at, closed_at, chosen_at}
 use Rattle.mosaic.specs.Plan.{entry, batches_of, NoMore}
 use Rattle.batching.specs.Caps.{ready_cap, mount_cap, weights_cap, begin_cap}
 use Rattle.batching.specs.Tables.{instance_in, First}
-use Rattle.mosaic.specs.Tables.{Sized, AddBatchPre, Added, ChooseBatchesPre, BatchesTaken}
+use Rattle.mosaic.specs.Tables.{Sized, AddBatchPre, Added, BatchesTaken}
 use Rattle.batching.specs.Recursion.{least_end, chosen_end}
 use Rattle.mosaic.specs.declared.MosaicPlan.{MosaicPlan}
 use Rattle.batching.specs.Bounds.{least_most}
@@ -75,7 +75,7 @@ plan_added {plan} {weight} {finish} P last start = record {
   };
 }
 
-module _ {x : Strips} {late : List ℕ} (P : ChooseBatchesPre x late) where
+module _ {x : Strips} where
   pub plan_start : PlanSoFar x (record { figure = 0; batches = 0; last = replicate 40 0; start = replicate 40 0; finish = replicate 40 0 }) 0 0
   unfolding batches_of listed
   plan_start = record {
@@ -101,11 +101,11 @@ module _ {x : Strips} {late : List ℕ} (P : ChooseBatchesPre x late) where
         finish_most : begin + (get_or x.bench_sums.now q 0 - get_or x.bench_sums.now i 0) ≤ ready_cap + q * mount_cap + get_or x.bench_sums.now q 0
         finish_most = omega (arith, plan_sub, M.most_free_holds, C.first, x.input.most_ready j, x.input.most_mount)
 
-        finish_cap_lem : begin + (get_or x.bench_sums.now q 0 - get_or x.bench_sums.now i 0) ≤ begin_cap
-        finish_cap_lem = omega (arith, finish_most, C.last, x.input.most_strips_holds, x.input.most_sum q C.last)
+        finish_early : begin + (get_or x.bench_sums.now q 0 - get_or x.bench_sums.now i 0) ≤ begin_cap
+        finish_early = omega (arith, finish_most, C.last, x.input.most_strips_holds, x.input.most_sum q C.last)
 
         product_most : (get_or x.weight_sums.now q 0 - get_or x.weight_sums.now i 0) * (begin + (get_or x.bench_sums.now q 0 - get_or x.bench_sums.now i 0)) ≤ weights_cap * begin_cap
-        product_most = mul-le-mul {n₂ = weights_cap} {m₂ = begin_cap} (omega (arith, x.input.most_weights q C.last)) finish_cap_lem
+        product_most = mul-le-mul {n₂ = weights_cap} {m₂ = begin_cap} (omega (arith, x.input.most_weights q C.last)) finish_early
 
         pub plan_add : AddBatchPre plan (get_or x.weight_sums.now q 0 - get_or x.weight_sums.now i 0) (begin + (get_or x.bench_sums.now q 0 - get_or x.bench_sums.now i 0))
         plan_add = record {

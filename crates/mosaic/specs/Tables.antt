@@ -7,7 +7,7 @@ use Rattle.base.specs.Sums.{sum_after}
 use Rattle.sheet.specs.Sound.{MosaicSound}
 use Rattle.rules.specs.Mosaic.{station_sum, ready}
 use Rattle.batching.specs.Index.{least_at, chosen_at}
-use Rattle.batching.specs.Tables.{width, late_length, instance_in, LateFrom}
+use Rattle.batching.specs.Tables.{width, instance_in}
 use Rattle.batching.specs.declared.input.Strips.{Strips}
 use Rattle.mosaic.specs.Plan.{batches_of, NoMore}
 use Rattle.mosaic.specs.declared.MosaicPlan.{MosaicPlan}
@@ -31,11 +31,7 @@ pub record Added (plan : MosaicPlan) (weight last start finish : ℕ) (more : Mo
   pub batches : batches_of more ≡ batches_of plan ++ (record { last = last; start = start; finish = finish } ∷ [])
   pub no_more : NoMore plan → NoMore more
 
--- what `choose_batches` asks, and does
-pub record ChooseBatchesPre (x : Strips) (late : List ℕ) : Type 0 where
-  pub all : LateFrom x late 0
-  pub late_long : late_length ≤ length late
-
+-- what `choose_batches` does
 pub record BatchesTaken (x : Strips) (plan : MosaicPlan) : Type 0 where
   pub figure : plan.figure ≡ least_at (instance_in x) 0 0
   pub batches : batches_of plan ≡ chosen_at (instance_in x) 0 0

@@ -1,5 +1,6 @@
 // The batches taken, read out of the tables from the first strip on.
-ghost use Rattle.mosaic.specs.Tables.{AddBatchPre, Added, ChooseBatchesPre, BatchesTaken};
+ghost use Rattle.batching.specs.Tables.{LateFrom};
+ghost use Rattle.mosaic.specs.Tables.{AddBatchPre, Added, BatchesTaken};
 
 use crate::MosaicPlan;
 use batching::Strips;
@@ -21,7 +22,7 @@ fn add_batch(plan: MosaicPlan, weight: u64, last: u64, start: u64, finish: u64) 
 
 // The batches taken, each mounted as soon as the batch before has finished, and the sum of weighted completions.
 pub fn choose_batches(strips: &Strips<'_>, late: &[u64]) -> MosaicPlan
-    requires { ChooseBatchesPre strips.now late.now }
+    requires { LateFrom strips.now late.now 0 }
     ensures { BatchesTaken strips.now result }
 {
     let mut plan = MosaicPlan {

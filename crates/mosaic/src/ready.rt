@@ -7,7 +7,7 @@ use sheet::MosaicSection;
 use sheet::limits::MOST_STRIPS;
 
 // Puts the ready times off to when the strips are through station k, where that is later.
-fn wait_for_station(m: &MosaicSection, k: usize, times: &mut [u64; 40])
+fn wait_for_station(m: &MosaicSection, k: usize, times: &mut [u64; MOST_STRIPS])
     requires { WaitPre m.now k times.old }
     ensures { Waits m.now k times.old times.new }
 {
@@ -19,11 +19,11 @@ fn wait_for_station(m: &MosaicSection, k: usize, times: &mut [u64; 40])
 }
 
 // Entry j is when strip j + 1 is ready.
-pub fn ready_times(m: MosaicSection) -> [u64; 40]
+pub fn ready_times(m: MosaicSection) -> [u64; MOST_STRIPS]
     requires { MosaicSound m }
     ensures { ReadyTimes m result }
 {
-    let mut times = [0u64; 40];
+    let mut times = [0u64; MOST_STRIPS];
     for k in 0..m.stations {
         wait_for_station(&m, k, &mut times);
     }

@@ -3,4 +3,4 @@ use Rattle.batching.proofs.ChoiceLaws.{TakenSoFar}
 use Rattle.batching.proofs.input.Strips.choose_batch.Given as goal
 
 abbrev pub invariant-loop-q : goal.invariant-loop-q
-invariant-loop-q l = TakenSoFar l.self l.free l.i l.q l.last l.least
+invariant-loop-q l = TakenSoFar l.self l.free l.i l.q l.best.last l.best.figure
