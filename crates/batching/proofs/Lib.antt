@@ -4,4 +4,3 @@ mod RowLaws
 mod BlockLaws
 mod LateLaws
 mod ChoiceLaws
-mod FirstLaws

@@ -5,7 +5,7 @@ use Rattle.std.proofs.Math.Decide.{dec_lt}
 use Rattle.batching.specs.Least.{Instance, bench_start, finish_of}
 use Rattle.batching.specs.Chosen.{batch_of}
 use Rattle.batching.specs.Index.{least_at, open_at, closed_at, chosen_at, chosen_open_at}
-use Rattle.batching.specs.Recursion.{least_end, least_open_lem, open_last, open_more, chosen_end, chosen_open_lem, chosen_last, chosen_close, chosen_extend}
+use Rattle.batching.specs.Recursion.{least_end, least_opens, open_last, open_more, chosen_end, chosen_opens, chosen_last, chosen_close, chosen_extend}
 
 pub record Alike (x y : Instance) : Type 0 where
   pub strips : x.strips ≡ y.strips
@@ -47,7 +47,7 @@ module _ {x y : Instance} (A : Alike x y) where
       open_last x i q t (omega arith) ∙ closed_same i q t h (omega arith) (λ F. end_same q F (omega arith)) ∙ sym (open_last y i q t (omega (arith, A.strips)))
   open_same (suc d) i q t h k =
       let c = closed_same i q t h (omega arith)
-      (λ F. least_open_lem x q F (omega arith) ∙ open_same d q (q + 1) F (omega arith) (omega arith) ∙ sym (least_open_lem y q F (omega (arith, A.strips)))) in
+      (λ F. least_opens x q F (omega arith) ∙ open_same d q (q + 1) F (omega arith) (omega arith) ∙ sym (least_opens y q F (omega (arith, A.strips)))) in
       open_more x i q t (omega arith)
       ∙ omega (arith, c, open_same d i (q + 1) t (omega arith) (omega arith))
       ∙ sym (open_more y i q t (omega (arith, A.strips)))
@@ -55,7 +55,7 @@ module _ {x y : Instance} (A : Alike x y) where
   pub least_same : (i t : ℕ) → least_at x i t ≡ least_at y i t
   least_same i t = elim (dec_lt i x.strips) [
     | yes h ↦
-        least_open_lem x i t h ∙ open_same (x.strips - (i + 1)) i (i + 1) t (omega arith) (omega arith) ∙ sym (least_open_lem y i t (omega (arith, A.strips)))
+        least_opens x i t h ∙ open_same (x.strips - (i + 1)) i (i + 1) t (omega arith) (omega arith) ∙ sym (least_opens y i t (omega (arith, A.strips)))
     | no h ↦ end_same i t (omega arith)
   ]
 
@@ -73,7 +73,7 @@ module _ {x y : Instance} (A : Alike x y) where
         | yes z ↦
             chosen_close x i q t l z
             ∙ cons_same i q t h (omega arith)
-            (λ F. chosen_open_lem x q F l ∙ chosen_open_same d q (q + 1) F (omega arith) (omega arith) ∙ sym (chosen_open_lem y q F m))
+            (λ F. chosen_opens x q F l ∙ chosen_open_same d q (q + 1) F (omega arith) (omega arith) ∙ sym (chosen_opens y q F m))
             ∙ sym (chosen_close y i q t m (omega (arith, c, o, z)))
         | no z ↦
             chosen_extend x i q t l (omega arith) ∙ chosen_open_same d i (q + 1) t (omega arith) (omega arith)
@@ -83,8 +83,8 @@ module _ {x y : Instance} (A : Alike x y) where
   pub chosen_same : (i t : ℕ) → chosen_at x i t ≡ chosen_at y i t
   chosen_same i t = elim (dec_lt i x.strips) [
     | yes h ↦
-        chosen_open_lem x i t h
+        chosen_opens x i t h
         ∙ chosen_open_same (x.strips - (i + 1)) i (i + 1) t (omega arith) (omega arith)
-        ∙ sym (chosen_open_lem y i t (omega (arith, A.strips)))
+        ∙ sym (chosen_opens y i t (omega (arith, A.strips)))
     | no h ↦ chosen_end_same i t (omega arith)
   ]

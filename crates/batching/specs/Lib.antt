@@ -3,6 +3,7 @@ pub mod Least
 pub mod Chosen
 pub mod Index
 pub mod Caps
+pub mod Input
 pub mod Tables
 pub mod Recursion
 pub mod Bounds

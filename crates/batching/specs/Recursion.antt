@@ -42,9 +42,9 @@ module _ (x : Instance) where
       let e : x.strips - i ≡ 0 = omega arith in
       rw e
 
-  pub least_open_lem : (i t : ℕ) → i < x.strips → least_at x i t ≡ open_at x i (i + 1) t
+  pub least_opens : (i t : ℕ) → i < x.strips → least_at x i t ≡ open_at x i (i + 1) t
   unfolding least_at open_at least_from
-  least_open_lem i t h =
+  least_opens i t h =
       let e : x.strips - i ≡ suc (x.strips - (i + 1)) = omega arith in
       rw e
 
@@ -59,7 +59,7 @@ module _ (x : Instance) where
   unfolding open_at closed_at least_open finish_of
   open_more i q t h =
       let e : x.strips - q ≡ suc (x.strips - (q + 1)) = omega arith in
-      rw (e, least_open_lem q (bench_start x.mount t (x.ready q) + x.bench i q) h)
+      rw (e, least_opens q (bench_start x.mount t (x.ready q) + x.bench i q) h)
 
   pub chosen_end : (i t : ℕ) → x.strips ≤ i → chosen_at x i t ≡ []
   unfolding chosen_at chosen_from
@@ -67,9 +67,9 @@ module _ (x : Instance) where
       let e : x.strips - i ≡ 0 = omega arith in
       rw e
 
-  pub chosen_open_lem : (i t : ℕ) → i < x.strips → chosen_at x i t ≡ chosen_open_at x i (i + 1) t
+  pub chosen_opens : (i t : ℕ) → i < x.strips → chosen_at x i t ≡ chosen_open_at x i (i + 1) t
   unfolding chosen_at chosen_open_at chosen_from
-  chosen_open_lem i t h =
+  chosen_opens i t h =
       let e : x.strips - i ≡ suc (x.strips - (i + 1)) = omega arith in
       rw e
 
@@ -84,7 +84,7 @@ module _ (x : Instance) where
       → ltb (x.weight i q * finish_of x t i q + least_open x (x.strips - (q + 1)) q (q + 1) (finish_of x t i q)) (least_open x (x.strips - (q + 1)) i (q + 1) t)
       ≡ ltb (closed_at x (bench_start x.mount t (x.ready q)) i q) (open_at x i (q + 1) t)
   unfolding open_at closed_at finish_of
-  test_is i q t h = rw (least_open_lem q (bench_start x.mount t (x.ready q) + x.bench i q) h)
+  test_is i q t h = rw (least_opens q (bench_start x.mount t (x.ready q) + x.bench i q) h)
 
   pub chosen_close : (i q t : ℕ) → q < x.strips → closed_at x (bench_start x.mount t (x.ready q)) i q < open_at x i (q + 1) t
       → chosen_open_at x i q t ≡ batch_of x t i q ∷ chosen_at x q (finish_of x t i q)
@@ -92,7 +92,7 @@ module _ (x : Instance) where
   chosen_close i q t h k =
       let e : x.strips - q ≡ suc (x.strips - (q + 1)) = omega arith in
       let b = test_is i q t h ∙ lt-ltb _ _ k in
-      rw (e, b, chosen_open, chosen_open_lem q (finish_of x t i q) h)
+      rw (e, b, chosen_open, chosen_opens q (finish_of x t i q) h)
 
   pub chosen_extend : (i q t : ℕ) → q < x.strips → open_at x i (q + 1) t ≤ closed_at x (bench_start x.mount t (x.ready q)) i q
       → chosen_open_at x i q t ≡ chosen_open_at x i (q + 1) t
@@ -116,4 +116,4 @@ pub least_one : (x : Instance) (i t : ℕ) → i < x.strips → least_at x i t �
 unfolding open_at
 least_one x i t h =
     let e : i + 1 + (x.strips - (i + 1)) ≡ x.strips = omega arith in
-    rw (least_open_lem x i t h) (rw e at (open_one x (x.strips - (i + 1)) i (i + 1) t))
+    rw (least_opens x i t h) (rw e at (open_one x (x.strips - (i + 1)) i (i + 1) t))

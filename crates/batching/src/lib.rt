@@ -4,11 +4,15 @@
 // that waits.
 #![tactic(auto)]
 
-ghost use Rattle.std.specs.Prelude.{◌≡◌, ◌-◌, get_or};
+ghost use Rattle.std.specs.Prelude.{◌≡◌, ◌-◌, ◌≤◌, length, get_or};
 ghost use Rattle.batching.specs.Least.{bench_start};
 ghost use Rattle.batching.specs.Index.{closed_at};
-ghost use Rattle.batching.specs.Tables.{instance_in, closed_figure, ClosedFigurePre, CandidatePre, ChooseBatchPre, First, FillRowPre, RowFilled, FillBlockPre, FillLateAfterPre};
-ghost use Rattle.batching.specs.Tables.{LateAfter, FillLatePre, LateFilled, FirstBatchPre};
+ghost use Rattle.batching.specs.Tables.{instance_in, closed_figure, ClosedFigurePre, CandidatePre, ChooseBatchPre, First, FillRowPre, RowFilled, FillBlockPre};
+ghost use Rattle.batching.specs.Tables.{FillLateAfterPre, LateAfter, LateFilled, FirstBatchPre};
+
+mod input;
+
+pub use input::Strips;
 
 // The entries of a row, for the strips from 0 to 40, and of `late`, which has a row for each strip from 0 to 39.
 const WIDTH: usize = 41;
@@ -22,176 +26,103 @@ pub struct Choice {
     pub figure: u64,
 }
 
-// The figure of the batch of the strips after i up to q whose bench work starts at `begin`, with what the row has after it.
-fn closed_figure(sums: &[u64], weights: &[u64], row: &[u64], begin: u64, i: usize, q: usize) -> u64
-    requires { ClosedFigurePre sums.now weights.now row.now begin i q }
-    ensures { result ≡ closed_figure sums.now weights.now row.now begin i q }
-{
-    let finish = begin + (sums[q] - sums[i]);
-    let weight = weights[q] - weights[i];
-    weight * finish + row[q]
-}
-
-// The least figure of the strips after i where the bench is free at `free` and the first batch ends with strip q: in time, where that strip is ready when the
-// batch is mounted, or late.
-fn candidate(
-    rs: &[u64],
-    sums: &[u64],
-    weights: &[u64],
-    late: &[u64],
-    row: &[u64],
-    s: u64,
-    n: usize,
-    free: u64,
-    i: usize,
-    q: usize,
-) -> u64
-    requires { CandidatePre rs.now sums.now weights.now late.now row.now s n free i q }
-    ensures { result ≡ closed_at (instance_in rs.now sums.now weights.now s n) (bench_start s free (get_or rs.now (q - 1) 0)) i q }
-{
-    let mounted = free + s;
-    let ready = rs[q - 1];
-    if ready <= mounted {
-        closed_figure(sums, weights, row, mounted, i, q)
-    } else {
-        late[WIDTH * i + q]
+impl Strips<'_> {
+    // The figure of the batch of the strips after i up to q whose bench work starts at `begin`, with what the row has after it.
+    fn closed_figure(&self, row: &[u64], begin: u64, i: usize, q: usize) -> u64
+        requires { ClosedFigurePre self.now row.now begin i q }
+        ensures { result ≡ closed_figure self.now row.now begin i q }
+    {
+        let finish = begin + (self.bench_sums[q] - self.bench_sums[i]);
+        let weight = self.weight_sums[q] - self.weight_sums[i];
+        weight * finish + row[q]
     }
-}
 
-// The first batch taken after strip i where the bench is free at `free`, with the least figure of the strips after i.
-fn choose_batch(
-    rs: &[u64],
-    sums: &[u64],
-    weights: &[u64],
-    late: &[u64],
-    row: &[u64],
-    s: u64,
-    n: usize,
-    free: u64,
-    i: usize,
-) -> Choice
-    requires { ChooseBatchPre rs.now sums.now weights.now late.now row.now s n free i }
-    ensures { First rs.now sums.now weights.now s n free i result.last result.figure }
-{
-    let mut q = n;
-    let mut last = q;
-    let mut least = candidate(rs, sums, weights, late, row, s, n, free, i, q);
-    while i + 1 < q {
-        q -= 1;
-        let figure = candidate(rs, sums, weights, late, row, s, n, free, i, q);
-        if figure < least {
-            least = figure;
-            last = q;
+    // The least figure of the strips after i where the bench is free at `free` and the first batch ends with strip q: in time, where that strip is ready when
+    // the batch is mounted, or late.
+    fn candidate(&self, late: &[u64], row: &[u64], free: u64, i: usize, q: usize) -> u64
+        requires { CandidatePre self.now late.now row.now free i q }
+        ensures { result ≡ closed_at (instance_in self.now) (bench_start self.now.mount free (get_or self.now.ready.now (q - 1) 0)) i q }
+    {
+        let mounted = free + self.mount;
+        let ready = self.ready[q - 1];
+        if ready <= mounted {
+            self.closed_figure(row, mounted, i, q)
+        } else {
+            late[WIDTH * i + q]
         }
     }
-    Choice {
-        last,
-        figure: least,
-    }
-}
 
-// Turns the row of the block with one batch more into that of this one, in place: entries lo and up.
-fn fill_row(
-    rs: &[u64],
-    sums: &[u64],
-    weights: &[u64],
-    late: &[u64],
-    row: &mut [u64],
-    s: u64,
-    n: usize,
-    begin: u64,
-    i: usize,
-    lo: usize,
-)
-    requires { FillRowPre rs.now sums.now weights.now late.now row.old s n begin i lo }
-    ensures { RowFilled rs.now sums.now weights.now row.old row.new s n begin i lo }
-{
-    let mut p = lo;
-    while p < n {
-        let free = begin + (sums[p] - sums[i]);
-        let choice = choose_batch(rs, sums, weights, late, &*row, s, n, free, p);
-        row[p] = choice.figure;
-        p += 1;
+    // The first batch taken after strip i where the bench is free at `free`, with the least figure of the strips after i.
+    fn choose_batch(&self, late: &[u64], row: &[u64], free: u64, i: usize) -> Choice
+        requires { ChooseBatchPre self.now late.now row.now free i }
+        ensures { First self.now free i result.last result.figure }
+    {
+        let mut best = Choice {
+            last: self.count,
+            figure: self.candidate(late, row, free, i, self.count),
+        };
+        for q in (i + 1..self.count).rev() {
+            let figure = self.candidate(late, row, free, i, q);
+            if figure < best.figure {
+                best = Choice { last: q, figure };
+            }
+        }
+        best
     }
-}
 
-// The row of the block whose bench work starts at `begin` with the strip after i: entries lo and up.
-fn fill_block(
-    rs: &[u64],
-    sums: &[u64],
-    weights: &[u64],
-    late: &[u64],
-    row: &mut [u64],
-    s: u64,
-    n: usize,
-    begin: u64,
-    i: usize,
-    lo: usize,
-)
-    requires { FillBlockPre rs.now sums.now weights.now late.now row.old s n begin i lo }
-    ensures { RowFilled rs.now sums.now weights.now row.old row.new s n begin i lo }
-{
-    let mut p = n;
-    let mut at = begin + ((n - lo) as u64) * s;
-    row[n] = 0;
-    while lo < p {
-        p -= 1;
-        at -= s;
-        fill_row(rs, sums, weights, late, row, s, n, at, i, p);
+    // Turns the row of the block with one batch more into that of this one, in place: entries lo and up.
+    fn fill_row(&self, late: &[u64], row: &mut [u64], begin: u64, i: usize, lo: usize)
+        requires { FillRowPre self.now late.now row.old begin i lo }
+        ensures { RowFilled self.now row.old row.new begin i lo }
+    {
+        for p in lo..self.count {
+            let free = begin + (self.bench_sums[p] - self.bench_sums[i]);
+            row[p] = self.choose_batch(late, &*row, free, p).figure;
+        }
     }
-}
 
-// The entries of `late` for the batches of the strips after i.
-fn fill_late_after(
-    rs: &[u64],
-    sums: &[u64],
-    weights: &[u64],
-    late: &mut [u64],
-    row: &mut [u64],
-    s: u64,
-    n: usize,
-    i: usize,
-)
-    requires { FillLateAfterPre rs.now sums.now weights.now late.old row.old s n i }
-    ensures { LateAfter rs.now sums.now weights.now late.old late.new s n i }
-{
-    let mut q = i;
-    while q < n {
-        q += 1;
-        let begin = rs[q - 1];
-        fill_block(rs, sums, weights, &*late, row, s, n, begin, i, q);
-        late[WIDTH * i + q] = closed_figure(sums, weights, &*row, begin, i, q);
+    // The row of the block whose bench work starts at `begin` with the strip after i: entries lo and up.
+    fn fill_block(&self, late: &[u64], row: &mut [u64], begin: u64, i: usize, lo: usize)
+        requires { FillBlockPre self.now late.now row.old begin i lo }
+        ensures { RowFilled self.now row.old row.new begin i lo }
+    {
+        row[self.count] = 0;
+        for p in (lo..self.count).rev() {
+            let mounts = (p - lo) as u64;
+            self.fill_row(late, row, begin + mounts * self.mount, i, p);
+        }
     }
-}
 
-// The entries of `late` for all batches.
-pub fn fill_late(rs: &[u64], sums: &[u64], weights: &[u64], late: &mut [u64], s: u64, n: usize)
-    requires { FillLatePre rs.now sums.now weights.now late.old s n }
-    ensures { LateFilled rs.now sums.now weights.now late.old late.new s n }
-{
-    let mut row = [0u64; WIDTH];
-    let mut i = n;
-    while 0 < i {
-        i -= 1;
-        fill_late_after(rs, sums, weights, late, &mut row, s, n, i);
+    // The entries of `late` for the batches of the strips after i.
+    fn fill_late_after(&self, late: &mut [u64], row: &mut [u64], i: usize)
+        requires { FillLateAfterPre self.now late.old row.old i }
+        ensures { LateAfter self.now late.old late.new i }
+    {
+        for q in i + 1..=self.count {
+            let begin = self.ready[q - 1];
+            self.fill_block(&*late, row, begin, i, q);
+            late[WIDTH * i + q] = self.closed_figure(&*row, begin, i, q);
+        }
     }
-}
 
-// The first batch taken after strip i where the bench is free at `free`, out of `late` filled for the strips after i.
-pub fn first_batch(
-    rs: &[u64],
-    sums: &[u64],
-    weights: &[u64],
-    late: &[u64],
-    s: u64,
-    n: usize,
-    free: u64,
-    i: usize,
-) -> Choice
-    requires { FirstBatchPre rs.now sums.now weights.now late.now s n free i }
-    ensures { First rs.now sums.now weights.now s n free i result.last result.figure }
-{
-    let mut row = [0u64; WIDTH];
-    fill_block(rs, sums, weights, late, &mut row, s, n, free + s, i, i + 1);
-    choose_batch(rs, sums, weights, late, &row, s, n, free, i)
+    // The entries of `late` for all batches.
+    pub fn fill_late(&self, late: &mut [u64])
+        requires { LATE_LENGTH ≤ length late.old }
+        ensures { LateFilled self.now late.old late.new }
+    {
+        let mut row = [0u64; WIDTH];
+        for i in (0..self.count).rev() {
+            self.fill_late_after(late, &mut row, i);
+        }
+    }
+
+    // The first batch taken after strip i where the bench is free at `free`, out of `late` filled for the strips after i.
+    pub fn first_batch(&self, late: &[u64], free: u64, i: usize) -> Choice
+        requires { FirstBatchPre self.now late.now free i }
+        ensures { First self.now free i result.last result.figure }
+    {
+        let mut row = [0u64; WIDTH];
+        self.fill_block(late, &mut row, free + self.mount, i, i + 1);
+        self.choose_batch(late, &row, free, i)
+    }
 }

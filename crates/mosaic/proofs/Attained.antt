@@ -20,7 +20,7 @@ use Rattle.batching.specs.Least.{bench_start, finish_of}
 use Rattle.mosaic.specs.Least.{instance_of}
 use Rattle.batching.specs.Chosen.{batch_of}
 use Rattle.batching.specs.Index.{least_at, open_at, closed_at, chosen_at, chosen_open_at}
-use Rattle.batching.specs.Recursion.{least_end, least_one, least_open_lem, open_last, open_more, chosen_end, chosen_open_lem, chosen_last, chosen_close, chosen_extend}
+use Rattle.batching.specs.Recursion.{least_end, least_one, least_opens, open_last, open_more, chosen_end, chosen_opens, chosen_last, chosen_close, chosen_extend}
 use Rattle.mosaic.proofs.Finish.{earliest_lawful}
 use Rattle.mosaic.proofs.Rules.{bench_most, ready_most}
 use Rattle.mosaic.specs.Laws.Attained.{AsEarly, FinishBy, latest, Attains}
@@ -86,7 +86,7 @@ module _ {m : MosaicSection} (S : MosaicSound m) where
         | yes y ↦
             same (omega (arith, open_more x i q free less)) (chosen_close x i q free less y)
             (close i q free h (omega arith) l
-            (same (least_open_lem x q F less) (chosen_open_lem x q F less) (attains_open d q (q + 1) F (omega arith) (omega arith) (finish_most i q free h (omega arith) l))))
+            (same (least_opens x q F less) (chosen_opens x q F less) (attains_open d q (q + 1) F (omega arith) (omega arith) (finish_most i q free h (omega arith) l))))
         | no y ↦
             same (omega (arith, open_more x i q free less)) (chosen_extend x i q free less (omega arith))
             (attains_open d i (q + 1) free (omega arith) (omega arith) l)
@@ -97,7 +97,7 @@ module _ {m : MosaicSection} (S : MosaicSound m) where
   attains_at i free h l =
       let x = instance_of m in
       elim (dec_lt i m.strips) [
-        | yes y ↦ same (least_open_lem x i free y) (chosen_open_lem x i free y) (attains_open (m.strips - (i + 1)) i (i + 1) free (omega arith) (omega arith) l)
+        | yes y ↦ same (least_opens x i free y) (chosen_opens x i free y) (attains_open (m.strips - (i + 1)) i (i + 1) free (omega arith) (omega arith) l)
         | no y ↦ same (least_end x i free (omega arith)) (chosen_end x i free (omega arith)) (attains_none i free (omega arith))
       ]
 

@@ -1,7 +1,7 @@
 -- The batches are written one after another: those written, and those that the recursion takes after them, are those that it takes from the start.
 use mathlib.Core.Path.{◌≡◌, refl, ◌∙◌, sym}
 use mathlib.Core.List.{List, [], ◌∷◌, ◌++◌, append_assoc, append-nil}
-use Prim.Native.Nat.{ℕ, ◌+◌, ◌*◌, ◌-◌, ◌≤◌, ◌<◌, ◌^◌, max}
+use Prim.Native.Nat.{ℕ, ◌+◌, ◌*◌, ◌-◌, ◌≤◌, ◌<◌, max}
 use native.Mathlib.Nat.{mul-le-mul}
 use native.Mathlib.Numerals.{add-one}
 use native.Mathlib.Omega.{arith}
@@ -14,21 +14,22 @@ use Rattle.batching.specs.Chosen.{batch_of}
 use Rattle.batching.specs.Index.{least_at, closed_at, chosen_at}
 use Rattle.mosaic.specs.Plan.{entry, batches_of, NoMore}
 use Rattle.batching.specs.Caps.{ready_cap, mount_cap, weights_cap, begin_cap}
-use Rattle.batching.specs.Tables.{instance_in, FirstBatchPre, First}
-use Rattle.mosaic.specs.Tables.{Sized, AddBatchPre, Added, ChooseBatchesPre, BatchesTaken}
+use Rattle.batching.specs.Tables.{instance_in, First}
+use Rattle.mosaic.specs.Tables.{Sized, AddBatchPre, Added, BatchesTaken}
 use Rattle.batching.specs.Recursion.{least_end, chosen_end}
 use Rattle.mosaic.specs.declared.MosaicPlan.{MosaicPlan}
 use Rattle.batching.specs.Bounds.{least_most}
+use Rattle.batching.specs.declared.input.Strips.{Strips}
 
 -- the strips up to i are in the plan's batches, and the bench is free at `free`
-pub record PlanSoFar (rs sums weights : List ℕ) (s n : ℕ) (plan : MosaicPlan) (i free : ℕ) : Type 0 where
+pub record PlanSoFar (x : Strips) (plan : MosaicPlan) (i free : ℕ) : Type 0 where
   pub sized : Sized plan
   pub no_more : NoMore plan
   pub few : plan.batches ≤ i
-  pub to : i ≤ n
-  pub most_free_holds : free ≤ ready_cap + i * mount_cap + get_or sums i 0
-  pub figure_is : plan.figure + least_at (instance_in rs sums weights s n) i free ≡ least_at (instance_in rs sums weights s n) 0 0
-  pub batches : batches_of plan ++ chosen_at (instance_in rs sums weights s n) i free ≡ chosen_at (instance_in rs sums weights s n) 0 0
+  pub to : i ≤ x.count
+  pub most_free_holds : free ≤ ready_cap + i * mount_cap + get_or x.bench_sums.now i 0
+  pub figure_is : plan.figure + least_at (instance_in x) i free ≡ least_at (instance_in x) 0 0
+  pub batches : batches_of plan ++ chosen_at (instance_in x) i free ≡ chosen_at (instance_in x) 0 0
 
 -- a store at b changes none of the first b batches, and adds one
 kept : (last start finish : List ℕ) (b u v w k : ℕ) → k < b → entry (set last b u) (set start b v) (set finish b w) k ≡ entry last start finish k
@@ -74,8 +75,8 @@ plan_added {plan} {weight} {finish} P last start = record {
   };
 }
 
-module _ {rs sums weights late : List ℕ} {s n : ℕ} (P : ChooseBatchesPre rs sums weights late s n) where
-  pub plan_start : PlanSoFar rs sums weights s n (record { figure = 0; batches = 0; last = replicate 40 0; start = replicate 40 0; finish = replicate 40 0 }) 0 0
+module _ {x : Strips} where
+  pub plan_start : PlanSoFar x (record { figure = 0; batches = 0; last = replicate 40 0; start = replicate 40 0; finish = replicate 40 0 }) 0 0
   unfolding batches_of listed
   plan_start = record {
     sized = record { last = length-replicate {A = ℕ} 40 0; start = length-replicate {A = ℕ} 40 0; finish = length-replicate {A = ℕ} 40 0 };
@@ -87,66 +88,48 @@ module _ {rs sums weights late : List ℕ} {s n : ℕ} (P : ChooseBatchesPre rs 
     batches = refl;
   }
 
-  module _ {plan : MosaicPlan} {i free : ℕ} (M : PlanSoFar rs sums weights s n plan i free) (h : i < n) where
-    free_most : free + s ≤ begin_cap
-    free_most = omega (arith, M.most_free_holds, P.input.most_strips_holds, P.input.most_mount, P.input.most_sum i (omega arith))
+  module _ {plan : MosaicPlan} {i free : ℕ} (M : PlanSoFar x plan i free) (h : i < x.count) where
+    free_most : free + x.mount ≤ begin_cap
+    free_most = omega (arith, M.most_free_holds, x.input.most_strips_holds, x.input.most_mount, x.input.most_sum i (omega arith))
 
-    pub plan_mounted : free + s < 2 ^ 64
-    plan_mounted = omega (arith, free_most)
-
-    pub plan_first : FirstBatchPre rs sums weights late s n free i
-    plan_first = record {
-      input = P.input;
-      later = record { at = λ j q g k l. P.all.at j q (omega arith) k l };
-      late_long = P.late_long;
-      most_free_holds = free_most;
-      inside = h;
-    }
-
-    module _ {q least : ℕ} (C : First rs sums weights s n free i q least) where
-      pub plan_sub : get_or sums i 0 ≤ get_or sums q 0
-      plan_sub = P.input.rise i q (omega (arith, C.first)) C.last
-
-      pub plan_weight : get_or weights i 0 ≤ get_or weights q 0
-      plan_weight = P.input.weights_rise i q (omega (arith, C.first)) C.last
+    module _ {q least : ℕ} (C : First x free i q least) where
+      pub plan_sub : get_or x.bench_sums.now i 0 ≤ get_or x.bench_sums.now q 0
+      plan_sub = x.input.rise i q (omega (arith, C.first)) C.last
 
       -- bench work that waits for any strip is over early
-      module _ {begin : ℕ} (j : ℕ) (e : begin ≡ max (free + s) (get_or rs j 0)) where
-        finish_most : begin + (get_or sums q 0 - get_or sums i 0) ≤ ready_cap + q * mount_cap + get_or sums q 0
-        finish_most = omega (arith, plan_sub, M.most_free_holds, C.first, P.input.most_ready j, P.input.most_mount)
+      module _ {begin : ℕ} (j : ℕ) (e : begin ≡ max (free + x.mount) (get_or x.ready.now j 0)) where
+        finish_most : begin + (get_or x.bench_sums.now q 0 - get_or x.bench_sums.now i 0) ≤ ready_cap + q * mount_cap + get_or x.bench_sums.now q 0
+        finish_most = omega (arith, plan_sub, M.most_free_holds, C.first, x.input.most_ready j, x.input.most_mount)
 
-        finish_cap_lem : begin + (get_or sums q 0 - get_or sums i 0) ≤ begin_cap
-        finish_cap_lem = omega (arith, finish_most, C.last, P.input.most_strips_holds, P.input.most_sum q C.last)
+        finish_early : begin + (get_or x.bench_sums.now q 0 - get_or x.bench_sums.now i 0) ≤ begin_cap
+        finish_early = omega (arith, finish_most, C.last, x.input.most_strips_holds, x.input.most_sum q C.last)
 
-        pub plan_finish : begin + (get_or sums q 0 - get_or sums i 0) < 2 ^ 64
-        plan_finish = omega (arith, finish_cap_lem)
+        product_most : (get_or x.weight_sums.now q 0 - get_or x.weight_sums.now i 0) * (begin + (get_or x.bench_sums.now q 0 - get_or x.bench_sums.now i 0)) ≤ weights_cap * begin_cap
+        product_most = mul-le-mul {n₂ = weights_cap} {m₂ = begin_cap} (omega (arith, x.input.most_weights q C.last)) finish_early
 
-        product_most : (get_or weights q 0 - get_or weights i 0) * (begin + (get_or sums q 0 - get_or sums i 0)) ≤ weights_cap * begin_cap
-        product_most = mul-le-mul {n₂ = weights_cap} {m₂ = begin_cap} (omega (arith, P.input.most_weights q C.last)) finish_cap_lem
-
-        pub plan_add : AddBatchPre plan (get_or weights q 0 - get_or weights i 0) (begin + (get_or sums q 0 - get_or sums i 0))
+        pub plan_add : AddBatchPre plan (get_or x.weight_sums.now q 0 - get_or x.weight_sums.now i 0) (begin + (get_or x.bench_sums.now q 0 - get_or x.bench_sums.now i 0))
         plan_add = record {
           sized = M.sized;
-          few = omega (arith, M.few, P.input.most_strips_holds);
-          fits = omega (arith, M.figure_is, product_most, least_most P.input 0 0 (omega arith));
+          few = omega (arith, M.few, x.input.most_strips_holds);
+          fits = omega (arith, M.figure_is, product_most, least_most x 0 0 (omega arith));
         }
 
-      module _ {begin : ℕ} (e : begin ≡ max (free + s) (get_or rs (q - 1) 0)) where
-        least_is : least_at (instance_in rs sums weights s n) i free
-            ≡ (get_or weights q 0 - get_or weights i 0) * (begin + (get_or sums q 0 - get_or sums i 0)) + least_at (instance_in rs sums weights s n) q (begin + (get_or sums q 0 - get_or sums i 0))
+      module _ {begin : ℕ} (e : begin ≡ max (free + x.mount) (get_or x.ready.now (q - 1) 0)) where
+        least_is : least_at (instance_in x) i free
+            ≡ (get_or x.weight_sums.now q 0 - get_or x.weight_sums.now i 0) * (begin + (get_or x.bench_sums.now q 0 - get_or x.bench_sums.now i 0)) + least_at (instance_in x) q (begin + (get_or x.bench_sums.now q 0 - get_or x.bench_sums.now i 0))
         unfolding closed_at bench_start
         least_is = rw e (sym C.figure ∙ C.closed)
 
-        finish_is : finish_of (instance_in rs sums weights s n) free i q ≡ begin + (get_or sums q 0 - get_or sums i 0)
+        finish_is : finish_of (instance_in x) free i q ≡ begin + (get_or x.bench_sums.now q 0 - get_or x.bench_sums.now i 0)
         unfolding finish_of bench_start
         finish_is = rw e
 
-        batch_is : batch_of (instance_in rs sums weights s n) free i q ≡ record { last = q; start = free; finish = begin + (get_or sums q 0 - get_or sums i 0) }
+        batch_is : batch_of (instance_in x) free i q ≡ record { last = q; start = free; finish = begin + (get_or x.bench_sums.now q 0 - get_or x.bench_sums.now i 0) }
         unfolding batch_of
         batch_is = rw finish_is
 
-        pub plan_step : {more : MosaicPlan} → Added plan (get_or weights q 0 - get_or weights i 0) q free (begin + (get_or sums q 0 - get_or sums i 0)) more
-            → PlanSoFar rs sums weights s n more q (begin + (get_or sums q 0 - get_or sums i 0))
+        pub plan_step : {more : MosaicPlan} → Added plan (get_or x.weight_sums.now q 0 - get_or x.weight_sums.now i 0) q free (begin + (get_or x.bench_sums.now q 0 - get_or x.bench_sums.now i 0)) more
+            → PlanSoFar x more q (begin + (get_or x.bench_sums.now q 0 - get_or x.bench_sums.now i 0))
         plan_step A = record {
           sized = A.sized;
           no_more = A.no_more M.no_more;
@@ -157,9 +140,9 @@ module _ {rs sums weights late : List ℕ} {s n : ℕ} (P : ChooseBatchesPre rs 
           batches = rw (A.batches, append_assoc) (rw (← batch_is) (rw (C.taken, finish_is) at M.batches));
         }
 
-  pub plan_end : {plan : MosaicPlan} {i free : ℕ} → PlanSoFar rs sums weights s n plan i free → n ≤ i → BatchesTaken rs sums weights s n plan
+  pub plan_end : {plan : MosaicPlan} {i free : ℕ} → PlanSoFar x plan i free → x.count ≤ i → BatchesTaken x plan
   plan_end {plan = plan} {i} {free} M h = record {
-    figure = omega (arith, M.figure_is, least_end (instance_in rs sums weights s n) i free h);
-    batches = sym (append-nil (batches_of plan)) ∙ rw (chosen_end (instance_in rs sums weights s n) i free h) at M.batches;
+    figure = omega (arith, M.figure_is, least_end (instance_in x) i free h);
+    batches = sym (append-nil (batches_of plan)) ∙ rw (chosen_end (instance_in x) i free h) at M.batches;
     no_more = M.no_more;
   }

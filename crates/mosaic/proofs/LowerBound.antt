@@ -12,7 +12,7 @@ use Rattle.rules_laws.specs.MosaicRunning.{running_figure}
 use Rattle.batching.specs.Least.{Instance, bench_start, finish_of}
 use Rattle.mosaic.specs.Least.{instance_of}
 use Rattle.batching.specs.Index.{least_at, open_at, closed_at}
-use Rattle.batching.specs.Recursion.{least_mono, least_end, least_open_lem, open_last, open_more}
+use Rattle.batching.specs.Recursion.{least_mono, least_end, least_opens, open_last, open_more}
 use Rattle.mosaic.proofs.Finish.{finish_least}
 
 -- to close the open batch at strip q, or d strips further on, is a choice; F is a finish that is no earlier
@@ -38,7 +38,7 @@ module _ (x : Instance) where
   pub close_at : (i q t F : ℕ) → i < q → q ≤ x.strips → finish_of x t i q ≤ F → least_at x i t ≤ x.weight i q * F + least_at x q F
   close_at i q t F h k f =
       let e : i + 1 + (q - (i + 1)) ≡ q = omega arith in
-      rw (least_open_lem x i t (omega arith)) (rw e at (close_after (q - (i + 1)) i (i + 1) t F (omega arith) (rw e f)))
+      rw (least_opens x i t (omega arith)) (rw e at (close_after (q - (i + 1)) i (i + 1) t F (omega arith) (rw e f)))
 
 module _ {c : ℕ} (m : MosaicSection) where
   batch_cost_lem : (p b : Batch) → BatchFollowsUnder c m p b

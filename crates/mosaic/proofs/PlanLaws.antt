@@ -1,10 +1,10 @@
 -- The whole planner: the times read from a sound section are an input of the tables, and the instance that they give agrees with the section's.
-use mathlib.Core.Path.{◌≡◌, refl, ap, ◌∙◌, sym}
+use mathlib.Core.Path.{◌≡◌, ap, ◌∙◌, sym}
 use mathlib.Core.List.{List}
 use Prim.Native.Nat.{ℕ, ◌+◌, ◌-◌, ◌≤◌}
 use native.Mathlib.Decide.{dec_lt}
 use native.Mathlib.Omega.{arith}
-use lib.ListN.{length, get_or, replicate, length-replicate, get_or-eq_default}
+use lib.ListN.{length, get_or, get_or-eq_default}
 use Rattle.base.specs.Listed.{listed_length}
 use Rattle.sheet.specs.Limits.{most_strips, most_time, most_weight}
 use Rattle.sheet.specs.Sound.{MosaicSound}
@@ -14,8 +14,10 @@ use Rattle.mosaic.specs.Least.{instance_of}
 use Rattle.mosaic.specs.Chosen.{chosen_batches}
 use Rattle.mosaic.specs.Plan.{entry, batches_of, Planned}
 use Rattle.batching.specs.Caps.{ready_cap, bench_cap, weights_cap}
-use Rattle.batching.specs.Tables.{late_length, instance_in, Input, FillLatePre, LateFilled}
-use Rattle.mosaic.specs.Tables.{ChooseBatchesPre, BatchesTaken, ReadyTimes, PrefixSumsPre, PrefixSums}
+use Rattle.batching.specs.Input.{Input}
+use Rattle.batching.specs.Tables.{instance_in}
+use Rattle.batching.specs.declared.input.Strips.{Strips}
+use Rattle.mosaic.specs.Tables.{BatchesTaken, ReadyTimes, PrefixSums}
 use Rattle.running.specs.Running.{batch_weight}
 use Rattle.running.specs.FunctionLaws.{SetupTold}
 use Rattle.base.specs.SumLaws.{after_upto, after_most}
@@ -25,13 +27,7 @@ use Rattle.mosaic.proofs.Whole.{least_is, chosen_is}
 use Rattle.mosaic.proofs.Theorems.{mosaic_count}
 use Rattle.mosaic.specs.declared.MosaicPlan.{MosaicPlan}
 
--- the bench times and the weights may be added up
-pub bench_pre : {m : MosaicSection} → MosaicSound m → PrefixSumsPre m.bench
-bench_pre S = record { len = S.bench_length; most = S.most_bench }
-
-pub weight_pre : {m : MosaicSection} → MosaicSound m → PrefixSumsPre m.weight
-weight_pre S = record { len = S.weight_length; most = λ k. omega (arith, S.most_weight_holds k) }
-
+-- the times and weights of a section are an input of the tables
 module _ {m : MosaicSection} (S : MosaicSound m) {rs sums weights : List ℕ} (R : ReadyTimes m rs) (B : PrefixSums m.bench sums)
     (W : PrefixSums m.weight weights) {s : ℕ} (U : SetupTold m s) where
   most_ready : (j : ℕ) → get_or rs j 0 ≤ ready_cap
@@ -54,7 +50,7 @@ module _ {m : MosaicSection} (S : MosaicSound m) {rs sums weights : List ℕ} (R
   unfolding batch_weight
   weights_rise i q h k = omega (arith, W.at q k, W.at i (omega arith), after_upto m.weight i q h)
 
-  input_is : Input rs sums weights s m.strips
+  pub input_is : Input rs sums weights s m.strips
   input_is = record {
     most_strips_holds = S.most_strips_holds;
     ready_long = omega (arith, S.most_strips_holds, R.len);
@@ -68,27 +64,22 @@ module _ {m : MosaicSection} (S : MosaicSound m) {rs sums weights : List ℕ} (R
     weights_rise = λ i q h k. omega (arith, weights_rise i q h (omega (arith, S.most_strips_holds)));
   }
 
-  alike : Alike (instance_of m) (instance_in rs sums weights s m.strips)
+-- the strips that the tables are filled from are those of the section
+module _ {m : MosaicSection} (S : MosaicSound m) (x : Strips) (R : ReadyTimes m x.ready.now) (B : PrefixSums m.bench x.bench_sums.now)
+    (W : PrefixSums m.weight x.weight_sums.now) (U : SetupTold m x.mount) (C : x.count ≡ m.strips) where
+  alike : Alike (instance_of m) (instance_in x)
   unfolding instance_of
   alike = record {
-    strips = refl;
+    strips = sym C;
     mount = sym U.is;
     ready = λ q h k.
         let e : q - 1 + 1 ≡ q = omega arith in
         sym (R.at (q - 1) (omega (arith, S.most_strips_holds)) ∙ ap (ready m) e);
-    bench = λ i q h k. omega (arith, rise i q (omega arith) (omega (arith, S.most_strips_holds)));
-    weight = λ i q h k. omega (arith, weights_rise i q (omega arith) (omega (arith, S.most_strips_holds)));
+    bench = λ i q h k. omega (arith, rise S R B W U i q (omega arith) (omega (arith, S.most_strips_holds)));
+    weight = λ i q h k. omega (arith, weights_rise S R B W U i q (omega arith) (omega (arith, S.most_strips_holds)));
   }
 
-  -- `late` holds zeros before it is filled
-  pub late_pre : FillLatePre rs sums weights (replicate late_length 0) s m.strips
-  late_pre = record { input = input_is; late_long = omega (arith, length-replicate {A = ℕ} late_length 0) }
-
-  pub batches_pre : {late : List ℕ} → LateFilled rs sums weights (replicate late_length 0) late s m.strips
-      → ChooseBatchesPre rs sums weights late s m.strips
-  batches_pre L = record { input = input_is; all = L.all; late_long = omega (arith, L.len, length-replicate {A = ℕ} late_length 0) }
-
-  pub planned : {p : MosaicPlan} → BatchesTaken rs sums weights s m.strips p → Planned m p
+  pub planned : {p : MosaicPlan} → BatchesTaken x p → Planned m p
   unfolding batches_of
   planned {p} T =
       let e = T.batches ∙ sym (chosen_is m ∙ chosen_same alike 0 0) in

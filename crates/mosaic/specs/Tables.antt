@@ -1,12 +1,14 @@
--- What the mosaic's functions ask and do, said of the lists behind the slices. rs: ready times, strip q at q - 1. sums: bench times added up, those of the
--- first q strips at q. late: figures of the batches that wait for their last strip, as crate `batching` fills it.
-use Rattle.std.specs.Prelude.{◌≡◌, List, [], ◌∷◌, ◌++◌, ℕ, ◌+◌, ◌*◌, ◌≤◌, ◌<◌, ◌^◌, length, get_or}
+-- What the mosaic's functions ask and do, said of the lists behind the slices. x: the strips that are batched, as crate `batching` reads them. late: figures of
+-- the batches that wait for their last strip, as it fills it.
+use Rattle.std.specs.Prelude.{◌≡◌, List, [], ◌∷◌, ◌++◌, ℕ, ◌+◌, ◌*◌, ◌≤◌, ◌<◌, ◌^◌, max, length, get_or}
 use Rattle.sheet.specs.Limits.{most_strips, most_time}
 use Rattle.sheet.specs.declared.MosaicSection.{MosaicSection}
 use Rattle.base.specs.Sums.{sum_after}
-use Rattle.rules.specs.Mosaic.{ready}
+use Rattle.sheet.specs.Sound.{MosaicSound}
+use Rattle.rules.specs.Mosaic.{station_sum, ready}
 use Rattle.batching.specs.Index.{least_at, chosen_at}
-use Rattle.batching.specs.Tables.{width, late_length, instance_in, Input, LateFrom}
+use Rattle.batching.specs.Tables.{width, instance_in}
+use Rattle.batching.specs.declared.input.Strips.{Strips}
 use Rattle.mosaic.specs.Plan.{batches_of, NoMore}
 use Rattle.mosaic.specs.declared.MosaicPlan.{MosaicPlan}
 
@@ -29,21 +31,26 @@ pub record Added (plan : MosaicPlan) (weight last start finish : ℕ) (more : Mo
   pub batches : batches_of more ≡ batches_of plan ++ (record { last = last; start = start; finish = finish } ∷ [])
   pub no_more : NoMore plan → NoMore more
 
--- what `choose_batches` asks, and does
-pub record ChooseBatchesPre (rs sums weights late : List ℕ) (s n : ℕ) : Type 0 where
-  pub input : Input rs sums weights s n
-  pub all : LateFrom rs sums weights late s n 0
-  pub late_long : late_length ≤ length late
-
-pub record BatchesTaken (rs sums weights : List ℕ) (s n : ℕ) (plan : MosaicPlan) : Type 0 where
-  pub figure : plan.figure ≡ least_at (instance_in rs sums weights s n) 0 0
-  pub batches : batches_of plan ≡ chosen_at (instance_in rs sums weights s n) 0 0
+-- what `choose_batches` does
+pub record BatchesTaken (x : Strips) (plan : MosaicPlan) : Type 0 where
+  pub figure : plan.figure ≡ least_at (instance_in x) 0 0
+  pub batches : batches_of plan ≡ chosen_at (instance_in x) 0 0
   pub no_more : NoMore plan
 
 -- what `ready_times` gives: every entry
 pub record ReadyTimes (m : MosaicSection) (rs : List ℕ) : Type 0 where
   pub len : length rs ≡ most_strips
   pub at : (j : ℕ) → j < most_strips → get_or rs j 0 ≡ ready m (j + 1)
+
+-- what `wait_for_station` asks, and does: every entry
+pub record WaitPre (m : MosaicSection) (k : ℕ) (times : List ℕ) : Type 0 where
+  pub sound : MosaicSound m
+  pub station : k < m.stations
+  pub len : length times ≡ most_strips
+
+pub record Waits (m : MosaicSection) (k : ℕ) (times₀ times₁ : List ℕ) : Type 0 where
+  pub len : length times₁ ≡ most_strips
+  pub at : (j : ℕ) → j < most_strips → get_or times₁ j 0 ≡ max (get_or times₀ j 0) (station_sum m k (j + 1))
 
 -- what `prefix_sums` asks of its values, and what it gives: every entry
 pub record PrefixSumsPre (values : List ℕ) : Type 0 where

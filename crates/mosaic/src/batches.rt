@@ -1,9 +1,9 @@
 // The batches taken, read out of the tables from the first strip on.
-ghost use Rattle.mosaic.specs.Tables.{AddBatchPre, Added, ChooseBatchesPre, BatchesTaken};
+ghost use Rattle.batching.specs.Tables.{LateFrom};
+ghost use Rattle.mosaic.specs.Tables.{AddBatchPre, Added, BatchesTaken};
 
 use crate::MosaicPlan;
-use base::greater;
-use batching::first_batch;
+use batching::Strips;
 
 // The plan with one batch more, of a weight.
 fn add_batch(plan: MosaicPlan, weight: u64, last: u64, start: u64, finish: u64) -> MosaicPlan
@@ -21,16 +21,9 @@ fn add_batch(plan: MosaicPlan, weight: u64, last: u64, start: u64, finish: u64) 
 }
 
 // The batches taken, each mounted as soon as the batch before has finished, and the sum of weighted completions.
-pub fn choose_batches(
-    rs: &[u64],
-    sums: &[u64],
-    weights: &[u64],
-    late: &[u64],
-    s: u64,
-    n: usize,
-) -> MosaicPlan
-    requires { ChooseBatchesPre rs.now sums.now weights.now late.now s n }
-    ensures { BatchesTaken rs.now sums.now weights.now s n result }
+pub fn choose_batches(strips: &Strips<'_>, late: &[u64]) -> MosaicPlan
+    requires { LateFrom strips.now late.now 0 }
+    ensures { BatchesTaken strips.now result }
 {
     let mut plan = MosaicPlan {
         figure: 0,
@@ -41,13 +34,12 @@ pub fn choose_batches(
     };
     let mut i = 0;
     let mut free = 0;
-    while i < n {
-        let choice = first_batch(rs, sums, weights, late, s, n, free, i);
-        let q = choice.last;
-        let mounted = free + s;
-        let begin = greater(mounted, rs[q - 1]);
-        let finish = begin + (sums[q] - sums[i]);
-        let weight = weights[q] - weights[i];
+    while i < strips.count {
+        let q = strips.first_batch(late, free, i).last;
+        let mounted = free + strips.mount;
+        let begin = mounted.max(strips.ready[q - 1]);
+        let finish = begin + (strips.bench_sums[q] - strips.bench_sums[i]);
+        let weight = strips.weight_sums[q] - strips.weight_sums[i];
         plan = add_batch(plan, weight, q as u64, free, finish);
         i = q;
         free = finish;

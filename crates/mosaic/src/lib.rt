@@ -8,6 +8,7 @@ ghost use Rattle.mosaic.specs.Plan.{Planned};
 mod batches;
 mod ready;
 
+use batching::{LATE_LENGTH, Strips};
 use running::mosaic::setup_time;
 use sheet::MosaicSection;
 
@@ -26,14 +27,17 @@ pub fn plan_mosaic(m: MosaicSection) -> MosaicPlan
     requires { MosaicSound m }
     ensures { Planned m result }
 {
-    let n = m.strips;
-    let s = setup_time(m);
-    let rs = ready::ready_times(m);
-    let bench = m.bench;
-    let sums = ready::prefix_sums(&bench);
-    let weight = m.weight;
-    let weights = ready::prefix_sums(&weight);
-    let mut late = [0u64; batching::LATE_LENGTH];
-    batching::fill_late(&rs, &sums, &weights, &mut late, s, n);
-    batches::choose_batches(&rs, &sums, &weights, &late, s, n)
+    let ready = ready::ready_times(m);
+    let bench_sums = ready::prefix_sums(&m.bench);
+    let weight_sums = ready::prefix_sums(&m.weight);
+    let strips = Strips {
+        ready: &ready,
+        bench_sums: &bench_sums,
+        weight_sums: &weight_sums,
+        mount: setup_time(m),
+        count: m.strips,
+    };
+    let mut late = [0u64; LATE_LENGTH];
+    strips.fill_late(&mut late);
+    batches::choose_batches(&strips, &late)
 }

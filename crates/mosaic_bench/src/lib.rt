@@ -21,16 +21,13 @@ pub extern "C" fn mosaic_best(
     requires { MosaicSound (section_of stations mount strips station.now bench.now weight.now) }
     ensures { result ≡ least_figure (section_of stations mount strips station.now bench.now weight.now) }
 {
-    let times = *station;
-    let benches = *bench;
-    let weights = *weight;
     let m = MosaicSection {
         stations: stations,
         mount: mount,
         strips: strips,
-        station: times,
-        bench: benches,
-        weight: weights,
+        station: *station,
+        bench: *bench,
+        weight: *weight,
     };
     let plan = mosaic::plan_mosaic(m);
     plan.figure

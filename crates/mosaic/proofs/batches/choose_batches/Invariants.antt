@@ -4,7 +4,7 @@ use Rattle.mosaic.proofs.BatchLaws.{PlanSoFar}
 use Rattle.mosaic.proofs.batches.choose_batches.Given as goal
 
 abbrev pub invariant-loop-i : goal.invariant-loop-i
-invariant-loop-i l = PlanSoFar l.rs l.sums l.weights l.s l.n l.plan l.i l.free
+invariant-loop-i l = PlanSoFar l.strips l.plan l.i l.free
 
 abbrev pub decreases-loop-i : goal.decreases-loop-i
-decreases-loop-i l = l.n - l.i
+decreases-loop-i l = l.strips.count - l.i

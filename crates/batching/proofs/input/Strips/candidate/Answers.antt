@@ -1,6 +1,6 @@
 -- `candidate` meets its contract: the row has what follows a batch that is in time, and the other table the figure of one that is late.
 use Rattle.batching.proofs.CandidateLaws.{candidate_closed, candidate_in_time, candidate_late}
-use Rattle.batching.proofs.candidate.Goals as goal
+use Rattle.batching.proofs.input.Strips.candidate.Goals as goal
 
 pub closed_figure-requires : goal.closed_figure-requires
 closed_figure-requires c = search candidate_closed

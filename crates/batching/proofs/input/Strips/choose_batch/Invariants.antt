@@ -1,9 +1,6 @@
 -- `choose_batch` meets its contract. Invariant: of the candidates from n down to q, the one taken is the one that the recursion takes.
 use Rattle.batching.proofs.ChoiceLaws.{TakenSoFar}
-use Rattle.batching.proofs.choose_batch.Given as goal
+use Rattle.batching.proofs.input.Strips.choose_batch.Given as goal
 
 abbrev pub invariant-loop-q : goal.invariant-loop-q
-invariant-loop-q l = TakenSoFar l.rs l.sums l.weights l.s l.n l.free l.i l.q l.last l.least
-
-abbrev pub decreases-loop-q : goal.decreases-loop-q
-decreases-loop-q l = l.q
+invariant-loop-q l = TakenSoFar l.self l.free l.i l.q l.best.last l.best.figure
