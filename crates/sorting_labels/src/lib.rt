@@ -12,7 +12,7 @@ use interleaving::State;
 use sorting_bounds::LABELS_LENGTH;
 
 // A number that no label has.
-const NO_LABEL: u64 = 18_446_744_073_709_551_615;
+const NO_LABEL: u64 = u64::MAX;
 
 // The number of the count vector of s.
 #[tactic(auto, using(sorting_bounds::specs::Layout::key_digits))]
