@@ -1,12 +1,12 @@
 -- What keeps the sums of a state and of a step within 64 bits, and that a step keeps it.
-use Rattle.std.specs.Prelude.{◌≡◌, List, ℕ, suc, ◌+◌, ◌-◌, ◌*◌, ◌^◌, ◌≤◌, ◌<◌, max, set}
+use Rattle.std.specs.Prelude.{◌≡◌, List, ℕ, suc, ◌+◌, ◌-◌, ◌*◌, ◌^◌, ◌≤◌, ◌<◌, set}
 use Rattle.std.proofs.Common.{le_trans, lt_of_lt_of_le, pow-suc, mul-le-mul_right, arith, get_or-set_other}
 use Rattle.std.proofs.Math.Nat.{pow-le-pow_right}
 use Rattle.std.proofs.Math.Decide.{ℕ_discrete}
 use Rattle.std.proofs.Math.ListN.{get_or, length-set}
 use Rattle.std.proofs.Math.Seq.{get_or-set_same}
 use Rattle.interleaving.specs.declared.State.{State}
-use Rattle.interleaving.specs.Instance.{Instance, desk_capped, scan_of, desk_of, weight_of, time_cap, weight_cap, strip_span}
+use Rattle.interleaving.specs.Instance.{Instance, desk_capped, scan_of, desk_of, weight_of, time_cap, strip_span}
 use Rattle.interleaving.specs.Instance.{strips_cap, free_cap, strip_cost}
 use Rattle.interleaving.specs.Search.{StripLeft, scanned, finish, step_of}
 use Rattle.interleaving.proofs.SearchLaws.{max_least}
@@ -70,11 +70,3 @@ module _ (J : List ℕ) (j : Instance J) (s : State) (f : Capped s) (d : ℕ) (p
 
 pub step_pre_capped : {J : List ℕ} {s : State} {d : ℕ} → StepPre J s d → StepCapped J s d
 step_pre_capped {J} {s} {d} h = step_capped J h.jobs s h.capped d h.desk h.strip h.left
-
--- the greater of two times that are capped, and the cost of a strip that starts there
-pub greater_capped : (a b m : ℕ) → m ≡ max a b → a ≤ free_cap → b ≤ free_cap → m ≤ free_cap
-greater_capped a b m e p q = rw e (max_least a b free_cap p q)
-
-pub weighted_capped : {J : List ℕ} {s : State} {d : ℕ} → StepCapped J s d → (m : ℕ) → m ≤ free_cap
-    → weight_of J d (get_or s.taken d 0) * (m + desk_of J d (get_or s.taken d 0)) ≤ weight_cap * (free_cap + time_cap)
-weighted_capped {J} {s} {d} h m l = le_trans (mul-le-mul_right (m + desk_of J d (get_or s.taken d 0)) h.weight) (omega (arith, h.desk))

@@ -1,17 +1,16 @@
 -- Laws of the search. It never worsens its incumbent; what it returns bounds what it searched; and an incumbent that bounds a state from below stays, which is
 -- what every cut asks.
-use Rattle.std.specs.Prelude.{◌≡◌, cond, List, ltb, set}
+use Rattle.std.specs.Prelude.{◌≡◌, cond, List, ltb}
 use Rattle.std.proofs.Math.Path.{refl, sym, ap}
 use Rattle.std.proofs.Common.{◌∙◌, add-one, lt-ltb, le-ltb}
-use Prim.Native.Nat.{ℕ, zero, suc, ◌+◌, ◌-◌, ◌*◌, ◌≤◌, ◌<◌, max}
+use Prim.Native.Nat.{ℕ, zero, suc, ◌+◌, ◌-◌, ◌≤◌, ◌<◌, max}
 use Rattle.std.proofs.Math.Nat.{le_refl, le_trans}
 use Rattle.std.proofs.Math.Decide.{dec_lt, ℕ_discrete}
 use native.Mathlib.Omega.{arith}
 use Rattle.std.proofs.Math.ListN.{get_or}
 use Rattle.interleaving.specs.declared.State.{State}
 use Rattle.interleaving.specs.declared.Incumbent.{Incumbent}
-use Rattle.interleaving.specs.Instance.{desk_of, weight_of}
-use Rattle.interleaving.specs.Search.{StripLeft, scanned, step_of, keep, over_desks, branch, search_from, LowerBound}
+use Rattle.interleaving.specs.Search.{StripLeft, step_of, keep, over_desks, branch, search_from, LowerBound}
 
 -- the greater of two
 pub max_left : (a b : ℕ) → a ≤ max a b
@@ -146,14 +145,3 @@ module _ (J : List ℕ) where
 
       e : s.left ≡ suc (s.left - 1)
       e = omega arith
-
-pub step_is : (J : List ℕ) (s : State) (d m : ℕ) → m ≡ max (get_or s.free d 0) (scanned J s d) → record {
-  left = s.left - 1;
-  time = scanned J s d;
-  cost = s.cost + weight_of J d (get_or s.taken d 0) * (m + desk_of J d (get_or s.taken d 0));
-  path = s.path * 4 + d + 1;
-  free = set s.free d (m + desk_of J d (get_or s.taken d 0));
-  taken = set s.taken d (get_or s.taken d 0 + 1);
-} ≡ step_of J s d
-unfolding step_of
-step_is J s d m e = rw e

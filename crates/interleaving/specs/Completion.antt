@@ -1,7 +1,6 @@
 -- What the search returns is a completion, and the first of the best: its list's number is the least among those of its figure.
-use Rattle.std.specs.Prelude.{◌≡◌, List, ◌⊎◌}
-use Rattle.std.proofs.Common.{◌∙◌}
-use Prim.Native.Nat.{ℕ, ◌+◌, ◌*◌, ◌^◌, ◌≤◌, ◌<◌}
+use Rattle.std.specs.Prelude.{◌≡◌, List}
+use Prim.Native.Nat.{ℕ, ◌≤◌}
 use Rattle.interleaving.specs.declared.State.{State}
 use Rattle.interleaving.specs.declared.Incumbent.{Incumbent}
 use Rattle.interleaving.specs.Search.{Completes}

@@ -20,7 +20,7 @@ instance_length = 57
 abbrev pub largest : ℕ
 largest = 18_446_744_073_709_551_615
 
--- What keeps every sum of the search within 64 bits: no time above timeCap, no weight above weightCap, at most 6 strips to each of 3 desks. The other caps
+-- What keeps every sum of the search within 64 bits: no time above `time_cap`, no weight above `weight_cap`, at most 6 strips to each of 3 desks. The other caps
 -- follow from these four. src/caps.rt states for the code those that it uses.
 abbrev pub time_cap : ℕ
 time_cap = 2 ^ 20

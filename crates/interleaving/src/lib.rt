@@ -3,8 +3,8 @@
 // strips of each desk, then scan times, desk times and weights, six to a desk (specs/Instance.antt). Desks and strips are counted from 0.
 #![tactic(auto)]
 
-ghost use Rattle.std.specs.Prelude.{◌≡◌, ◌<◌, get_or, ltb};
-ghost use Rattle.interleaving.specs.Instance.{Instance};
+ghost use Rattle.std.specs.Prelude.{◌≡◌, ◌+◌, ◌*◌, ◌<◌, get_or, length, ltb};
+ghost use Rattle.interleaving.specs.Instance.{Instance, instance_length, scan_of, desk_of, weight_of};
 ghost use Rattle.interleaving.specs.Search.{step_of, keep, start_state};
 ghost use Rattle.interleaving.specs.Caps.{StepPre};
 
@@ -29,39 +29,58 @@ pub struct Incumbent {
     pub path: u64,
 }
 
+// The scan time of strip i of desk d.
+pub fn scan_time(jobs: &[u64], d: usize, i: usize) -> u64
+    requires { (length jobs.now ≡ instance_length) × (d < 3) × (i < 6) }
+    ensures { result ≡ scan_of jobs.now d i }
+{
+    jobs[3 + (d * 6 + i)]
+}
+
+// The desk time of strip i of desk d.
+pub fn desk_time(jobs: &[u64], d: usize, i: usize) -> u64
+    requires { (length jobs.now ≡ instance_length) × (d < 3) × (i < 6) }
+    ensures { result ≡ desk_of jobs.now d i }
+{
+    jobs[3 + (d * 6 + i) + 18]
+}
+
+// The weight of strip i of desk d.
+pub fn weight(jobs: &[u64], d: usize, i: usize) -> u64
+    requires { (length jobs.now ≡ instance_length) × (d < 3) × (i < 6) }
+    ensures { result ≡ weight_of jobs.now d i }
+{
+    jobs[3 + (d * 6 + i) + 36]
+}
+
 // Whether desk d has a strip left.
 pub fn strip_left(jobs: &[u64], s: State, d: usize) -> bool
     requires { Instance jobs.now × (d < 3) }
     ensures { result ≡ ltb (get_or s.taken d 0) (get_or jobs.now d 0) }
 {
-    let taken = s.taken;
-    (taken[d] as u64) < jobs[d]
+    (s.taken[d] as u64) < jobs[d]
 }
 
 // The state after the next strip of desk d is scanned and done, each as early as it can be.
-pub fn step(jobs: &[u64], s: State, d: usize) -> State
+#[tactic(auto, using(crate::proofs::CapLaws::step_pre_capped), unfolding(crate::specs::Search::step_of))]
+pub fn step(jobs: &[u64], mut s: State, d: usize) -> State
     requires { StepPre jobs.now s d }
     ensures { result ≡ step_of jobs.now s d }
 {
-    let mut free = s.free;
-    let mut taken = s.taken;
-    let i = taken[d];
-    let at = 3 + (d * 6 + i);
-    let scanned = s.time + jobs[at];
-    let done = base::greater(free[d], scanned) + jobs[at + 18];
-    free[d] = done;
-    taken[d] = i + 1;
-    State {
-        left: s.left - 1,
-        time: scanned,
-        cost: s.cost + jobs[at + 36] * done,
-        path: s.path * 4 + (d as u64) + 1,
-        free: free,
-        taken: taken,
-    }
+    let i = s.taken[d];
+    let scanned = s.time + scan_time(jobs, d, i);
+    let done = s.free[d].max(scanned) + desk_time(jobs, d, i);
+    s.left -= 1;
+    s.time = scanned;
+    s.cost += weight(jobs, d, i) * done;
+    s.path = s.path * 4 + (d as u64) + 1;
+    s.free[d] = done;
+    s.taken[d] = i + 1;
+    s
 }
 
 // The better of an incumbent and a complete state: the incumbent where they are equal.
+#[tactic(auto, unfolding(crate::specs::Search::keep))]
 pub fn keep_better(s: State, b: Incumbent) -> Incumbent
     ensures { result ≡ keep s b }
 {
@@ -72,18 +91,17 @@ pub fn keep_better(s: State, b: Incumbent) -> Incumbent
     if s.cost < b.figure { found } else { b }
 }
 
+#[tactic(auto, using(crate::proofs::Consistent::start_sum), unfolding(crate::specs::Search::start_state))]
 pub fn start_state(jobs: &[u64]) -> State
     requires { Instance jobs.now }
     ensures { result ≡ start_state jobs.now }
 {
-    let free = [0u64; 3];
-    let taken = [0usize; 3];
     State {
         left: (jobs[0] + jobs[1] + jobs[2]) as usize,
         time: 0,
         cost: 0,
         path: 0,
-        free: free,
-        taken: taken,
+        free: [0; 3],
+        taken: [0; 3],
     }
 }

@@ -88,46 +88,43 @@ module _ (J : List ℕ) (j : Instance J) where
       less : s.left - 1 ≡ k
       less = omega arith
 
-module _ (J : List ℕ) (j : Instance J) (s : State) (g : Consistent J s) (d : ℕ) (p : d < 3) where
-  pub rest_none : RestSoFar J (alone_sum J d (get_or J d 0 - get_or s.taken d 0) (get_or s.taken d 0) s.time (get_or s.free d 0)) d (get_or s.taken d 0)
-      s.time (get_or s.free d 0) 0
-  rest_none = record {
-    within = g.within d p;
-    six = j.few d p;
-    size = j.size;
-    time = omega (arith, g.fits.time);
-    free = omega (arith, g.fits.free d);
-    sums = omega arith;
-    is = omega arith;
-  }
+-- the loop over a desk's strips: its start, one strip of it, and its end
+pub rest_none : {J : List ℕ} {s : State} {d : ℕ} → Instance J → Consistent J s → d < 3 → RestSoFar J (desk_rest J s d) d (get_or s.taken d 0) s.time (get_or s.free d 0) 0
+unfolding desk_rest
+rest_none {J} {s} {d} j g p = record {
+  within = g.within d p;
+  six = j.few d p;
+  size = j.size;
+  time = omega (arith, g.fits.time);
+  free = omega (arith, g.fits.free d);
+  sums = omega arith;
+  is = omega arith;
+}
 
-module _ (J : List ℕ) (j : Instance J) (z d : ℕ) where
-  module _ (i t f sum : ℕ) (h : RestSoFar J z d i t f sum) (l : i < get_or J d 0) where
-    pub strip_small : (scan_of J d i ≤ time_cap) × (desk_of J d i ≤ time_cap)
-    strip_small = (j.small (d * 6 + i), desk_capped j d i)
+pub rest_more : {J : List ℕ} {z d i t f sum x v y w : ℕ} → Instance J → RestSoFar J z d i t f sum → i < get_or J d 0 → x ≡ scan_of J d i → v ≡ max f (t + x)
+    → y ≡ desk_of J d i → w ≡ weight_of J d i → RestSoFar J z d (i + 1) (t + x) (v + y) (sum + w * (v + y))
+rest_more {J} {z} {d} {i} {t} {f} {sum} {x} {v} {y} {w} j h l p q r u = rw (u, r, q, p) (record {
+  within = omega arith;
+  six = h.six;
+  size = h.size;
+  time = omega (arith, h.time, scan_small);
+  free = omega (arith, greater_small, desk_small);
+  sums = omega (arith, h.sums, weighted_small);
+  is = omega (arith, h.is, alone_one J d (get_or J d 0) i t f l);
+})
+  where
+    scan_small : scan_of J d i ≤ time_cap
+    scan_small = j.small (d * 6 + i)
 
-    pub greater_small : max f (t + scan_of J d i) ≤ free_cap + i * strip_span + time_cap
-    greater_small = max_least f (t + scan_of J d i) _ (omega (arith, h.free)) (omega (arith, h.time, strip_small))
+    desk_small : desk_of J d i ≤ time_cap
+    desk_small = desk_capped j d i
 
-    pub weighted_small : (v : ℕ) → v ≡ max f (t + scan_of J d i) → weight_of J d i * (v + desk_of J d i) ≤ rest_span
-    weighted_small v q = le_trans (mul-le-mul_right (v + desk_of J d i) (j.light (d * 6 + i))) (omega (arith, q, h.six, greater_small, strip_small))
+    greater_small : max f (t + scan_of J d i) ≤ free_cap + i * strip_span + time_cap
+    greater_small = max_least f (t + scan_of J d i) _ (omega (arith, h.free)) (omega (arith, h.time, scan_small))
 
-    pub rest_more : (u v : ℕ) → u ≡ t + scan_of J d i → v ≡ max f u → RestSoFar J z d (i + 1) u (v + desk_of J d i) (sum + weight_of J d i * (v + desk_of J d i))
-    rest_more u v e w = record {
-      within = omega arith;
-      six = h.six;
-      size = h.size;
-      time = omega (arith, h.time, strip_small);
-      free = omega (arith, q, greater_small, strip_small);
-      sums = omega (arith, h.sums, weighted_small v q);
-      is = rw (q, e) (omega (arith, h.is, alone_one J d (get_or J d 0) i t f l));
-    }
-      where
-        q : v ≡ max f (t + scan_of J d i)
-        q = w ∙ ap (max f) e
+    weighted_small : weight_of J d i * (max f (t + scan_of J d i) + desk_of J d i) ≤ rest_span
+    weighted_small =
+        le_trans (mul-le-mul_right (max f (t + scan_of J d i) + desk_of J d i) (j.light (d * 6 + i))) (omega (arith, h.six, greater_small, desk_small))
 
-  pub rest_all : (i t f sum : ℕ) → RestSoFar J z d i t f sum → get_or J d 0 ≤ i → sum ≡ z
-  rest_all i t f sum h l = omega (arith, h.is, alone_none J d (get_or J d 0) i t f l)
-
-  pub rest_small : (i t f sum : ℕ) → RestSoFar J z d i t f sum → sum ≤ rest_cap
-  rest_small i t f sum h = omega (arith, h.sums, h.six, h.within)
+pub rest_all : {J : List ℕ} {z d i t f sum : ℕ} → RestSoFar J z d i t f sum → get_or J d 0 ≤ i → (sum ≡ z) × (sum ≤ rest_cap)
+rest_all {J} {z} {d} {i} {t} {f} h l = (omega (arith, h.is, alone_none J d (get_or J d 0) i t f l), omega (arith, h.sums, h.six, h.within))

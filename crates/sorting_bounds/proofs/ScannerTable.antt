@@ -17,16 +17,17 @@ pub sum_start : {J : List ℕ} {d n : ℕ} → Instance J × (d < 3) × (n ≤ 6
 unfolding scan_sum
 sum_start h = record { size = h.0.size; desk = h.1; most = h.2; within = omega arith; is = refl; small = omega arith }
 
-pub sum_more : {J : List ℕ} {d n sum i : ℕ} → Instance J × (d < 3) × (n ≤ 6) → SumSoFar J d n sum i → i < n → SumSoFar J d n (sum + scan_of J d i) (i + 1)
+pub sum_more : {J : List ℕ} {d n sum i x : ℕ} → Instance J × (d < 3) × (n ≤ 6) → SumSoFar J d n sum i → i < n → x ≡ scan_of J d i
+    → SumSoFar J d n (sum + x) (i + 1)
 unfolding scan_sum
-sum_more {J} {d} {n} {sum} {i} h s l = record {
+sum_more {J} {d} {n} {sum} {i} h s l e = rw e (record {
   size = s.size;
   desk = s.desk;
   most = s.most;
   within = omega arith;
   is = rw (add-one i) (ap (λ (x : ℕ). x + scan_of J d i) s.is);
   small = omega (arith, s.small, h.0.small (d * 6 + i));
-}
+})
 
 pub sum_end : {J : List ℕ} {d n sum i : ℕ} → SumSoFar J d n sum i → n ≤ i → ScanSum J d n sum
 sum_end {J} {d} {n} {sum} {i} s l = record { is = s.is ∙ ap (scan_sum J d) (same s l); small = omega (arith, s.small, s.within, s.most) }
@@ -38,14 +39,13 @@ record Through (J : List ℕ) (time d i next r : ℕ) : Type 0 where
   pub capped : r ≤ entry_cap
   pub least : i < get_or J d 0 → r ≤ share J time d i + next
 
-pub strip_sums : {J : List ℕ} {time d i next : ℕ} → ThroughPre J time d i next → StripSums J time d i next
-strip_sums {J} {time} {d} {i} h = record {
-  size = h.jobs.size;
-  place = omega (arith, h.desk, h.most);
+pub strip_sums : {J : List ℕ} {time d i next x y w : ℕ} → ThroughPre J time d i next → x ≡ scan_of J d i → y ≡ desk_of J d i → w ≡ weight_of J d i
+    → StripSums time x y w
+strip_sums {J} {time} {d} {i} h p q u = rw (u, q, p) (record {
   scan = small_scan;
   desk = small_desk;
   weighted = le_trans (mul-le-mul_right (time + scan_of J d i + desk_of J d i) (h.jobs.light (d * 6 + i))) (omega (arith, h.time, small_scan, small_desk));
-}
+})
   where
     small_scan : scan_of J d i ≤ time_cap
     small_scan = h.jobs.small (d * 6 + i)
@@ -53,26 +53,26 @@ strip_sums {J} {time} {d} {i} h = record {
     small_desk : desk_of J d i ≤ time_cap
     small_desk = desk_capped h.jobs d i
 
-lesser_least : (a b : ℕ) → (min a b ≤ a) × (min a b ≤ b)
-lesser_least a b = (omega arith, omega arith)
+min_least : (a b : ℕ) → (min a b ≤ a) × (min a b ≤ b)
+min_least a b = (omega arith, omega arith)
 
 pub through_none : {J : List ℕ} {t d i rest : ℕ} → ThroughPre J t d i rest → get_or J d 0 ≤ i → entry_cap ≡ through_of J t d i rest
 unfolding through_of
 through_none {J} {t} {d} {i} h l = rw (le-leb (get_or J d 0) i l)
 
-pub through_some : {J : List ℕ} {t d i rest r : ℕ} → ThroughPre J t d i rest → i < get_or J d 0
-    → r ≡ min (weight_of J d i * (t + scan_of J d i + desk_of J d i) + rest) entry_cap → r ≡ through_of J t d i rest
+pub through_some : {J : List ℕ} {t d i rest x y w r : ℕ} → ThroughPre J t d i rest → i < get_or J d 0 → x ≡ scan_of J d i → y ≡ desk_of J d i
+    → w ≡ weight_of J d i → r ≡ min (w * (t + x + y) + rest) entry_cap → r ≡ through_of J t d i rest
 unfolding through_of share
-through_some {J} {t} {d} {i} h l e = rw (lt-leb (get_or J d 0) i l) e
+through_some {J} {t} {d} {i} h l p q u e = rw (lt-leb (get_or J d 0) i l, ← p, ← q, ← u) e
 
-through_of_lem : (J : List ℕ) (t d i rest : ℕ) → Through J t d i rest (through_of J t d i rest)
+through_holds : (J : List ℕ) (t d i rest : ℕ) → Through J t d i rest (through_of J t d i rest)
 unfolding through_of
-through_of_lem J t d i rest = go (dec_lt i (get_or J d 0))
+through_holds J t d i rest = go (dec_lt i (get_or J d 0))
   where
     go : Dec (i < get_or J d 0) → Through J t d i rest (cond (leb (get_or J d 0) i) entry_cap (min (share J t d i + rest) entry_cap))
     go (yes l) =
         rw (lt-leb (get_or J d 0) i l)
-        (record { capped = (lesser_least (share J t d i + rest) entry_cap).1; least = λ m. (lesser_least (share J t d i + rest) entry_cap).0 })
+        (record { capped = (min_least (share J t d i + rest) entry_cap).1; least = λ m. (min_least (share J t d i + rest) entry_cap).0 })
     go (no l) = rw (le-leb (get_or J d 0) i (omega arith)) (record { capped = le_refl _; least = λ m. absurd (l m) })
 
 pub enter_first : {J M : List ℕ} {k a b c : ℕ} → ScannerEntryPre J M k → ScanSum J 0 (first_count k) a → ScanSum J 1 (second_count k) b
@@ -108,10 +108,10 @@ enter_third {J} {M} {k} e p q s = record {
   next = λ l. (e.behind (k + 1) (omega arith) (omega (arith, e.key, e.first_few, e.second_few, e.third_few))).capped;
 }
 
-time_at_lem : {J : List ℕ} (k : ℕ) {a b c : ℕ} → ScanSum J 0 (first_count k) a → ScanSum J 1 (second_count k) b → ScanSum J 2 (third_count k) c
+time_is : {J : List ℕ} (k : ℕ) {a b c : ℕ} → ScanSum J 0 (first_count k) a → ScanSum J 1 (second_count k) b → ScanSum J 2 (third_count k) c
     → a + b + c ≡ time_at J k
 unfolding time_at
-time_at_lem k p q s = rw (p.is, q.is, s.is)
+time_is k p q s = rw (p.is, q.is, s.is)
 
 pub entry_none : {J M : List ℕ} {k : ℕ} → ScannerEntryPre J M k → get_or J 0 0 + get_or J 1 0 + get_or J 2 0 ≤ first_count k + second_count k + third_count k
     → 0 ≡ entry_of J M k
@@ -125,12 +125,12 @@ pub entry_some : {J M : List ℕ} {k t a b c x y z u r : ℕ} → ScannerEntryPr
     → first_count k + second_count k + third_count k < get_or J 0 0 + get_or J 1 0 + get_or J 2 0 → r ≡ entry_of J M k
 unfolding entry_of
 entry_some {J} {M} {k} {t} e w v f g h p q s i some =
-    rw (lt-leb (get_or J 0 0 + get_or J 1 0 + get_or J 2 0) (first_count k + second_count k + third_count k) some, w, v, f, g, h, i, time_at_lem k p q s)
+    rw (lt-leb (get_or J 0 0 + get_or J 1 0 + get_or J 2 0) (first_count k + second_count k + third_count k) some, w, v, f, g, h, i, time_is k p q s)
 
 -- an entry is what the bound asks of it
-entry_of_lem : (J M : List ℕ) (k : ℕ) → Entry J M k (entry_of J M k)
+entry_holds : (J M : List ℕ) (k : ℕ) → Entry J M k (entry_of J M k)
 unfolding entry_of
-entry_of_lem J M k = go (dec_lt (first_count k + second_count k + third_count k) (get_or J 0 0 + get_or J 1 0 + get_or J 2 0))
+entry_holds J M k = go (dec_lt (first_count k + second_count k + third_count k) (get_or J 0 0 + get_or J 1 0 + get_or J 2 0))
   where
     x : ℕ
     x = through_of J (time_at J k) 0 (first_count k) (entry_at M (k + 49))
@@ -143,15 +143,15 @@ entry_of_lem J M k = go (dec_lt (first_count k + second_count k + third_count k)
 
     least : (min (min x y) z ≤ x) × (min (min x y) z ≤ y) × (min (min x y) z ≤ z)
     least =
-        (le_trans (lesser_least (min x y) z).0 (lesser_least x y).0, le_trans (lesser_least (min x y) z).0 (lesser_least x y).1, (lesser_least (min x y) z).1)
+        (le_trans (min_least (min x y) z).0 (min_least x y).0, le_trans (min_least (min x y) z).0 (min_least x y).1, (min_least (min x y) z).1)
 
     go : Dec (first_count k + second_count k + third_count k < get_or J 0 0 + get_or J 1 0 + get_or J 2 0)
         → Entry J M k (cond (leb (get_or J 0 0 + get_or J 1 0 + get_or J 2 0) (first_count k + second_count k + third_count k)) 0 (min (min x y) z))
     go (yes l) = rw (lt-leb (get_or J 0 0 + get_or J 1 0 + get_or J 2 0) (first_count k + second_count k + third_count k) l) (record {
-      capped = le_trans least.0 (through_of_lem J (time_at J k) 0 (first_count k) (entry_at M (k + 49))).capped;
-      first = λ m. le_trans least.0 ((through_of_lem J (time_at J k) 0 (first_count k) (entry_at M (k + 49))).least m);
-      second = λ m. le_trans least.1 ((through_of_lem J (time_at J k) 1 (second_count k) (entry_at M (k + 7))).least m);
-      third = λ m. le_trans least.2 ((through_of_lem J (time_at J k) 2 (third_count k) (entry_at M (k + 1))).least m);
+      capped = le_trans least.0 (through_holds J (time_at J k) 0 (first_count k) (entry_at M (k + 49))).capped;
+      first = λ m. le_trans least.0 ((through_holds J (time_at J k) 0 (first_count k) (entry_at M (k + 49))).least m);
+      second = λ m. le_trans least.1 ((through_holds J (time_at J k) 1 (second_count k) (entry_at M (k + 7))).least m);
+      third = λ m. le_trans least.2 ((through_holds J (time_at J k) 2 (third_count k) (entry_at M (k + 1))).least m);
       full = λ p q r. absurd (omega (arith, l, p, q, r));
     })
     go (no l) =
@@ -196,7 +196,7 @@ filled J M size zero l = record { within = omega arith; size = size; entries = �
 filled J M size (suc n) l =
     subst (Filled J M (set (filled_from J M n) (labels_length + (342 - n)) (entry_of J (filled_from J M n) (342 - n)))) here
     (subst (λ (k : ℕ). Filled J M (set (filled_from J M n) (labels_length + k) (entry_of J (filled_from J M n) k)) k) there
-    (fill_more (filled J M size n (omega arith)) (omega arith) (entry_of_lem J (filled_from J M n) (343 - n - 1))))
+    (fill_more (filled J M size n (omega arith)) (omega arith) (entry_holds J (filled_from J M n) (343 - n - 1))))
   where
     there : 343 - n - 1 ≡ 342 - n
     there = omega arith

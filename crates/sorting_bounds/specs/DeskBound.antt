@@ -1,7 +1,6 @@
 -- The first lower bound: the cost so far, and the rest of each desk as if the scanner served that desk alone. A step never lowers it.
 use Rattle.std.specs.Prelude.{◌≡◌, List, length}
-use Rattle.std.proofs.Common.{◌∙◌}
-use Prim.Native.Nat.{ℕ, zero, suc, ◌+◌, ◌-◌, ◌*◌, ◌≤◌, ◌<◌, max}
+use Prim.Native.Nat.{ℕ, zero, suc, ◌+◌, ◌-◌, ◌*◌, ◌≤◌, max}
 use Rattle.std.proofs.Math.ListN.{get_or}
 use Rattle.interleaving.specs.declared.State.{State}
 use Rattle.interleaving.specs.Instance.{scan_of, desk_of, weight_of, instance_length, time_cap, weight_cap, scanner_cap, strip_span}

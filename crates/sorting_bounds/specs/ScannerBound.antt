@@ -1,7 +1,6 @@
 -- The second lower bound: the cost so far, and the rest as if every desk were always free. What the scanner has done is known from the counts alone,
 -- so that rest is a table over count vectors. An entry is no more than a strip's share and the entry behind that strip, which is all the bound needs.
-use Rattle.std.specs.Prelude.{◌≡◌, cond, List, leb, get_or, set}
-use Rattle.std.proofs.Common.{◌∙◌}
+use Rattle.std.specs.Prelude.{cond, List, leb, get_or, set}
 use Prim.Native.Nat.{ℕ, zero, suc, ◌+◌, ◌-◌, ◌*◌, ◌/◌, ◌%◌, ◌≤◌, ◌<◌, min}
 use Rattle.interleaving.specs.declared.State.{State}
 use Rattle.interleaving.specs.Instance.{scan_of, desk_of, weight_of, weight_cap, scanner_cap, strip_span, cost_cap}

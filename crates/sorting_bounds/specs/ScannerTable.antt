@@ -1,9 +1,8 @@
 -- How the scanner's table is filled: an entry from those behind it, from the last count vector down.
 use Rattle.std.specs.Prelude.{◌≡◌, List, ℕ, ◌+◌, ◌-◌, ◌*◌, ◌≤◌, ◌<◌, length, get_or}
-use Rattle.std.proofs.Common.{◌∙◌}
 use Rattle.sheet.specs.Limits.{table_length}
 use Rattle.interleaving.specs.declared.State.{State}
-use Rattle.interleaving.specs.Instance.{Instance, scan_of, desk_of, weight_of, time_cap, desk_strips_cap, scanner_cap}
+use Rattle.interleaving.specs.Instance.{Instance, time_cap, desk_strips_cap, scanner_cap}
 use Rattle.interleaving.specs.Consistent.{Consistent, scan_sum}
 use Rattle.sorting_bounds.specs.Layout.{count_key, labels_length, search_length}
 use Rattle.sorting_bounds.specs.ScannerBound.{entry_cap, filled_from}
@@ -31,13 +30,11 @@ pub record ThroughPre (J : List ℕ) (t d i rest : ℕ) : Type 0 where
   pub time : t ≤ scanner_cap
   pub next : i < get_or J d 0 → rest ≤ entry_cap
 
--- the sums of a strip
-pub record StripSums (J : List ℕ) (time d i next : ℕ) : Type 0 where
-  pub size : length J ≡ 57
-  pub place : d * 6 + i ≤ 18
-  pub scan : scan_of J d i ≤ time_cap
-  pub desk : desk_of J d i ≤ time_cap
-  pub weighted : weight_of J d i * (time + scan_of J d i + desk_of J d i) ≤ share_cap
+-- the sums of a strip of scan time x, desk time y and weight w
+pub record StripSums (time x y w : ℕ) : Type 0 where
+  pub scan : x ≤ time_cap
+  pub desk : y ≤ time_cap
+  pub weighted : w * (time + x + y) ≤ share_cap
 
 -- scanner_entry
 pub record ScannerEntryPre (J M : List ℕ) (k : ℕ) : Type 0 where

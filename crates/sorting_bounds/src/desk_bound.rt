@@ -4,30 +4,26 @@ ghost use Rattle.interleaving.specs.Instance.{Instance};
 ghost use Rattle.interleaving.specs.Consistent.{Consistent};
 ghost use Rattle.sorting_bounds.specs.DeskBound.{desk_rest, desk_bound, rest_cap, bound_cap};
 
-use interleaving::State;
+use interleaving::{State, desk_time, scan_time, weight};
 
 // The sum of weight times finishing time of what is left of desk d, as if the scanner served it alone.
+#[tactic(auto, using(crate::proofs::DeskBound::rest_none, crate::proofs::DeskBound::rest_more))]
 fn desk_rest(jobs: &[u64], s: State, d: usize) -> u64
     requires { Instance jobs.now × Consistent jobs.now s × (d < 3) }
     ensures { (result ≡ desk_rest jobs.now s d) × (result ≤ rest_cap) }
 {
-    let n = jobs[d] as usize;
-    let free = s.free;
-    let taken = s.taken;
-    let mut i = taken[d];
-    let mut t = s.time;
-    let mut f = free[d];
+    let mut time = s.time;
+    let mut free = s.free[d];
     let mut sum: u64 = 0;
-    while i < n {
-        let at = 3 + (d * 6 + i);
-        t += jobs[at];
-        f = base::greater(f, t) + jobs[at + 18];
-        sum += jobs[at + 36] * f;
-        i += 1;
+    for i in s.taken[d]..jobs[d] as usize {
+        time += scan_time(jobs, d, i);
+        free = free.max(time) + desk_time(jobs, d, i);
+        sum += weight(jobs, d, i) * free;
     }
     sum
 }
 
+#[tactic(auto, unfolding(crate::specs::DeskBound::desk_bound))]
 pub fn desk_bound(jobs: &[u64], s: State) -> u64
     requires { Instance jobs.now × Consistent jobs.now s }
     ensures { (result ≡ desk_bound jobs.now s) × (result ≤ bound_cap) }

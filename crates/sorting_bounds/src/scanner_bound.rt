@@ -1,5 +1,5 @@
 // The lower bound with every desk always free: a table over count vectors, behind the labels.
-ghost use Rattle.std.specs.Prelude.{◌≡◌, ◌+◌, ◌≤◌, ◌<◌, min, length};
+ghost use Rattle.std.specs.Prelude.{◌≡◌, ◌+◌, ◌≤◌, ◌<◌, length};
 ghost use Rattle.interleaving.specs.Instance.{Instance};
 ghost use Rattle.sorting_bounds.specs.ScannerBound.{through_of, entry_of, filled_from, scanner_bound};
 ghost use Rattle.sorting_bounds.specs.ScannerTable.{ScanSum, ThroughPre, ScannerEntryPre, ScannerBoundPre};
@@ -7,18 +7,11 @@ ghost use Rattle.sorting_bounds.specs.DeskBound.{bound_cap};
 ghost use Rattle.sheet.specs.Limits.{table_length};
 
 use super::{LABELS_LENGTH, VECTORS};
-use interleaving::State;
 use interleaving::caps::COST_CAP;
+use interleaving::{State, desk_time, scan_time, weight};
 
 // An entry is at most what a whole list costs at most.
 const ENTRY_CAP: u64 = COST_CAP;
-
-// The lesser of two numbers.
-fn lesser(a: u64, b: u64) -> u64
-    ensures { result ≡ min a b }
-{
-    if a < b { a } else { b }
-}
 
 // The scan times of the first n strips of desk d.
 fn scan_sum(jobs: &[u64], d: usize, n: usize) -> u64
@@ -26,10 +19,8 @@ fn scan_sum(jobs: &[u64], d: usize, n: usize) -> u64
     ensures { ScanSum jobs.now d n result }
 {
     let mut sum: u64 = 0;
-    let mut i: usize = 0;
-    while i < n {
-        sum += jobs[3 + (d * 6 + i)];
-        i += 1;
+    for i in 0..n {
+        sum += scan_time(jobs, d, i);
     }
     sum
 }
@@ -42,9 +33,8 @@ fn through(jobs: &[u64], time: u64, d: usize, i: usize, next: u64) -> u64
     if jobs[d] <= i as u64 {
         return ENTRY_CAP;
     }
-    let at = 3 + (d * 6 + i);
-    let done = time + jobs[at] + jobs[at + 18];
-    lesser(jobs[at + 36] * done + next, ENTRY_CAP)
+    let done = time + scan_time(jobs, d, i) + desk_time(jobs, d, i);
+    (weight(jobs, d, i) * done + next).min(ENTRY_CAP)
 }
 
 // The least rest at the count vector k.
@@ -62,7 +52,7 @@ fn scanner_entry(jobs: &[u64], k: usize, m: &[u64]) -> u64
     let first = through(jobs, time, 0, a, m[LABELS_LENGTH + (k + 49)]);
     let second = through(jobs, time, 1, b, m[LABELS_LENGTH + (k + 7)]);
     let third = through(jobs, time, 2, c, m[LABELS_LENGTH + (k + 1)]);
-    lesser(lesser(first, second), third)
+    first.min(second).min(third)
 }
 
 // All entries, from the last count vector down.
@@ -70,11 +60,8 @@ pub fn fill_scanner_table(jobs: &[u64], m: &mut [u64])
     requires { Instance jobs.now × (length m.old ≡ table_length) }
     ensures { m.new ≡ filled_from jobs.now m.old 343 }
 {
-    let mut k: usize = VECTORS;
-    while 0 < k {
-        k -= 1;
-        let v = scanner_entry(jobs, k, m);
-        m[LABELS_LENGTH + k] = v;
+    for k in (0..VECTORS).rev() {
+        m[LABELS_LENGTH + k] = scanner_entry(jobs, k, m);
     }
 }
 

@@ -1,70 +1,25 @@
 -- The labels at the front of the working table, four to each count vector, and what the functions over them compute. A label is the cost and the desks'
 -- free times of a state. The laws are those that the functions' proofs cite.
-use Rattle.std.specs.Prelude.{◌≡◌, refl, Bool, true, false, cond, ◌&&◌, ◌||◌, List, ◌++◌, ◌⊎◌, ltb, leb, length, get_or, set, drop, replicate}
-use Rattle.std.proofs.Common.{sym, ap, ◌∙◌, inl, inr, le_refl, le_trans, add-one, arith, length-set, length-append, length-drop, get_or-append-add, get_or-drop}
+use Rattle.std.specs.Prelude.{◌≡◌, refl, Bool, true, false, cond, ◌||◌, List, ◌++◌, ◌⊎◌, ltb, length, get_or, drop, replicate}
+use Rattle.std.proofs.Common.{sym, ap, ◌∙◌, inl, inr, le_refl, le_trans, add-one, arith, length-append, length-drop, get_or-append-add, get_or-drop}
 use Rattle.std.proofs.lemmas.Bool.{false≢true}
 use Rattle.std.proofs.Math.Bool.{or-true}
-use Prim.Native.Nat.{ℕ, zero, suc, ◌+◌, ◌-◌, ◌*◌, ◌≤◌, ◌<◌}
+use Prim.Native.Nat.{ℕ, zero, suc, ◌+◌, ◌-◌, ◌≤◌, ◌<◌}
 use Rattle.std.proofs.Math.Decide.{ℕ_discrete}
 use Rattle.std.proofs.lemmas.List.{length-replicate, get_or-replicate}
 use Rattle.std.proofs.Math.ListN.{get_or-append}
-use Rattle.std.proofs.lemmas.List.Edits.{fill_none, fill_more}
-use borrow.Author.Tests.{lt-ltb, le-ltb, le-leb, lt-leb, leb-true}
+use borrow.Author.Tests.{lt-ltb, le-ltb, leb-true}
 use Rattle.base.specs.Branch.{both}
-use Rattle.sheet.specs.Limits.{table_length}
 use Rattle.interleaving.specs.declared.State.{State}
-use Rattle.sorting_bounds.specs.Layout.{count_key, labels_length}
-use Rattle.sorting_labels.specs.Labels.{no_label, label_place, label_dominates, dominated_by, costlier, costliest_of, costliest, store_label, with_label, no_labels_to, LabelDominates, Dominated, Clearing}
+use Rattle.sorting_bounds.specs.Layout.{count_key}
+use Rattle.sorting_labels.specs.Labels.{no_label, label_place, label_dominates, dominated_by, costlier, costliest_of, costliest, store_label, with_label, no_labels_to, LabelDominates, Dominated}
 
--- label_dominates: the four comparisons in turn
-module _ (M : List ℕ) (a : ℕ) (s : State) where
-  pub over_cost : s.cost < get_or M a 0 → false ≡ label_dominates M a s
-  unfolding label_dominates
-  over_cost p = rw (lt-leb (get_or M a 0) s.cost p)
-
-  pub over_first : get_or M a 0 ≤ s.cost → get_or s.free 0 0 < get_or M (a + 1) 0 → false ≡ label_dominates M a s
-  unfolding label_dominates
-  over_first p q = rw (le-leb (get_or M a 0) s.cost p, lt-leb (get_or M (a + 1) 0) (get_or s.free 0 0) q)
-
-  pub over_second : get_or M a 0 ≤ s.cost → get_or M (a + 1) 0 ≤ get_or s.free 0 0 → get_or s.free 1 0 < get_or M (a + 2) 0 → false ≡ label_dominates M a s
-  unfolding label_dominates
-  over_second p q r = rw (le-leb (get_or M a 0) s.cost p, le-leb (get_or M (a + 1) 0) (get_or s.free 0 0) q, lt-leb (get_or M (a + 2) 0) (get_or s.free 1 0) r)
-
-  pub over_third : get_or M a 0 ≤ s.cost → get_or M (a + 1) 0 ≤ get_or s.free 0 0 → get_or M (a + 2) 0 ≤ get_or s.free 1 0 → get_or s.free 2 0 < get_or M (a + 3) 0
-      → false ≡ label_dominates M a s
-  unfolding label_dominates
-  over_third p q r t =
-      rw
-      (le-leb (get_or M a 0) s.cost p, le-leb (get_or M (a + 1) 0) (get_or s.free 0 0) q, le-leb (get_or M (a + 2) 0) (get_or s.free 1 0) r, lt-leb (get_or M (a + 3) 0) (get_or s.free 2 0) t)
-
-  pub over_none : get_or M a 0 ≤ s.cost → get_or M (a + 1) 0 ≤ get_or s.free 0 0 → get_or M (a + 2) 0 ≤ get_or s.free 1 0 → get_or M (a + 3) 0 ≤ get_or s.free 2 0
-      → true ≡ label_dominates M a s
-  unfolding label_dominates
-  over_none p q r t =
-      rw
-      (le-leb (get_or M a 0) s.cost p, le-leb (get_or M (a + 1) 0) (get_or s.free 0 0) q, le-leb (get_or M (a + 2) 0) (get_or s.free 1 0) r, le-leb (get_or M (a + 3) 0) (get_or s.free 2 0) t)
-
-label_dominates_lem : (M : List ℕ) (a : ℕ) (s : State) → label_dominates M a s ≡ true → LabelDominates M a s
+label_under : (M : List ℕ) (a : ℕ) (s : State) → label_dominates M a s ≡ true → LabelDominates M a s
 unfolding label_dominates
-label_dominates_lem M a s e = go (both _ _ e)
-  where
-    go : (leb (get_or M a 0) s.cost ≡ true)
-        × ((leb (get_or M (a + 1) 0) (get_or s.free 0 0) && (leb (get_or M (a + 2) 0) (get_or s.free 1 0) && leb (get_or M (a + 3) 0) (get_or s.free 2 0))) ≡ true)
-        → LabelDominates M a s
-    go p = second (both _ _ p.1)
-      where
-        second : (leb (get_or M (a + 1) 0) (get_or s.free 0 0) ≡ true)
-            × ((leb (get_or M (a + 2) 0) (get_or s.free 1 0) && leb (get_or M (a + 3) 0) (get_or s.free 2 0)) ≡ true)
-            → LabelDominates M a s
-        second q = third (both _ _ q.1)
-          where
-            third : (leb (get_or M (a + 2) 0) (get_or s.free 1 0) ≡ true) × (leb (get_or M (a + 3) 0) (get_or s.free 2 0) ≡ true) → LabelDominates M a s
-            third r = record {
-              cost = leb-true _ _ p.0;
-              one = leb-true _ _ q.0;
-              two = leb-true _ _ r.0;
-              three = leb-true _ _ r.1;
-            }
+label_under M a s e =
+    let p = both _ _ e in
+    let q = both _ _ p.1 in
+    let r = both _ _ q.1 in record { cost = leb-true _ _ p.0; one = leb-true _ _ q.0; two = leb-true _ _ r.0; three = leb-true _ _ r.1 }
 
 pub dominated_none : (M : List ℕ) (k : ℕ) (s : State) → dominated_by M k s 0 ≡ false
 unfolding dominated_by
@@ -97,14 +52,14 @@ pub either : (x y : Bool) → (x || y) ≡ true → (x ≡ true) ⊎ (y ≡ true
 either true y e = inl refl
 either false y e = inr e
 
-pub dominated_by_lem : (M : List ℕ) (k : ℕ) (s : State) (n : ℕ) → n ≤ 4 → k ≡ count_key s → dominated_by M k s n ≡ true → Dominated M s
+pub one_dominates : (M : List ℕ) (k : ℕ) (s : State) (n : ℕ) → n ≤ 4 → k ≡ count_key s → dominated_by M k s n ≡ true → Dominated M s
 unfolding dominated_by
-dominated_by_lem M k s zero l key e = absurd (false≢true e)
-dominated_by_lem M k s (suc n) l key e = go (either _ _ e) (λ f. dominated_by_lem M k s n (omega arith) key f)
+one_dominates M k s zero l key e = absurd (false≢true e)
+one_dominates M k s (suc n) l key e = go (either _ _ e) (λ f. one_dominates M k s n (omega arith) key f)
   where
     go : (dominated_by M k s n ≡ true) ⊎ (label_dominates M (label_place k n) s ≡ true) → (dominated_by M k s n ≡ true → Dominated M s) → Dominated M s
     go (inl f) h = h f
-    go (inr f) h = record { slot = n; few = omega arith; under = label_dominates_lem M (label_place (count_key s) n) s (rw key at f) }
+    go (inr f) h = record { slot = n; few = omega arith; under = label_under M (label_place (count_key s) n) s (rw key at f) }
 
 one_of : (b : Bool) (x y n : ℕ) → x ≤ n → y ≤ n → cond b x y ≤ n
 one_of true x y n p q = p
@@ -144,29 +99,6 @@ module _ (M : List ℕ) (k : ℕ) where
 pub stored : (M N : List ℕ) (k j : ℕ) (s : State) → (j ≡ costliest M k) × (j < 4) → N ≡ store_label M (label_place k j) s → N ≡ with_label M k s
 unfolding with_label
 stored M N k j s e f = f ∙ ap (λ (x : ℕ). store_label M (label_place k x) s) e.0
-
--- clear_labels: the loop over the numbers of the labels
-cleared_more : (n : ℕ) (M : List ℕ) → n < length M → set (no_labels_to n M) n no_label ≡ no_labels_to (n + 1) M
-unfolding no_labels_to
-cleared_more n M l = fill_more n no_label M l
-
-pub clearing_none : {M : List ℕ} → length M ≡ table_length → Clearing M M 0
-unfolding no_labels_to
-clearing_none {M} h = record { within = omega arith; start = h; size = h; is = fill_none M no_label }
-
-pub clearing_more : {M₀ M : List ℕ} {i : ℕ} → Clearing M₀ M i → i < labels_length → Clearing M₀ (set M i no_label) (i + 1)
-clearing_more {M₀} {M} {i} c l = record {
-  within = omega arith;
-  start = c.start;
-  size = length-set M i no_label ∙ c.size;
-  is = ap (λ (x : List ℕ). set x i no_label) c.is ∙ cleared_more i M₀ (omega (arith, c.start));
-}
-
-pub clearing_all : {M₀ M : List ℕ} {i : ℕ} → Clearing M₀ M i → labels_length ≤ i → M ≡ no_labels_to labels_length M₀
-clearing_all {M₀} {M} {i} c l = c.is ∙ ap (λ (n : ℕ). no_labels_to n M₀) (all c.within l)
-  where
-    all : i ≤ labels_length → labels_length ≤ i → i ≡ labels_length
-    all p q = omega arith
 
 -- the cleared table, number by number
 pub cleared_length : (n : ℕ) (M : List ℕ) → n ≤ length M → length (no_labels_to n M) ≡ length M

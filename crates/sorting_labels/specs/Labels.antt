@@ -1,13 +1,10 @@
 -- The labels at the front of the working table, four to each count vector, and what the functions over them compute. A label is the cost and the desks'
 -- free times of a state. The laws are those that the functions' proofs cite.
-use Rattle.std.specs.Prelude.{◌≡◌, Bool, false, cond, ◌&&◌, ◌||◌, List, ◌++◌, ◌⊎◌, ltb, leb, length, get_or, set, drop, replicate}
-use Rattle.std.proofs.Common.{◌∙◌}
-use Rattle.std.proofs.lemmas.Bool.{false≢true}
-use Prim.Native.Nat.{ℕ, zero, suc, ◌+◌, ◌-◌, ◌*◌, ◌≤◌, ◌<◌}
-use Rattle.sheet.specs.Limits.{table_length}
+use Rattle.std.specs.Prelude.{Bool, false, cond, ◌&&◌, ◌||◌, List, ◌++◌, ltb, leb, get_or, set, drop, replicate}
+use Prim.Native.Nat.{ℕ, zero, suc, ◌+◌, ◌*◌, ◌≤◌, ◌<◌}
 use Rattle.interleaving.specs.declared.State.{State}
 use Rattle.interleaving.specs.Instance.{largest}
-use Rattle.sorting_bounds.specs.Layout.{count_key, labels_length}
+use Rattle.sorting_bounds.specs.Layout.{count_key}
 
 -- a number that no label has
 abbrev pub no_label : ℕ
@@ -64,9 +61,3 @@ pub record Dominated (M : List ℕ) (s : State) : Type 0 where
   pub slot : ℕ
   pub few : slot < 4
   pub under : LabelDominates M (label_place (count_key s) slot) s
-
-pub record Clearing (M₀ M : List ℕ) (i : ℕ) : Type 0 where
-  pub within : i ≤ labels_length
-  pub start : length M₀ ≡ table_length
-  pub size : length M ≡ table_length
-  pub is : M ≡ no_labels_to i M₀

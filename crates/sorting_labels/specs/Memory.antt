@@ -1,9 +1,8 @@
 -- The dominance memory. A state that a label dominates has no completion below those of the label's state, and a label is stored once its state is explored:
 -- so what a label dominates is bounded by the incumbent. That is the memory's invariant: it is stated by its use.
 use Rattle.std.specs.Prelude.{◌≡◌}
-use Rattle.std.proofs.Common.{◌∙◌}
 use mathlib.Core.List.{List}
-use Prim.Native.Nat.{ℕ, ◌+◌, ◌-◌, ◌*◌, ◌≤◌, ◌<◌}
+use Prim.Native.Nat.{ℕ, ◌≤◌}
 use Rattle.std.proofs.Math.ListN.{length, get_or}
 use Rattle.interleaving.specs.declared.State.{State}
 use Rattle.interleaving.specs.Search.{LowerBound}

@@ -12,36 +12,24 @@ use interleaving::State;
 use sorting_bounds::LABELS_LENGTH;
 
 // A number that no label has.
-const NO_LABEL: u64 = 18_446_744_073_709_551_615;
+const NO_LABEL: u64 = u64::MAX;
 
 // The number of the count vector of s.
+#[tactic(auto, using(sorting_bounds::specs::Layout::key_digits))]
 pub fn count_key(jobs: &[u64], s: State) -> usize
     requires { Instance jobs.now × Consistent jobs.now s }
     ensures { (result ≡ count_key s) × (result < 343) }
 {
-    let t = s.taken;
-    (t[0] * 7 + t[1]) * 7 + t[2]
+    (s.taken[0] * 7 + s.taken[1]) * 7 + s.taken[2]
 }
 
 // Whether the label at a dominates s.
+#[tactic(auto, unfolding(crate::specs::Labels::label_dominates))]
 fn label_dominates(s: State, m: &[u64], a: usize) -> bool
     requires { a + 3 < length m.now }
     ensures { result ≡ label_dominates m.now a s }
 {
-    let f = s.free;
-    if s.cost < m[a] {
-        return false;
-    }
-    if f[0] < m[a + 1] {
-        return false;
-    }
-    if f[1] < m[a + 2] {
-        return false;
-    }
-    if f[2] < m[a + 3] {
-        return false;
-    }
-    true
+    m[a] <= s.cost && m[a + 1] <= s.free[0] && m[a + 2] <= s.free[1] && m[a + 3] <= s.free[2]
 }
 
 // Whether one of the four labels of the count vector k dominates s.
@@ -49,12 +37,10 @@ pub fn dominated(s: State, k: usize, m: &[u64]) -> bool
     requires { (k < 343) × (length m.now ≡ table_length) }
     ensures { result ≡ dominated_by m.now k s 4 }
 {
-    let mut j: usize = 0;
-    while j < 4 {
+    for j in 0..4 {
         if label_dominates(s, m, (k * 4 + j) * 4) {
             return true;
         }
-        j += 1;
     }
     false
 }
@@ -64,26 +50,23 @@ fn costliest_label(m: &[u64], k: usize) -> usize
     requires { (k < 343) × (length m.now ≡ table_length) }
     ensures { (result ≡ costliest m.now k) × (result < 4) }
 {
-    let mut w: usize = 0;
-    let mut j: usize = 1;
-    while j < 4 {
-        if m[(k * 4 + w) * 4] < m[(k * 4 + j) * 4] {
-            w = j;
+    let mut costliest: usize = 0;
+    for j in 1..4 {
+        if m[(k * 4 + costliest) * 4] < m[(k * 4 + j) * 4] {
+            costliest = j;
         }
-        j += 1;
     }
-    w
+    costliest
 }
 
 fn write_label(s: State, m: &mut [u64], a: usize)
     requires { a + 3 < length m.old }
     ensures { m.new ≡ store_label m.old a s }
 {
-    let f = s.free;
     m[a] = s.cost;
-    m[a + 1] = f[0];
-    m[a + 2] = f[1];
-    m[a + 3] = f[2];
+    m[a + 1] = s.free[0];
+    m[a + 2] = s.free[1];
+    m[a + 3] = s.free[2];
 }
 
 // Stores the label of s, whose count vector has the number k.
@@ -100,9 +83,5 @@ pub fn clear_labels(m: &mut [u64])
     requires { length m.old ≡ table_length }
     ensures { m.new ≡ no_labels_to labels_length m.old }
 {
-    let mut i: usize = 0;
-    while i < LABELS_LENGTH {
-        m[i] = NO_LABEL;
-        i += 1;
-    }
+    m[..LABELS_LENGTH].fill(NO_LABEL);
 }

@@ -20,7 +20,7 @@ use Rattle.sorting_bounds.proofs.DeskBound.{desk_bound_holds}
 use Rattle.sorting_bounds.specs.ScannerBound.{EntriesFrom, scanner_bound}
 use Rattle.sorting_bounds.proofs.ScannerBound.{entries_same, scanner_bound_holds}
 use Rattle.sorting_labels.specs.Labels.{dominated_by, with_label}
-use Rattle.sorting_labels.proofs.Labels.{either, dominated_by_lem}
+use Rattle.sorting_labels.proofs.Labels.{either, one_dominates}
 use Rattle.sorting_labels.specs.Memory.{LabelsHold}
 use Rattle.sorting_labels.proofs.Memory.{labels_search, labels_bound, stored_behind, stored_length}
 use Rattle.sorting_labels.proofs.LabelStored.{labels_done}
@@ -99,7 +99,7 @@ cut_bounds {J} {s} {B} {M} h e = go (either _ _ e)
     go (inr f) = rest (either _ _ f)
       where
         rest : (dominated_by M (count_key s) s 4 ≡ true) ⊎ (leb B (desk_bound J s) ≡ true) → LowerBound J s.left s B
-        rest (inl g) = labels_bound J M s B h.table.labels h.state (dominated_by_lem M (count_key s) s 4 (omega arith) refl g)
+        rest (inl g) = labels_bound J M s B h.table.labels h.state (one_dominates M (count_key s) s 4 (omega arith) refl g)
         rest (inr g) = bound_down J s.left s _ B (leb-true _ _ g) (desk_bound_holds J h.jobs s.left s h.state refl)
 
 -- the table holds for a smaller figure, and for a label more

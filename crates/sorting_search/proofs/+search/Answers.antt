@@ -15,17 +15,17 @@ returns-then-cut t c = search searched_cut
 pub loop-d-init : goal.loop-d-init
 loop-d-init t c = search branched_none
 
-pub search-r-requires : goal.search-r-requires
-search-r-requires t c = let p : c.loop-d.d < 3 = omega arith in (search (step_less, can_serve), search (search_pre_step, can_serve))
+pub search-b-requires : goal.search-b-requires
+search-b-requires t c = let p : c.loop-d.d < 3 = omega arith in (search (step_less, can_serve), search (search_pre_step, can_serve))
 
 pub loop-d-preserved : goal.loop-d-preserved
 loop-d-preserved t c =
     elim c.if-strip_left.branch [
       | then-strip_left w ↦
-          branched_same w.m-is w.r-is
-          (branched_yes c.loop-d.invariant (omega arith) (ltb-true _ _ (sym c.strip_left.ensures ∙ w.if-strip_left.true)) w.step-n.ensures w.search-r.ensures)
+          branched_same w.m-is w.b-is
+          (branched_yes c.loop-d.invariant (omega arith) (ltb-true _ _ (sym c.strip_left.ensures ∙ w.if-strip_left.true)) w.step.ensures w.search-b.ensures)
       | else-strip_left w ↦
-          branched_same w.m-is w.r-is (branched_no c.loop-d.invariant (omega arith) (ltb-false _ _ (sym c.strip_left.ensures ∙ w.if-strip_left.false)))
+          branched_same w.m-is w.b-is (branched_no c.loop-d.invariant (omega arith) (ltb-false _ _ (sym c.strip_left.ensures ∙ w.if-strip_left.false)))
     ]
 
 pub returns : goal.returns

@@ -2,7 +2,6 @@
 -- with its cuts after the desks passed, the incumbent is that of the search without cuts, and the table holds for it. A cut keeps the incumbent, as the search
 -- without cuts does;
 -- the label is stored once the loop is through.
-use Rattle.std.proofs.Common.{◌-◌}
 use Rattle.sorting_search.specs.Table.{Branched}
 use Rattle.sorting_search.proofs.+search.Given as goal
 
@@ -10,7 +9,4 @@ abbrev pub decreases-search : goal.decreases-search
 decreases-search l = l.s.left
 
 abbrev pub invariant-loop-d : goal.invariant-loop-d
-invariant-loop-d l = Branched l.jobs l.s l.initial.r l.initial.m l.m l.d l.r
-
-abbrev pub decreases-loop-d : goal.decreases-loop-d
-decreases-loop-d l = 3 - l.d
+invariant-loop-d l = Branched l.jobs l.s l.initial.b l.initial.m l.m l.d l.b

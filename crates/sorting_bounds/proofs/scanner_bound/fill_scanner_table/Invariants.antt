@@ -1,9 +1,6 @@
--- `sorting_bounds::scanner_bound::fill_scanner_table` meets its contract. The loop's invariant: the table is the definition's with the entries from k on.
+-- `sorting_bounds::scanner_bound::fill_scanner_table`: the table is the definition's with the entries from k on.
 use Rattle.sorting_bounds.specs.ScannerTable.{Filling}
 use Rattle.sorting_bounds.proofs.scanner_bound.fill_scanner_table.Given as goal
 
 abbrev pub invariant-loop-k : goal.invariant-loop-k
 invariant-loop-k l = Filling l.jobs l.initial.m l.m l.k
-
-abbrev pub decreases-loop-k : goal.decreases-loop-k
-decreases-loop-k l = l.k

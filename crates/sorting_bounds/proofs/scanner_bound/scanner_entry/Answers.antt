@@ -18,7 +18,7 @@ through-third-requires c = search enter_third
 
 pub returns : goal.returns
 returns c = entry_some c.requires
-    c.lesser-2.ensures c.lesser.ensures c.through-first.ensures
+    c.min-2.ensures c.min.ensures c.through-first.ensures
     c.through-second.ensures c.through-third.ensures
     c.scan_sum.ensures
     c.scan_sum-2.ensures

@@ -5,17 +5,14 @@ use Rattle.sorting_search.proofs.greedy.better_desk.Goals as goal
 pub lower_bound-by_chosen-requires : goal.lower_bound-by_chosen-requires
 lower_bound-by_chosen-requires c = search lower_bound_pre_step
 
-pub step-requires-then-strip_left : goal.step-requires-then-strip_left
-step-requires-then-strip_left c = search serve_if
-
 pub lower_bound-by_other-requires : goal.lower_bound-by_other-requires
 lower_bound-by_other-requires c = search (lower_bound_pre_step, serve_if)
+
+pub returns-then-not-strip_left : goal.returns-then-not-strip_left
+returns-then-not-strip_left c = search better_none
 
 pub returns-then-by_other-by_chosen : goal.returns-then-by_other-by_chosen
 returns-then-by_other-by_chosen c = search better_other
 
-pub returns-then-strip_left : goal.returns-then-strip_left
-returns-then-strip_left c = search better_chosen
-
-pub returns : goal.returns
-returns c = search better_none
+pub returns-else-by_other-by_chosen : goal.returns-else-by_other-by_chosen
+returns-else-by_other-by_chosen c = search better_chosen

@@ -3,20 +3,20 @@ use Rattle.sorting_search.specs.Greedy.{leads_start, leads_going, leads_serves, 
 use native.Mathlib.Omega.{arith}
 use Rattle.sorting_search.proofs.greedy.greedy.Goals as goal
 
-pub loop-t-init : goal.loop-t-init
-loop-t-init c = search leads_start
+pub loop-s-init : goal.loop-s-init
+loop-s-init c = search leads_start
 
-pub greedy_desk-d-requires : goal.greedy_desk-d-requires
-greedy_desk-d-requires c = search leads_going
+pub greedy_desk-requires : goal.greedy_desk-requires
+greedy_desk-requires c = search leads_going
 
-pub step-t-requires : goal.step-t-requires
-step-t-requires c = search leads_serves
+pub step-s-requires : goal.step-s-requires
+step-s-requires c = search leads_serves
 
-pub loop-t-smaller : goal.loop-t-smaller
-loop-t-smaller c = search leads_less
+pub loop-s-smaller : goal.loop-s-smaller
+loop-s-smaller c = search leads_less
 
-pub loop-t-preserved : goal.loop-t-preserved
-loop-t-preserved c = search leads_step
+pub loop-s-preserved : goal.loop-s-preserved
+loop-s-preserved c = search leads_step
 
 pub returns : goal.returns
-returns c = leads_end c.loop-t.invariant (omega arith)
+returns c = leads_end c.loop-s.invariant (omega arith)

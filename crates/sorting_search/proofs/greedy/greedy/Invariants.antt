@@ -2,8 +2,8 @@
 use Rattle.sorting_search.specs.Greedy.{Leads}
 use Rattle.sorting_search.proofs.greedy.greedy.Given as goal
 
-abbrev pub invariant-loop-t : goal.invariant-loop-t
-invariant-loop-t l = Leads l.jobs l.initial.t l.t l.m
+abbrev pub invariant-loop-s : goal.invariant-loop-s
+invariant-loop-s l = Leads l.jobs l.initial.s l.s l.m
 
-abbrev pub decreases-loop-t : goal.decreases-loop-t
-decreases-loop-t l = l.t.left
+abbrev pub decreases-loop-s : goal.decreases-loop-s
+decreases-loop-s l = l.s.left
