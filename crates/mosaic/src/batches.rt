@@ -2,22 +2,19 @@
 ghost use Rattle.mosaic.specs.Tables.{AddBatchPre, Added, ChooseBatchesPre, BatchesTaken};
 
 use crate::MosaicPlan;
-use base::greater;
 use batching::first_batch;
+use rules::Batch;
 
-// The plan with one batch more, of a weight.
-fn add_batch(plan: MosaicPlan, weight: u64, last: u64, start: u64, finish: u64) -> MosaicPlan
-    requires { AddBatchPre plan weight finish }
-    ensures { Added plan weight last start finish result }
-{
-    let b = plan.batches;
-    let mut more = plan;
-    more.last[b] = last;
-    more.start[b] = start;
-    more.finish[b] = finish;
-    more.batches = b + 1;
-    more.figure = plan.figure + weight * finish;
-    more
+impl MosaicPlan {
+    // Adds a batch of a weight.
+    fn add(&mut self, weight: u64, batch: Batch)
+        requires { AddBatchPre self.old weight batch }
+        ensures { Added self.old weight batch self.new }
+    {
+        self.batches[self.count] = batch;
+        self.count += 1;
+        self.figure += weight * batch.finish;
+    }
 }
 
 // The batches taken, each mounted as soon as the batch before has finished, and the sum of weighted completions.
@@ -32,23 +29,29 @@ pub fn choose_batches(
     requires { ChooseBatchesPre rs.now sums.now weights.now late.now s n }
     ensures { BatchesTaken rs.now sums.now weights.now s n result }
 {
+    let none = Batch {
+        last: 0,
+        start: 0,
+        finish: 0,
+    };
     let mut plan = MosaicPlan {
         figure: 0,
-        batches: 0,
-        last: [0; 40],
-        start: [0; 40],
-        finish: [0; 40],
+        count: 0,
+        batches: [none; 40],
     };
     let mut i = 0;
     let mut free = 0;
     while i < n {
-        let choice = first_batch(rs, sums, weights, late, s, n, free, i);
-        let q = choice.last;
+        let q = first_batch(rs, sums, weights, late, s, n, free, i).last;
         let mounted = free + s;
-        let begin = greater(mounted, rs[q - 1]);
+        let begin = mounted.max(rs[q - 1]);
         let finish = begin + (sums[q] - sums[i]);
-        let weight = weights[q] - weights[i];
-        plan = add_batch(plan, weight, q as u64, free, finish);
+        let batch = Batch {
+            last: q as u64,
+            start: free,
+            finish,
+        };
+        plan.add(weights[q] - weights[i], batch);
         i = q;
         free = finish;
     }
