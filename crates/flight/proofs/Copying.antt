@@ -1,46 +1,39 @@
--- The starts copied one by one into zeros.
-use mathlib.Core.Path.{◌≡◌, refl, ◌∙◌}
-use mathlib.Core.List.{List}
-use Prim.Native.Nat.{ℕ, ◌+◌, ◌≤◌, ◌<◌}
-use native.Mathlib.Decide.{ℕ_discrete}
+-- The passes written block by block into zeros.
+use mathlib.Core.Path.{◌≡◌, refl, ap, ◌∙◌}
+use mathlib.Core.List.{List, [], ◌∷◌, ◌++◌}
+use Prim.Native.Nat.{ℕ, zero, suc, ◌+◌, ◌<◌}
+use native.Mathlib.Numerals.{add-one}
 use native.Mathlib.Omega.{arith}
 use lib.ListN.{length, get_or, set, replicate, length-set}
-use lib.Seq.{get_or-set_same, get_or-set_other}
-use Rattle.base.specs.Zeros.{zeros_at}
-use Rattle.flight.specs.Clauses.{CopyStartsPre, Copied}
+use lib.Seq.{get_or-set_other}
+use Rattle.std.proofs.lemmas.List.{take_more_set}
+use Rattle.base.specs.Listed.{listed}
+use Rattle.rules.specs.Flight.{no_passes}
+use Rattle.rules.specs.declared.Passes.{Passes}
+use Rattle.flight.specs.Clauses.{PassesAtPre, PassesAt}
 
-pub record Copying (starts : List ℕ) (from n : ℕ) (copy : List ℕ) (i : ℕ) : Type 0 where
-  pub within : i ≤ n
-  pub long : length copy ≡ 32
-  pub done : Copied starts from i copy
+pub none_at : (n k : ℕ) → get_or (replicate n no_passes) k no_passes ≡ no_passes
+none_at zero k = refl
+none_at (suc n) zero = refl
+none_at (suc n) (suc k) = none_at n k
 
-pub copy_start : (starts : List ℕ) (from n : ℕ) → Copying starts from n (replicate 32 0) 0
-copy_start starts from n = record {
-  within = omega arith;
-  long = refl;
-  done = record { copied = λ i l. absurd (omega arith); no_more = λ i l. zeros_at 32 i };
+pub record Copying (starts : List ℕ) (n i : ℕ) (blocks : List Passes) : Type 0 where
+  pub long : length blocks ≡ 32
+  pub done : PassesAt starts n i blocks
+
+pub copy_start : (starts : List ℕ) (n : ℕ) → Copying starts n 0 (replicate 32 (record { first = 0; second = 0 }))
+unfolding listed no_passes
+copy_start starts n = record { long = refl; done = record { passes = refl; no_more = λ k l. none_at 32 k } }
+
+pub copy_more : {starts : List ℕ} {n i : ℕ} {blocks : List Passes} → PassesAtPre starts n → Copying starts n i blocks → i < n
+    → Copying starts n (i + 1) (set blocks i (record { first = get_or starts i 0; second = get_or starts (n + i) 0 }))
+unfolding listed
+copy_more {starts} {n} {i} {blocks} pre c l = record {
+  long = length-set blocks i _ ∙ c.long;
+  done = record {
+    passes =
+        take_more_set blocks i _ (omega (arith, c.long, pre.few))
+        ∙ rw (add-one i) (ap (λ (ps : List Passes). ps ++ (record { first = get_or starts i 0; second = get_or starts (n + i) 0 } ∷ [])) c.done.passes);
+    no_more = λ k h. get_or-set_other blocks i k _ no_passes (omega arith) ∙ c.done.no_more k (omega arith);
+  };
 }
-
-module _ {starts : List ℕ} {from n : ℕ} {copy : List ℕ} {i : ℕ} (pre : CopyStartsPre starts from n) (c : Copying starts from n copy i) where
-  pub copy_more : i < n → Copying starts from n (set copy i (get_or starts (from + i) 0)) (i + 1)
-  copy_more l = record {
-    within = omega arith;
-    long = simp length-set c.long;
-    done = record { copied = copied; no_more = no_more };
-  }
-    where
-      copied : (j : ℕ) → j < i + 1 → get_or (set copy i (get_or starts (from + i) 0)) j 0 ≡ get_or starts (from + j) 0
-      copied j q = go (ℕ_discrete j i)
-        where
-          go : Dec (j ≡ i) → get_or (set copy i (get_or starts (from + i) 0)) j 0 ≡ get_or starts (from + j) 0
-          go (yes e) = rw e (get_or-set_same copy i (get_or starts (from + i) 0) 0 (omega (arith, c.long, pre.few)))
-          go (no e) = get_or-set_other copy i j (get_or starts (from + i) 0) 0 e ∙ c.done.copied j (omega arith)
-
-      no_more : (j : ℕ) → i + 1 ≤ j → get_or (set copy i (get_or starts (from + i) 0)) j 0 ≡ 0
-      no_more j q = get_or-set_other copy i j (get_or starts (from + i) 0) 0 (omega arith) ∙ c.done.no_more j (omega arith)
-
-  pub copy_end : n ≤ i → Copied starts from n copy
-  copy_end l = rw e at c.done
-    where
-      e : i ≡ n
-      e = omega (arith, c.within)

@@ -1,20 +1,19 @@
 -- The plan put together: the least starts of the order, copied by block; and the order, given or searched for.
-use mathlib.Core.Path.{◌≡◌, refl, sym, ap, ap₂, subst, ◌∙◌}
+use mathlib.Core.Path.{◌≡◌, refl, sym, ap, subst, ◌∙◌}
 use mathlib.Core.Bool.{Bool, true, false, not}
 use mathlib.Core.List.{List}
 use Prim.Native.Nat.{ℕ, ◌+◌, ◌-◌, ◌*◌, ◌^◌, ◌≤◌, ◌<◌}
-use native.Mathlib.Nat.{zero-add}
 use native.Mathlib.Omega.{arith}
 use lib.ListN.{length, get_or, take, replicate}
 use lib.Seq.{length-take-le}
 use borrow.Author.Tests.{ne_eqb, not-true, not-false}
-use Rattle.base.specs.Zeros.{zeros_at}
-use Rattle.base.specs.Listed.{listed_same}
+use Rattle.base.specs.Listed.{listed}
 use Rattle.order.specs.Order.{Proper}
 use Rattle.difference.specs.System.{value}
 use Rattle.sheet.specs.Limits.{most_time}
 use Rattle.sheet.specs.Sound.{FlightSound}
 use Rattle.sheet.specs.declared.FlightSection.{FlightSection}
+use Rattle.rules.specs.Flight.{no_passes}
 use Rattle.rules.specs.declared.Passes.{Passes}
 use Rattle.flight_order.specs.Constraints.{ordered_flight, least_starts, possible_in, order_figure}
 use Rattle.flight_order.specs.Timetable.{passes_with_starts, least_passes}
@@ -27,7 +26,8 @@ use Rattle.flight_search.specs.Orders.{orders_of, free_section}
 use Rattle.flight_search.specs.Clauses.{BlockTimes}
 use Rattle.flight.specs.Choice.{delays_fit, one_by_one, chosen_order, is_possible, least_figure, chosen_passes, passes_of_plan, PlannedIn, Planned}
 use Rattle.flight.specs.Chosen.{chosen_given, chosen_free, chosen_none, chosen_proper}
-use Rattle.flight.specs.Clauses.{SomeBlocks, PlanChosenPre, PlanInOrderPre, PlanBlocksPre, Copied}
+use Rattle.flight.specs.Clauses.{SomeBlocks, PlanChosenPre, PlanInOrderPre, PlanBlocksPre, PassesAtPre, PassesAt}
+use Rattle.flight.proofs.Copying.{none_at}
 use Rattle.flight_search.specs.declared.Incumbent.{Incumbent}
 use Rattle.flight.specs.declared.FlightPlan.{FlightPlan}
 
@@ -49,29 +49,21 @@ module _ (f : FlightSection) (w : ℕ) {rows₀ starts₀ : List ℕ} (pre : Pla
           pre.plan.blocks.sound.most_second (f.blocks - 1),
         ))
 
-    pub plan_made : (firsts seconds : List ℕ) → Copied starts 0 f.blocks firsts → Copied starts f.blocks f.blocks seconds
+    pub passes_at_pre : length starts ≡ length starts₀ → PassesAtPre starts f.blocks
+    passes_at_pre e = record { few = pre.plan.blocks.sound.most_blocks_holds; within = omega (arith, pre.plan.starts_length, e) }
+
+    pub plan_made : (blocks : List Passes) → PassesAt starts f.blocks f.blocks blocks
         → PlannedIn f w
-        (record { possible = found; figure = get_or starts (2 * f.blocks - 1) 0 + get_or f.second (f.blocks - 1) 0; order = w; first = firsts; second = seconds })
+        (record { possible = found; figure = get_or starts (2 * f.blocks - 1) 0 + get_or f.second (f.blocks - 1) 0; order = w; blocks = blocks })
     unfolding possible_in order_figure least_starts passes_of_plan least_passes passes_with_starts
-    plan_made firsts seconds a b = record {
+    plan_made blocks a = record {
       possible = least.result;
       figure = rw (ne_eqb f.blocks 0 (λ e. omega (arith, pre.plan.blocks.some)), least.starts);
       order = refl;
       passes =
-          listed_same f.blocks (λ i. record { first = get_or firsts i 0; second = get_or seconds i 0 })
-          (λ i. record { first = value (least_starts f w) i; second = value (least_starts f w) (f.blocks + i) })
-          agree;
-      no_more_first = a.no_more;
-      no_more_second = b.no_more;
+          a.passes ∙ ap (λ (t : List ℕ). listed f.blocks (λ i. record { first = value t i; second = value t (f.blocks + i) })) least.starts;
+      no_more = a.no_more;
     }
-      where
-        agree : (i : ℕ) → i < f.blocks
-            → ◌≡◌ {A = Passes} (record { first = get_or firsts i 0; second = get_or seconds i 0 })
-            (record { first = value (least_starts f w) i; second = value (least_starts f w) (f.blocks + i) })
-        agree i l =
-            ap₂ (λ (p q : ℕ). record { first = p; second = q })
-            (a.copied i l ∙ ap (λ (j : ℕ). get_or starts j 0) (zero-add i) ∙ ap (λ (t : List ℕ). get_or t i 0) least.starts)
-            (b.copied i l ∙ ap (λ (t : List ℕ). get_or t (f.blocks + i) 0) least.starts)
 
 -- delays of all blocks, within the limits of a sheet
 pub record DelaysWithin (f : FlightSection) (delays : List ℕ) : Type 0 where
@@ -138,15 +130,14 @@ module _ (f : FlightSection) (rows starts : List ℕ) (pre : PlanBlocksPre f row
 
 -- No block, no passes.
 pub plan_none : (f : FlightSection) → FlightSound f → f.blocks ≡ 0
-    → Planned f (record { possible = true; figure = 0; order = 0; first = replicate 32 0; second = replicate 32 0 })
-unfolding is_possible least_figure chosen_passes passes_of_plan least_passes passes_with_starts
+    → Planned f (record { possible = true; figure = 0; order = 0; blocks = replicate 32 (record { first = 0; second = 0 }) })
+unfolding is_possible least_figure chosen_passes passes_of_plan least_passes passes_with_starts listed no_passes
 plan_none f sound e = record {
   possible = sym (empty_possible f (chosen_order f) sound proper (λ l. omega arith));
   figure = sym (figure_none f (chosen_order f) sound proper (λ l. omega arith));
   order = zero_order;
-  passes = listed_same f.blocks _ _ (λ i l. absurd (omega arith));
-  no_more_first = λ i l. zeros_at 32 i;
-  no_more_second = λ i l. zeros_at 32 i;
+  passes = rw e refl;
+  no_more = λ i l. none_at 32 i;
 }
   where
     proper : Proper f.blocks (chosen_order f)

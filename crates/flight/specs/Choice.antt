@@ -1,8 +1,8 @@
 -- The plan: its order, which is the given one or the one that the search takes, and the least starts in that order. Where no order is given and none is
 -- possible, which the longest delays tell, there is no search.
-use Rattle.std.specs.Prelude.{◌≡◌, Bool, true, false, ◌&&◌, List, ℕ, zero, suc, ◌+◌, ◌*◌, ◌^◌, ◌≤◌, leb, get_or}
-use Rattle.base.specs.Listed.{listed}
+use Rattle.std.specs.Prelude.{◌≡◌, Bool, true, false, ◌&&◌, List, ℕ, zero, suc, ◌+◌, ◌*◌, ◌^◌, ◌≤◌, leb, get_or, take}
 use Rattle.sheet.specs.declared.FlightSection.{FlightSection}
+use Rattle.rules.specs.Flight.{no_passes}
 use Rattle.rules.specs.declared.Passes.{Passes}
 use Rattle.flight_order.specs.Constraints.{possible_in, order_figure}
 use Rattle.flight_order.specs.Timetable.{least_passes}
@@ -40,12 +40,9 @@ least_figure f = order_figure f (chosen_order f)
 unfoldable pub chosen_passes : FlightSection → List Passes
 chosen_passes f = least_passes f (chosen_order f)
 
--- The passes of block i, from 0, in a plan, and those of all n blocks.
-abbrev pub plan_passes : FlightPlan → ℕ → Passes
-plan_passes r i = record { first = get_or r.first i 0; second = get_or r.second i 0 }
-
+-- The passes of the n blocks of a plan: the first entries of its array.
 unfoldable pub passes_of_plan : ℕ → FlightPlan → List Passes
-passes_of_plan n r = listed n (plan_passes r)
+passes_of_plan n r = take n r.blocks
 
 -- A plan r of the flight f says this: whether it is possible, its figure, its order, and its passes, with zeros after them.
 pub record PlanSays (f : FlightSection) (p : Bool) (v w : ℕ) (ps : List Passes) (r : FlightPlan) : Type 0 where
@@ -53,8 +50,7 @@ pub record PlanSays (f : FlightSection) (p : Bool) (v w : ℕ) (ps : List Passes
   pub figure : r.figure ≡ v
   pub order : r.order ≡ w
   pub passes : passes_of_plan f.blocks r ≡ ps
-  pub no_more_first : (i : ℕ) → f.blocks ≤ i → get_or r.first i 0 ≡ 0
-  pub no_more_second : (i : ℕ) → f.blocks ≤ i → get_or r.second i 0 ≡ 0
+  pub no_more : (i : ℕ) → f.blocks ≤ i → get_or r.blocks i no_passes ≡ no_passes
 
 -- The plan in one order. Where the order is not possible, figure and passes are no timetable's.
 abbrev pub PlannedIn : FlightSection → ℕ → FlightPlan → Type 0

@@ -1,9 +1,13 @@
 -- What the functions ask and give.
-use Rattle.std.specs.Prelude.{◌≡◌, List, ℕ, ◌+◌, ◌-◌, ◌*◌, ◌≤◌, ◌<◌, length, get_or}
+use Rattle.std.specs.Prelude.{◌≡◌, List, ℕ, ◌+◌, ◌-◌, ◌*◌, ◌≤◌, ◌<◌, length, get_or, take}
+use Rattle.base.specs.Listed.{listed}
+use Rattle.difference.specs.System.{value}
 use Rattle.order.specs.Order.{Proper}
 use Rattle.sheet.specs.Limits.{most_blocks}
 use Rattle.sheet.specs.declared.FlightSection.{FlightSection}
 use Rattle.sheet.specs.Sound.{FlightSound}
+use Rattle.rules.specs.Flight.{no_passes}
+use Rattle.rules.specs.declared.Passes.{Passes}
 
 pub record SomeBlocks (f : FlightSection) : Type 0 where
   pub sound : FlightSound f
@@ -23,12 +27,11 @@ pub record PlanBlocksPre (f : FlightSection) (rows starts : List ℕ) : Type 0 w
   pub rows_long : 508 ≤ length rows
   pub starts_long : 64 ≤ length starts
 
-pub record CopyStartsPre (starts : List ℕ) (from n : ℕ) : Type 0 where
+pub record PassesAtPre (starts : List ℕ) (n : ℕ) : Type 0 where
   pub few : n ≤ most_blocks
-  pub within : from + n ≤ length starts
-  pub short : length starts ≤ 2 * most_blocks
+  pub within : n + n ≤ length starts
 
--- n of the starts from `from` on, and zeros after them.
-pub record Copied (starts : List ℕ) (from n : ℕ) (r : List ℕ) : Type 0 where
-  pub copied : (i : ℕ) → i < n → get_or r i 0 ≡ get_or starts (from + i) 0
-  pub no_more : (i : ℕ) → n ≤ i → get_or r i 0 ≡ 0
+-- Passes of the first i blocks, at the starts i and n + i, and zeros after them.
+pub record PassesAt (starts : List ℕ) (n i : ℕ) (blocks : List Passes) : Type 0 where
+  pub passes : take i blocks ≡ listed i (λ k. record { first = value starts k; second = value starts (n + k) })
+  pub no_more : (k : ℕ) → i ≤ k → get_or blocks k no_passes ≡ no_passes

@@ -6,32 +6,39 @@ ghost use Rattle.std.specs.Prelude.{◌≡◌, ◌≤◌};
 ghost use Rattle.sheet.specs.Limits.{most_blocks};
 ghost use Rattle.sheet.specs.Sound.{FlightSound};
 ghost use Rattle.flight.specs.Choice.{delays_fit, one_by_one, chosen_order, Planned, PlannedIn};
-ghost use Rattle.flight.specs.Clauses.{SomeBlocks, PlanChosenPre, PlanInOrderPre, PlanBlocksPre, CopyStartsPre, Copied};
+ghost use Rattle.flight.specs.Clauses.{SomeBlocks, PlanChosenPre, PlanInOrderPre, PlanBlocksPre, PassesAtPre, PassesAt};
 
+use rules::Passes;
 use sheet::FlightSection;
 
-// A plan: whether its order is possible, its figure and order number, and the starts of the first and second pass of each block.
+// A plan: whether its order is possible, its figure and order number, and the passes of each block, with zeros after them.
 #[derive(Clone, Copy)]
 pub struct FlightPlan {
     pub possible: bool,
     pub figure: u64,
     pub order: u64,
-    pub first: [u64; 32],
-    pub second: [u64; 32],
+    pub blocks: [Passes; 32],
 }
 
-// n starts from `from` on, and zeros after them.
-fn copy_starts(starts: &[u64], from: usize, n: usize) -> [u64; 32]
-    requires { CopyStartsPre starts.now from n }
-    ensures { Copied starts.now from n result }
+// The passes of no block.
+const NO_PASSES: Passes = Passes {
+    first: 0,
+    second: 0,
+};
+
+// The passes of n blocks, at the first n starts and at the next n, with zeros after them.
+fn passes_at(starts: &[u64], n: usize) -> [Passes; 32]
+    requires { PassesAtPre starts.now n }
+    ensures { PassesAt starts.now n n result }
 {
-    let mut copy = [0; 32];
-    let mut i = 0;
-    while i < n {
-        copy[i] = starts[from + i];
-        i += 1;
+    let mut blocks = [NO_PASSES; 32];
+    for i in 0..n {
+        blocks[i] = Passes {
+            first: starts[i],
+            second: starts[n + i],
+        };
     }
-    copy
+    blocks
 }
 
 // The plan in one order, with room for its constraints and starts.
@@ -40,24 +47,24 @@ fn plan_in_order(f: FlightSection, order: u64, rows: &mut [u64], starts: &mut [u
     ensures { PlannedIn f order result }
 {
     let n = f.blocks;
-    let first = f.first;
-    let second = f.second;
-    let shortest = f.shortest;
-    let longest = f.longest;
-    let possible = flight_order::least_starts(
-        n, order, f.turn, &first, &second, &shortest, &longest, rows, starts,
+    let found = flight_order::least_starts(
+        n,
+        order,
+        f.turn,
+        &f.first,
+        &f.second,
+        &f.shortest,
+        &f.longest,
+        rows,
+        starts,
     );
-    let last = 2 * n - 1;
-    let block = n - 1;
-    let figure = starts[last] + second[block];
-    let firsts = copy_starts(starts, 0, n);
-    let seconds = copy_starts(starts, n, n);
+    let last_start = starts[2 * n - 1];
+    let last_time = f.second[n - 1];
     FlightPlan {
-        possible: possible,
-        figure: figure,
-        order: order,
-        first: firsts,
-        second: seconds,
+        possible: found,
+        figure: last_start + last_time,
+        order,
+        blocks: passes_at(starts, n),
     }
 }
 
@@ -139,13 +146,11 @@ pub fn plan_flight(f: FlightSection) -> FlightPlan
     ensures { Planned f result }
 {
     if f.blocks == 0 {
-        let zeros = [0; 32];
         return FlightPlan {
             possible: true,
             figure: 0,
             order: 0,
-            first: zeros,
-            second: zeros,
+            blocks: [NO_PASSES; 32],
         };
     }
     let mut rows = [0; flight_order::MOST_NUMBERS];

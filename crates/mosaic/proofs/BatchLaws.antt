@@ -1,18 +1,18 @@
 -- The batches are written one after another: those written, and those that the recursion takes after them, are those that it takes from the start.
 use mathlib.Core.Path.{◌≡◌, refl, ◌∙◌, sym}
 use mathlib.Core.List.{List, [], ◌∷◌, ◌++◌, append_assoc, append-nil}
-use Prim.Native.Nat.{ℕ, ◌+◌, ◌*◌, ◌-◌, ◌≤◌, ◌<◌, max}
+use Prim.Native.Nat.{ℕ, zero, suc, ◌+◌, ◌*◌, ◌-◌, ◌≤◌, ◌<◌, ◌^◌, max}
 use native.Mathlib.Nat.{mul-le-mul}
-use native.Mathlib.Numerals.{add-one}
 use native.Mathlib.Omega.{arith}
-use lib.ListN.{length, get_or, set, length-set, replicate, length-replicate}
-use lib.Seq.{get_or-set_same, get_or-set_other}
-use Rattle.base.specs.Listed.{listed, listed_same}
-use Rattle.base.specs.Zeros.{zeros_at}
+use lib.ListN.{get_or, set, length-set, replicate, length-replicate}
+use lib.Seq.{get_or-set_other}
+use Rattle.std.proofs.lemmas.List.{take_more_set}
+use Rattle.rules.specs.Mosaic.{no_batch}
+use Rattle.rules.specs.declared.Batch.{Batch}
 use Rattle.batching.specs.Least.{bench_start, finish_of}
 use Rattle.batching.specs.Chosen.{batch_of}
 use Rattle.batching.specs.Index.{least_at, closed_at, chosen_at}
-use Rattle.mosaic.specs.Plan.{entry, batches_of, NoMore}
+use Rattle.mosaic.specs.Plan.{batches_of, NoMore}
 use Rattle.batching.specs.Caps.{ready_cap, mount_cap, weights_cap, begin_cap}
 use Rattle.batching.specs.Tables.{instance_in, First}
 use Rattle.mosaic.specs.Tables.{Sized, AddBatchPre, Added, BatchesTaken}
@@ -21,66 +21,40 @@ use Rattle.mosaic.specs.declared.MosaicPlan.{MosaicPlan}
 use Rattle.batching.specs.Bounds.{least_most}
 use Rattle.batching.specs.declared.input.Strips.{Strips}
 
+none_at : (n k : ℕ) → get_or (replicate n no_batch) k no_batch ≡ no_batch
+none_at zero k = refl
+none_at (suc n) zero = refl
+none_at (suc n) (suc k) = none_at n k
+
 -- the strips up to i are in the plan's batches, and the bench is free at `free`
 pub record PlanSoFar (x : Strips) (plan : MosaicPlan) (i free : ℕ) : Type 0 where
   pub sized : Sized plan
   pub no_more : NoMore plan
-  pub few : plan.batches ≤ i
+  pub few : plan.count ≤ i
   pub to : i ≤ x.count
   pub most_free_holds : free ≤ ready_cap + i * mount_cap + get_or x.bench_sums.now i 0
   pub figure_is : plan.figure + least_at (instance_in x) i free ≡ least_at (instance_in x) 0 0
   pub batches : batches_of plan ++ chosen_at (instance_in x) i free ≡ chosen_at (instance_in x) 0 0
 
--- a store at b changes none of the first b batches, and adds one
-kept : (last start finish : List ℕ) (b u v w k : ℕ) → k < b → entry (set last b u) (set start b v) (set finish b w) k ≡ entry last start finish k
-kept last start finish b u v w k h =
-    rw (get_or-set_other last b k u 0 (omega arith), get_or-set_other start b k v 0 (omega arith), get_or-set_other finish b k w 0 (omega arith))
-
-added : (last start finish : List ℕ) (b u v w : ℕ) → b < length last → b < length start → b < length finish
-    → listed (b + 1) (entry (set last b u) (set start b v) (set finish b w))
-    ≡ listed b (entry last start finish) ++ (record { last = u; start = v; finish = w } ∷ [])
-unfolding listed
-added last start finish b u v w h₁ h₂ h₃ =
-    rw (add-one b) (rw (
-      listed_same b (entry (set last b u) (set start b v) (set finish b w)) (entry last start finish) (kept last start finish b u v w),
-      get_or-set_same last b u 0 h₁,
-      get_or-set_same start b v 0 h₂,
-      get_or-set_same finish b w 0 h₃,
-    ))
-
-pub plan_added : {plan : MosaicPlan} {weight finish : ℕ} → AddBatchPre plan weight finish → (last start : ℕ)
-    → Added plan weight last start finish
-    (record {
-      figure = plan.figure + weight * finish;
-      batches = plan.batches + 1;
-      last = set plan.last plan.batches last;
-      start = set plan.start plan.batches start;
-      finish = set plan.finish plan.batches finish;
-    })
+pub plan_added : {plan : MosaicPlan} {weight : ℕ} {batch : Batch} → AddBatchPre plan weight batch
+    → Added plan weight batch
+    (record { figure = plan.figure + weight * batch.finish; count = plan.count + 1; batches = set plan.batches plan.count batch })
 unfolding batches_of
-plan_added {plan} {weight} {finish} P last start = record {
-  sized = record {
-    last = length-set plan.last plan.batches last ∙ P.sized.last;
-    start = length-set plan.start plan.batches start ∙ P.sized.start;
-    finish = length-set plan.finish plan.batches finish ∙ P.sized.finish;
-  };
+plan_added {plan} {weight} {batch} P = record {
+  sized = length-set plan.batches plan.count batch ∙ P.sized;
   figure = refl;
   one_more = refl;
-  batches = added plan.last plan.start plan.finish plan.batches last start finish
-      (omega (arith, P.few, P.sized.last)) (omega (arith, P.few, P.sized.start)) (omega (arith, P.few, P.sized.finish));
-  no_more = λ N. record {
-    last = λ k h. get_or-set_other plan.last plan.batches k last 0 (omega arith) ∙ N.last k (omega arith);
-    start = λ k h. get_or-set_other plan.start plan.batches k start 0 (omega arith) ∙ N.start k (omega arith);
-    finish = λ k h. get_or-set_other plan.finish plan.batches k finish 0 (omega arith) ∙ N.finish k (omega arith);
-  };
+  batches = take_more_set plan.batches plan.count batch (omega (arith, P.few, P.sized));
+  no_more = λ N k h. get_or-set_other plan.batches plan.count k batch no_batch (omega arith) ∙ N k (omega arith);
 }
 
 module _ {x : Strips} where
-  pub plan_start : PlanSoFar x (record { figure = 0; batches = 0; last = replicate 40 0; start = replicate 40 0; finish = replicate 40 0 }) 0 0
-  unfolding batches_of listed
+  pub plan_start : PlanSoFar x
+      (record { figure = 0; count = 0; batches = replicate 40 (record { last = 0; start = 0; finish = 0 }) }) 0 0
+  unfolding batches_of no_batch
   plan_start = record {
-    sized = record { last = length-replicate {A = ℕ} 40 0; start = length-replicate {A = ℕ} 40 0; finish = length-replicate {A = ℕ} 40 0 };
-    no_more = record { last = λ k h. zeros_at 40 k; start = λ k h. zeros_at 40 k; finish = λ k h. zeros_at 40 k };
+    sized = length-replicate {A = Batch} 40 no_batch;
+    no_more = λ k h. none_at 40 k;
     few = omega arith;
     to = omega arith;
     most_free_holds = omega arith;
@@ -107,8 +81,9 @@ module _ {x : Strips} where
         product_most : (get_or x.weight_sums.now q 0 - get_or x.weight_sums.now i 0) * (begin + (get_or x.bench_sums.now q 0 - get_or x.bench_sums.now i 0)) ≤ weights_cap * begin_cap
         product_most = mul-le-mul {n₂ = weights_cap} {m₂ = begin_cap} (omega (arith, x.input.most_weights q C.last)) finish_early
 
-        pub plan_add : AddBatchPre plan (get_or x.weight_sums.now q 0 - get_or x.weight_sums.now i 0) (begin + (get_or x.bench_sums.now q 0 - get_or x.bench_sums.now i 0))
-        plan_add = record {
+        pub plan_add : (last start : ℕ)
+            → AddBatchPre plan (get_or x.weight_sums.now q 0 - get_or x.weight_sums.now i 0) (record { last = last; start = start; finish = begin + (get_or x.bench_sums.now q 0 - get_or x.bench_sums.now i 0) })
+        plan_add last start = record {
           sized = M.sized;
           few = omega (arith, M.few, x.input.most_strips_holds);
           fits = omega (arith, M.figure_is, product_most, least_most x 0 0 (omega arith));
@@ -128,7 +103,8 @@ module _ {x : Strips} where
         unfolding batch_of
         batch_is = rw finish_is
 
-        pub plan_step : {more : MosaicPlan} → Added plan (get_or x.weight_sums.now q 0 - get_or x.weight_sums.now i 0) q free (begin + (get_or x.bench_sums.now q 0 - get_or x.bench_sums.now i 0)) more
+        pub plan_step : {more : MosaicPlan}
+            → Added plan (get_or x.weight_sums.now q 0 - get_or x.weight_sums.now i 0) (record { last = q; start = free; finish = begin + (get_or x.bench_sums.now q 0 - get_or x.bench_sums.now i 0) }) more
             → PlanSoFar x more q (begin + (get_or x.bench_sums.now q 0 - get_or x.bench_sums.now i 0))
         plan_step A = record {
           sized = A.sized;
@@ -145,4 +121,5 @@ module _ {x : Strips} where
     figure = omega (arith, M.figure_is, least_end (instance_in x) i free h);
     batches = sym (append-nil (batches_of plan)) ∙ rw (chosen_end (instance_in x) i free h) at M.batches;
     no_more = M.no_more;
+    within = omega (arith, M.few, M.to, M.sized, x.input.most_strips_holds);
   }

@@ -6,29 +6,28 @@ use Rattle.sheet.specs.declared.MosaicSection.{MosaicSection}
 use Rattle.base.specs.Sums.{sum_after}
 use Rattle.sheet.specs.Sound.{MosaicSound}
 use Rattle.rules.specs.Mosaic.{station_sum, ready}
+use Rattle.rules.specs.declared.Batch.{Batch}
 use Rattle.batching.specs.Index.{least_at, chosen_at}
 use Rattle.batching.specs.Tables.{width, instance_in}
 use Rattle.batching.specs.declared.input.Strips.{Strips}
 use Rattle.mosaic.specs.Plan.{batches_of, NoMore}
 use Rattle.mosaic.specs.declared.MosaicPlan.{MosaicPlan}
 
--- the lengths of a plan's arrays
-pub record Sized (plan : MosaicPlan) : Type 0 where
-  pub last : length plan.last ≡ most_strips
-  pub start : length plan.start ≡ most_strips
-  pub finish : length plan.finish ≡ most_strips
+-- the length of a plan's array
+abbrev pub Sized : MosaicPlan → Type 0
+Sized plan = length plan.batches ≡ most_strips
 
--- what `add_batch` asks, and does
-pub record AddBatchPre (plan : MosaicPlan) (weight finish : ℕ) : Type 0 where
+-- what `add` asks, and does
+pub record AddBatchPre (plan : MosaicPlan) (weight : ℕ) (batch : Batch) : Type 0 where
   pub sized : Sized plan
-  pub few : plan.batches < most_strips
-  pub fits : plan.figure + weight * finish < 2 ^ 64
+  pub few : plan.count < most_strips
+  pub fits : plan.figure + weight * batch.finish < 2 ^ 64
 
-pub record Added (plan : MosaicPlan) (weight last start finish : ℕ) (more : MosaicPlan) : Type 0 where
+pub record Added (plan : MosaicPlan) (weight : ℕ) (batch : Batch) (more : MosaicPlan) : Type 0 where
   pub sized : Sized more
-  pub figure : more.figure ≡ plan.figure + weight * finish
-  pub one_more : more.batches ≡ plan.batches + 1
-  pub batches : batches_of more ≡ batches_of plan ++ (record { last = last; start = start; finish = finish } ∷ [])
+  pub figure : more.figure ≡ plan.figure + weight * batch.finish
+  pub one_more : more.count ≡ plan.count + 1
+  pub batches : batches_of more ≡ batches_of plan ++ (batch ∷ [])
   pub no_more : NoMore plan → NoMore more
 
 -- what `choose_batches` does
@@ -36,6 +35,7 @@ pub record BatchesTaken (x : Strips) (plan : MosaicPlan) : Type 0 where
   pub figure : plan.figure ≡ least_at (instance_in x) 0 0
   pub batches : batches_of plan ≡ chosen_at (instance_in x) 0 0
   pub no_more : NoMore plan
+  pub within : plan.count ≤ length plan.batches
 
 -- what `ready_times` gives: every entry
 pub record ReadyTimes (m : MosaicSection) (rs : List ℕ) : Type 0 where

@@ -4,20 +4,18 @@ ghost use Rattle.mosaic.specs.Tables.{AddBatchPre, Added, BatchesTaken};
 
 use crate::MosaicPlan;
 use batching::Strips;
+use rules::Batch;
 
-// The plan with one batch more, of a weight.
-fn add_batch(plan: MosaicPlan, weight: u64, last: u64, start: u64, finish: u64) -> MosaicPlan
-    requires { AddBatchPre plan weight finish }
-    ensures { Added plan weight last start finish result }
-{
-    let b = plan.batches;
-    let mut more = plan;
-    more.last[b] = last;
-    more.start[b] = start;
-    more.finish[b] = finish;
-    more.batches = b + 1;
-    more.figure = plan.figure + weight * finish;
-    more
+impl MosaicPlan {
+    // Adds a batch of a weight.
+    fn add(&mut self, weight: u64, batch: Batch)
+        requires { AddBatchPre self.old weight batch }
+        ensures { Added self.old weight batch self.new }
+    {
+        self.batches[self.count] = batch;
+        self.count += 1;
+        self.figure += weight * batch.finish;
+    }
 }
 
 // The batches taken, each mounted as soon as the batch before has finished, and the sum of weighted completions.
@@ -25,12 +23,15 @@ pub fn choose_batches(strips: &Strips<'_>, late: &[u64]) -> MosaicPlan
     requires { LateFrom strips.now late.now 0 }
     ensures { BatchesTaken strips.now result }
 {
+    let none = Batch {
+        last: 0,
+        start: 0,
+        finish: 0,
+    };
     let mut plan = MosaicPlan {
         figure: 0,
-        batches: 0,
-        last: [0; 40],
-        start: [0; 40],
-        finish: [0; 40],
+        count: 0,
+        batches: [none; 40],
     };
     let mut i = 0;
     let mut free = 0;
@@ -39,8 +40,12 @@ pub fn choose_batches(strips: &Strips<'_>, late: &[u64]) -> MosaicPlan
         let mounted = free + strips.mount;
         let begin = mounted.max(strips.ready[q - 1]);
         let finish = begin + (strips.bench_sums[q] - strips.bench_sums[i]);
-        let weight = strips.weight_sums[q] - strips.weight_sums[i];
-        plan = add_batch(plan, weight, q as u64, free, finish);
+        let batch = Batch {
+            last: q as u64,
+            start: free,
+            finish,
+        };
+        plan.add(strips.weight_sums[q] - strips.weight_sums[i], batch);
         i = q;
         free = finish;
     }

@@ -9,17 +9,16 @@ mod batches;
 mod ready;
 
 use batching::{LATE_LENGTH, Strips};
+use rules::Batch;
 use running::mosaic::setup_time;
 use sheet::MosaicSection;
 
-// A plan of the mosaic: its figure, and last strip, mount start and finish of each batch, in the first `batches` entries, with zeros after them.
+// A plan of the mosaic: its figure, and its batches, the first `count` entries, with zeros after them.
 #[derive(Clone, Copy)]
 pub struct MosaicPlan {
     pub figure: u64,
-    pub batches: usize,
-    pub last: [u64; 40],
-    pub start: [u64; 40],
-    pub finish: [u64; 40],
+    pub count: usize,
+    pub batches: [Batch; 40],
 }
 
 // A plan of the least figure.

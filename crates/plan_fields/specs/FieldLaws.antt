@@ -13,7 +13,10 @@ use Rattle.plan_format.specs.Format.{Form, content_length, size_of, width_of, of
 use Rattle.plan_format.specs.Format.{job_form, flight_head_form, passes_form, refusal_form}
 use Rattle.plan_format.proofs.FormLaws.{length_numbers, length_form}
 use Rattle.rules.specs.Plan.{batch_bytes, job_bytes, passes_bytes, refusal_bytes}
-use Rattle.plan_fields.specs.Stored.{tag_bytes, part_bytes, strip_bytes, batch, job, passes}
+use Rattle.rules.specs.declared.Batch.{Batch}
+use Rattle.rules.specs.declared.Job.{Job}
+use Rattle.rules.specs.declared.Passes.{Passes}
+use Rattle.plan_fields.specs.Stored.{tag_bytes, part_bytes, strip_bytes}
 
 -- the tag and the content length
 tag_joined : (tag len : ℕ) → (tag ∷ []) ++ bytes_of 2 len ≡ tag_bytes tag len
@@ -104,28 +107,28 @@ module _ (d d₁ d₂ : List ℕ) (at : ℕ) where
         (stored_next flight_head_form 0 [] refl d d₁ d₂ at figure (omega arith) (stored_none flight_head_form d d₁ at e₁) e₂)
         e₃)
 
-    pub passes_stored : (first second : ℕ) → d₁ ≡ put d at (tag_bytes passes_form.tag (content_length passes_form))
-        → d₂ ≡ put d₁ (at + offset_of passes_form 0) (bytes_of (width_of passes_form 0) first)
-        → d₃ ≡ put d₂ (at + offset_of passes_form 1) (bytes_of (width_of passes_form 1) second)
-        → d₃ ≡ put d at (passes_bytes (passes first second))
+    pub passes_stored : (p : Passes) → d₁ ≡ put d at (tag_bytes passes_form.tag (content_length passes_form))
+        → d₂ ≡ put d₁ (at + offset_of passes_form 0) (bytes_of (width_of passes_form 0) p.first)
+        → d₃ ≡ put d₂ (at + offset_of passes_form 1) (bytes_of (width_of passes_form 1) p.second)
+        → d₃ ≡ put d at (passes_bytes p)
     unfolding passes_bytes
-    passes_stored first second e₁ e₂ e₃ =
-        stored_all passes_form 2 (first ∷ second ∷ []) refl d d₃ at (omega arith)
-        (stored_next passes_form 1 (first ∷ []) refl d d₂ d₃ at second (omega arith)
-        (stored_next passes_form 0 [] refl d d₁ d₂ at first (omega arith) (stored_none passes_form d d₁ at e₁) e₂)
+    passes_stored p e₁ e₂ e₃ =
+        stored_all passes_form 2 (p.first ∷ p.second ∷ []) refl d d₃ at (omega arith)
+        (stored_next passes_form 1 (p.first ∷ []) refl d d₂ d₃ at p.second (omega arith)
+        (stored_next passes_form 0 [] refl d d₁ d₂ at p.first (omega arith) (stored_none passes_form d d₁ at e₁) e₂)
         e₃)
 
-    pub batch_stored : (d₄ : List ℕ) (last start finish : ℕ) → d₁ ≡ put d at (tag_bytes batch_form.tag (content_length batch_form))
-        → d₂ ≡ put d₁ (at + offset_of batch_form 0) (bytes_of (width_of batch_form 0) last)
-        → d₃ ≡ put d₂ (at + offset_of batch_form 1) (bytes_of (width_of batch_form 1) start)
-        → d₄ ≡ put d₃ (at + offset_of batch_form 2) (bytes_of (width_of batch_form 2) finish)
-        → d₄ ≡ put d at (batch_bytes (batch last start finish))
+    pub batch_stored : (d₄ : List ℕ) (b : Batch) → d₁ ≡ put d at (tag_bytes batch_form.tag (content_length batch_form))
+        → d₂ ≡ put d₁ (at + offset_of batch_form 0) (bytes_of (width_of batch_form 0) b.last)
+        → d₃ ≡ put d₂ (at + offset_of batch_form 1) (bytes_of (width_of batch_form 1) b.start)
+        → d₄ ≡ put d₃ (at + offset_of batch_form 2) (bytes_of (width_of batch_form 2) b.finish)
+        → d₄ ≡ put d at (batch_bytes b)
     unfolding batch_bytes
-    batch_stored d₄ last start finish e₁ e₂ e₃ e₄ =
-        stored_all batch_form 3 (last ∷ start ∷ finish ∷ []) refl d d₄ at (omega arith)
-        (stored_next batch_form 2 (last ∷ start ∷ []) refl d d₃ d₄ at finish (omega arith)
-        (stored_next batch_form 1 (last ∷ []) refl d d₂ d₃ at start (omega arith)
-        (stored_next batch_form 0 [] refl d d₁ d₂ at last (omega arith) (stored_none batch_form d d₁ at e₁) e₂)
+    batch_stored d₄ b e₁ e₂ e₃ e₄ =
+        stored_all batch_form 3 (b.last ∷ b.start ∷ b.finish ∷ []) refl d d₄ at (omega arith)
+        (stored_next batch_form 2 (b.last ∷ b.start ∷ []) refl d d₃ d₄ at b.finish (omega arith)
+        (stored_next batch_form 1 (b.last ∷ []) refl d d₂ d₃ at b.start (omega arith)
+        (stored_next batch_form 0 [] refl d d₁ d₂ at b.last (omega arith) (stored_none batch_form d d₁ at e₁) e₂)
         e₃)
         e₄)
 
@@ -138,15 +141,15 @@ module _ (d d₁ d₂ : List ℕ) (at : ℕ) where
         (stored_next job_form 0 [] refl d d₁ d₂ at desk (omega arith) (stored_none job_form d d₁ at e₁) e₂)
         e₃
 
-    pub job_stored : (desk number scan start : ℕ) → d₁ ≡ put d at (strip_bytes desk number)
-        → d₂ ≡ put d₁ (at + offset_of job_form 2) (bytes_of (width_of job_form 2) scan)
-        → d₃ ≡ put d₂ (at + offset_of job_form 3) (bytes_of (width_of job_form 3) start)
-        → d₃ ≡ put d at (job_bytes (job desk number scan start))
+    pub job_stored : (j : Job) → d₁ ≡ put d at (strip_bytes j.desk j.number)
+        → d₂ ≡ put d₁ (at + offset_of job_form 2) (bytes_of (width_of job_form 2) j.scan)
+        → d₃ ≡ put d₂ (at + offset_of job_form 3) (bytes_of (width_of job_form 3) j.start)
+        → d₃ ≡ put d at (job_bytes j)
     unfolding job_bytes
-    job_stored desk number scan start e₁ e₂ e₃ =
-        stored_all job_form 4 (desk ∷ number ∷ scan ∷ start ∷ []) refl d d₃ at (omega arith)
-        (stored_next job_form 3 (desk ∷ number ∷ scan ∷ []) refl d d₂ d₃ at start (omega arith)
-        (stored_next job_form 2 (desk ∷ number ∷ []) refl d d₁ d₂ at scan (omega arith) e₁ e₂)
+    job_stored j e₁ e₂ e₃ =
+        stored_all job_form 4 (j.desk ∷ j.number ∷ j.scan ∷ j.start ∷ []) refl d d₃ at (omega arith)
+        (stored_next job_form 3 (j.desk ∷ j.number ∷ j.scan ∷ []) refl d d₂ d₃ at j.start (omega arith)
+        (stored_next job_form 2 (j.desk ∷ j.number ∷ []) refl d d₁ d₂ at j.scan (omega arith) e₁ e₂)
         e₃)
 
 pub length_refusal : (number place : ℕ) → length (refusal_bytes number place) ≡ size_of refusal_form

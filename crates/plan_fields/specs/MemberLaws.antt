@@ -1,14 +1,14 @@
--- The loops over members: the first i are stored, each right behind the one before, since all of a kind are of one size.
-use Rattle.std.specs.Prelude.{ℕ, ◌+◌, ◌*◌, ◌≤◌, ◌<◌, ◌≡◌, refl, List, length, get_or}
-use Rattle.field.specs.Put.{put}
-use Rattle.field.specs.Members.{members_to, Storing, storing_none, storing_more, storing_all}
+-- Members stored one behind the other: the fields of a kind are of one size, so the first i of them take i times that.
+use Rattle.std.specs.Prelude.{ℕ, ◌+◌, ◌*◌, ◌<◌, ◌≡◌, refl, List, [], ◌∷◌, ◌++◌, length, get_or, take}
+use Rattle.std.proofs.Common.{sym, ap, ◌∙◌, arith, length-append, append_assoc, append-nil, mul-suc, mul-zero}
+use Rattle.std.proofs.lemmas.List.{length-take-le, take_more}
+use Rattle.field.specs.Put.{put, put_none, joined}
 use Rattle.plan_format.specs.Format.{size_of, batch_form, job_form, passes_form}
 use Rattle.plan_format.proofs.FormLaws.{length_form}
-use Rattle.rules.specs.Plan.{batch_values, batch_bytes, job_values, job_bytes, passes_values, passes_bytes}
+use Rattle.rules.specs.Plan.{members_bytes, batch_values, batch_bytes, job_values, job_bytes, passes_values, passes_bytes}
 use Rattle.rules.specs.declared.Batch.{Batch}
 use Rattle.rules.specs.declared.Job.{Job}
 use Rattle.rules.specs.declared.Passes.{Passes}
-use Rattle.plan_fields.specs.Stored.{batch, job, passes, batch_in, job_in, passes_in}
 
 -- the length of each field
 pub length_batch : (b : Batch) → length (batch_bytes b) ≡ size_of batch_form
@@ -23,44 +23,34 @@ pub length_passes : (p : Passes) → length (passes_bytes p) ≡ size_of passes_
 unfolding passes_bytes
 length_passes p = length_form passes_form (passes_values p) refl
 
-module _ (last start finish : List ℕ) (d₀ : List ℕ) (at n : ℕ) where
-  pub batches_none : Storing batch_bytes (batch_in last start finish) d₀ d₀ at n 0
-  batches_none = storing_none batch_bytes (batch_in last start finish) d₀ at n
+module _ {A : Type 0} (bytes : A → List ℕ) where
+  -- the bytes of one member more
+  members_more : (xs : List A) (x : A) → members_bytes bytes xs ++ bytes x ≡ members_bytes bytes (xs ++ (x ∷ []))
+  unfolding members_bytes
+  members_more [] x = sym (append-nil (bytes x))
+  members_more (y ∷ ys) x = append_assoc (bytes y) (members_bytes bytes ys) (bytes x) ∙ ap (λ (l : List ℕ). bytes y ++ l) (members_more ys x)
 
-  pub batches_more : (d d₁ : List ℕ) (i : ℕ) → Storing batch_bytes (batch_in last start finish) d₀ d at n i → i < n
-      → d₁ ≡ put d (at + size_of batch_form * i) (batch_bytes (batch (get_or last i 0) (get_or start i 0) (get_or finish i 0)))
-      → Storing batch_bytes (batch_in last start finish) d₀ d₁ at n (i + 1)
-  unfolding batch_in
-  batches_more d d₁ i s l e = storing_more batch_bytes (batch_in last start finish) (size_of batch_form) (λ k. length_batch (batch_in last start finish k)) d₀ d d₁ at n i s l e
+  module _ (size : ℕ) (sized : (x : A) → length (bytes x) ≡ size) where
+    pub length_members : (xs : List A) → length (members_bytes bytes xs) ≡ size * length xs
+    unfolding members_bytes
+    length_members [] = sym (mul-zero size)
+    length_members (x ∷ xs) =
+        length-append (bytes x) (members_bytes bytes xs) ∙ omega (arith, sized x, length_members xs, mul-suc size (length xs))
 
-  pub batches_all : (d : List ℕ) (i : ℕ) → Storing batch_bytes (batch_in last start finish) d₀ d at n i → n ≤ i
-      → d ≡ put d₀ at (members_to batch_bytes (batch_in last start finish) n)
-  batches_all d i s l = storing_all batch_bytes (batch_in last start finish) d₀ d at n i s l
+    -- the next member stands behind the first i
+    pub members_next : (xs : List A) (i : ℕ) (x : A) (skip : ℕ) (d₀ d d₁ : List ℕ) (at : ℕ) → i < length xs → x ≡ get_or xs i x → skip ≡ size
+        → d ≡ put d₀ at (members_bytes bytes (take i xs)) → d₁ ≡ put d (at + skip * i) (bytes x)
+        → d₁ ≡ put d₀ at (members_bytes bytes (take (i + 1) xs))
+    members_next xs i x skip d₀ d d₁ at l is e e₁ e₂ =
+        joined d₀ d d₁ at (at + skip * i) (members_bytes bytes (take i xs)) (bytes x) e₁ e₂ place
+        ∙ ap (put d₀ at) (members_more (take i xs) x ∙ ap (members_bytes bytes) (ap (λ (y : A). take i xs ++ (y ∷ [])) is ∙ sym (take_more xs i x l)))
+      where
+        place : at + skip * i ≡ at + length (members_bytes bytes (take i xs))
+        place =
+            ap (λ (k : ℕ). at + k * i) e
+            ∙ ap (λ (k : ℕ). at + size * k) (sym (length-take-le i xs (omega arith)))
+            ∙ ap (λ (k : ℕ). at + k) (sym (length_members (take i xs)))
 
-module _ (desk number scan start : List ℕ) (d₀ : List ℕ) (at n : ℕ) where
-  pub jobs_none : Storing job_bytes (job_in desk number scan start) d₀ d₀ at n 0
-  jobs_none = storing_none job_bytes (job_in desk number scan start) d₀ at n
-
-  pub jobs_more : (d d₁ : List ℕ) (i : ℕ) → Storing job_bytes (job_in desk number scan start) d₀ d at n i → i < n
-      → d₁ ≡ put d (at + size_of job_form * i) (job_bytes (job (get_or desk i 0) (get_or number i 0) (get_or scan i 0) (get_or start i 0)))
-      → Storing job_bytes (job_in desk number scan start) d₀ d₁ at n (i + 1)
-  unfolding job_in
-  jobs_more d d₁ i s l e = storing_more job_bytes (job_in desk number scan start) (size_of job_form) (λ k. length_job (job_in desk number scan start k)) d₀ d d₁ at n i s l e
-
-  pub jobs_all : (d : List ℕ) (i : ℕ) → Storing job_bytes (job_in desk number scan start) d₀ d at n i → n ≤ i
-      → d ≡ put d₀ at (members_to job_bytes (job_in desk number scan start) n)
-  jobs_all d i s l = storing_all job_bytes (job_in desk number scan start) d₀ d at n i s l
-
-module _ (first second : List ℕ) (d₀ : List ℕ) (at n : ℕ) where
-  pub blocks_none : Storing passes_bytes (passes_in first second) d₀ d₀ at n 0
-  blocks_none = storing_none passes_bytes (passes_in first second) d₀ at n
-
-  pub blocks_more : (d d₁ : List ℕ) (i : ℕ) → Storing passes_bytes (passes_in first second) d₀ d at n i → i < n
-      → d₁ ≡ put d (at + size_of passes_form * i) (passes_bytes (passes (get_or first i 0) (get_or second i 0)))
-      → Storing passes_bytes (passes_in first second) d₀ d₁ at n (i + 1)
-  unfolding passes_in
-  blocks_more d d₁ i s l e = storing_more passes_bytes (passes_in first second) (size_of passes_form) (λ k. length_passes (passes_in first second k)) d₀ d d₁ at n i s l e
-
-  pub blocks_all : (d : List ℕ) (i : ℕ) → Storing passes_bytes (passes_in first second) d₀ d at n i → n ≤ i
-      → d ≡ put d₀ at (members_to passes_bytes (passes_in first second) n)
-  blocks_all d i s l = storing_all passes_bytes (passes_in first second) d₀ d at n i s l
+  pub members_none : (xs : List A) (d : List ℕ) (at : ℕ) → d ≡ put d at (members_bytes bytes (take 0 xs))
+  unfolding members_bytes
+  members_none xs d at = put_none d at

@@ -1,10 +1,10 @@
-// The members of the sections: one field, and the first n of the lists that a plan keeps them in.
-ghost use Rattle.std.specs.Prelude.{◌≡◌, ◌+◌, ◌≤◌, length};
+// The members of the sections: each stores its field, all of a kind are of one size, and a section's are stored one behind the other.
+ghost use Rattle.std.specs.Prelude.{◌≡◌, ◌+◌, ◌*◌, ◌≤◌, ℕ, List, length};
 ghost use Rattle.field.specs.Put.{put};
-ghost use Rattle.field.specs.Members.{members_to};
 ghost use Rattle.plan_format.specs.Format.{size_of, offset_of, batch_form, job_form, passes_form};
-ghost use Rattle.rules.specs.Plan.{batch_bytes, job_bytes, passes_bytes};
-ghost use Rattle.plan_fields.specs.Stored.{strip_bytes, batch, job, passes, batch_in, job_in, passes_in, PutBatchesPre, PutJobsPre, PutBlocksPre};
+ghost use Rattle.rules.specs.Plan.{members_bytes, batch_bytes, job_bytes, passes_bytes};
+ghost use Rattle.plan_fields.specs.Stored.{strip_bytes};
+ghost use Rattle.plan_fields.specs.MemberLaws.{length_batch, length_job, length_passes};
 
 use crate::tag::put_tag;
 use field::put_number;
@@ -12,36 +12,40 @@ use plan_format::{
     BATCH_FINISH, BATCH_LENGTH, BATCH_SIZE, BATCH_START, CONTENT, JOB_LENGTH, JOB_NUMBER, JOB_SCAN,
     JOB_SIZE, JOB_START, NUMBER_WIDTH, PASSES_LENGTH, PASSES_SECOND, PASSES_SIZE, TIME_WIDTH,
 };
+use rules::{Batch, Job, Passes};
 use sheet::tags::{PLAN_BATCH, PLAN_BLOCK, PLAN_STRIP};
 
-fn put_batch(d: &mut [u8], at: usize, last: u64, start: u64, finish: u64)
-    requires { at + size_of batch_form ≤ length d.old }
-    ensures { d.new ≡ put d.old at (batch_bytes (batch last start finish)) }
-{
-    put_tag(d, at, PLAN_BATCH, BATCH_LENGTH);
-    put_number(d, at + CONTENT, NUMBER_WIDTH, last);
-    put_number(d, at + BATCH_START, TIME_WIDTH, start);
-    put_number(d, at + BATCH_FINISH, TIME_WIDTH, finish);
+// A member of a section: the bytes of its field, of a size that all of its kind have.
+pub trait Member {
+    ghost bytes: { Self → List ℕ };
+
+    ghost SIZE: { ℕ };
+
+    const SIZE: usize;
+
+    // Stores the member's field at an offset.
+    fn store(&self, d: &mut [u8], at: usize)
+        requires { at + SIZE ≤ length d.old }
+        ensures { d.new ≡ put d.old at (bytes self.now) };
+
+    ghost sized: { (member : Self) → length (bytes member) ≡ SIZE };
 }
 
-// The first n batches of the lists.
-pub fn put_batches<'a>(
-    d: &mut [u8],
-    at: usize,
-    last: &'a [u64],
-    start: &'a [u64],
-    finish: &'a [u64],
-    n: usize,
-)
-    requires { PutBatchesPre d.old at last.now start.now finish.now n }
-    ensures { d.new
-        ≡ put d.old at (members_to batch_bytes (batch_in last.now start.now finish.now) n) }
-{
-    let mut i: usize = 0;
-    while i < n {
-        put_batch(d, at + BATCH_SIZE * i, last[i], start[i], finish[i]);
-        i += 1;
+impl Member for Batch {
+    ghost bytes = { batch_bytes };
+
+    ghost SIZE = { size_of batch_form };
+
+    const SIZE: usize = BATCH_SIZE;
+
+    fn store(&self, d: &mut [u8], at: usize) {
+        put_tag(d, at, PLAN_BATCH, BATCH_LENGTH);
+        put_number(d, at + CONTENT, NUMBER_WIDTH, self.last);
+        put_number(d, at + BATCH_START, TIME_WIDTH, self.start);
+        put_number(d, at + BATCH_FINISH, TIME_WIDTH, self.finish);
     }
+
+    ghost sized = { length_batch };
 }
 
 // The field of a job as far as its number within the desk.
@@ -54,53 +58,44 @@ fn put_strip(d: &mut [u8], at: usize, desk: u64, number: u64)
     put_number(d, at + JOB_NUMBER, NUMBER_WIDTH, number);
 }
 
-fn put_job(d: &mut [u8], at: usize, desk: u64, number: u64, scan: u64, start: u64)
-    requires { at + size_of job_form ≤ length d.old }
-    ensures { d.new ≡ put d.old at (job_bytes (job desk number scan start)) }
-{
-    put_strip(d, at, desk, number);
-    put_number(d, at + JOB_SCAN, TIME_WIDTH, scan);
-    put_number(d, at + JOB_START, TIME_WIDTH, start);
-}
+impl Member for Job {
+    ghost bytes = { job_bytes };
 
-// The first n jobs of the lists.
-pub fn put_jobs<'a>(
-    d: &mut [u8],
-    at: usize,
-    desk: &'a [u64],
-    number: &'a [u64],
-    scan: &'a [u64],
-    start: &'a [u64],
-    n: usize,
-)
-    requires { PutJobsPre d.old at desk.now number.now scan.now start.now n }
-    ensures { d.new
-        ≡ put d.old at (members_to job_bytes (job_in desk.now number.now scan.now start.now) n) }
-{
-    let mut i: usize = 0;
-    while i < n {
-        put_job(d, at + JOB_SIZE * i, desk[i], number[i], scan[i], start[i]);
-        i += 1;
+    ghost SIZE = { size_of job_form };
+
+    const SIZE: usize = JOB_SIZE;
+
+    fn store(&self, d: &mut [u8], at: usize) {
+        put_strip(d, at, self.desk, self.number);
+        put_number(d, at + JOB_SCAN, TIME_WIDTH, self.scan);
+        put_number(d, at + JOB_START, TIME_WIDTH, self.start);
     }
+
+    ghost sized = { length_job };
 }
 
-fn put_passes(d: &mut [u8], at: usize, first: u64, second: u64)
-    requires { at + size_of passes_form ≤ length d.old }
-    ensures { d.new ≡ put d.old at (passes_bytes (passes first second)) }
-{
-    put_tag(d, at, PLAN_BLOCK, PASSES_LENGTH);
-    put_number(d, at + CONTENT, TIME_WIDTH, first);
-    put_number(d, at + PASSES_SECOND, TIME_WIDTH, second);
+impl Member for Passes {
+    ghost bytes = { passes_bytes };
+
+    ghost SIZE = { size_of passes_form };
+
+    const SIZE: usize = PASSES_SIZE;
+
+    fn store(&self, d: &mut [u8], at: usize) {
+        put_tag(d, at, PLAN_BLOCK, PASSES_LENGTH);
+        put_number(d, at + CONTENT, TIME_WIDTH, self.first);
+        put_number(d, at + PASSES_SECOND, TIME_WIDTH, self.second);
+    }
+
+    ghost sized = { length_passes };
 }
 
-// The first n pairs of starts of the lists.
-pub fn put_blocks<'a>(d: &mut [u8], at: usize, first: &'a [u64], second: &'a [u64], n: usize)
-    requires { PutBlocksPre d.old at first.now second.now n }
-    ensures { d.new ≡ put d.old at (members_to passes_bytes (passes_in first.now second.now) n) }
+// Stores members one behind the other, from an offset on.
+pub fn put_members<M: Member>(d: &mut [u8], at: usize, members: &[M])
+    requires { at + M.SIZE * length members.now ≤ length d.old }
+    ensures { d.new ≡ put d.old at (members_bytes M.bytes members.now) }
 {
-    let mut i: usize = 0;
-    while i < n {
-        put_passes(d, at + PASSES_SIZE * i, first[i], second[i]);
-        i += 1;
+    for (i, member) in members.iter().enumerate() {
+        member.store(d, at + M::SIZE * i);
     }
 }

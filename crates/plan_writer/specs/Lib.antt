@@ -1,5 +1,4 @@
 -- What the writer of plans leaves in its buffer, and the laws of it.
 pub mod Written
-pub mod Members
 pub mod SectionLaws
 pub mod PlanLaws

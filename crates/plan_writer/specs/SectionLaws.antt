@@ -1,8 +1,8 @@
 -- A section is its head and its members, stored one behind the other; an absent one is nothing.
-use Rattle.std.specs.Prelude.{ℕ, ◌+◌, ◌*◌, ◌≤◌, ◌<◌, ◌≡◌, refl, List, [], ◌∷◌, ◌++◌, length}
-use Rattle.std.proofs.Common.{sym, ap, ◌∙◌, length-append, arith}
+use Rattle.std.specs.Prelude.{ℕ, ◌+◌, ◌*◌, ◌≤◌, ◌<◌, ◌≡◌, refl, List, [], ◌∷◌, ◌++◌, length, take}
+use Rattle.std.proofs.Common.{ap, ◌∙◌, length-append, arith, mul-le-mul_left}
+use Rattle.std.proofs.lemmas.List.{length-take, length-take-le}
 use Rattle.field.specs.Put.{put, put_none, joined, Written}
-use Rattle.field.specs.Members.{members_to, length_members}
 use Rattle.plan_format.specs.Format.{size_of, form_bytes, mosaic_head_form, batch_form, sorting_head_form, job_form, flight_head_form, passes_form}
 use Rattle.plan_format.proofs.FormLaws.{length_form}
 use Rattle.rules.specs.Plan.{mosaic_bytes, sorting_bytes, flight_bytes, if_present, members_bytes, batch_bytes, job_bytes, passes_bytes}
@@ -13,9 +13,7 @@ use Rattle.sorting.specs.Plan.{jobs_of_plan}
 use Rattle.sorting.specs.declared.SortingPlan.{SortingPlan}
 use Rattle.flight.specs.Choice.{passes_of_plan}
 use Rattle.flight.specs.declared.FlightPlan.{FlightPlan}
-use Rattle.plan_fields.specs.Stored.{batch_in, job_in, passes_in}
-use Rattle.plan_fields.specs.MemberLaws.{length_batch, length_job, length_passes}
-use Rattle.plan_writer.specs.Members.{batches_bytes, jobs_bytes, passes_bytes_lem}
+use Rattle.plan_fields.specs.MemberLaws.{length_batch, length_job, length_passes, length_members}
 
 -- An absent section stores nothing.
 absent : (d : List ℕ) (at n : ℕ) (bytes : List ℕ) → n < 1 → Written d d at (if_present n bytes) at
@@ -33,19 +31,6 @@ sorting_absent d at n p h = absent d at n (sorting_bytes p.figure (jobs_of_plan 
 pub flight_absent : (d : List ℕ) (at n : ℕ) (p : FlightPlan) → n < 1 → Written d d at (if_present n (flight_bytes p.figure p.order (passes_of_plan n p))) at
 flight_absent d at n p h = absent d at n (flight_bytes p.figure p.order (passes_of_plan n p)) h
 
--- The members of a plan's lists are its members.
-pub batches_stored : (p : MosaicPlan) (d d₁ : List ℕ) (at : ℕ) → d₁ ≡ put d at (members_to batch_bytes (batch_in p.last p.start p.finish) p.batches)
-    → d₁ ≡ put d at (members_bytes batch_bytes (batches_of p))
-batches_stored p d d₁ at e = e ∙ ap (put d at) (sym (batches_bytes p))
-
-pub jobs_stored : (p : SortingPlan) (d d₁ : List ℕ) (at : ℕ) → d₁ ≡ put d at (members_to job_bytes (job_in p.desk p.number p.scan p.start) p.jobs)
-    → d₁ ≡ put d at (members_bytes job_bytes (jobs_of_plan p))
-jobs_stored p d d₁ at e = e ∙ ap (put d at) (sym (jobs_bytes p))
-
-pub blocks_stored : (p : FlightPlan) (d d₁ : List ℕ) (at n : ℕ) → d₁ ≡ put d at (members_to passes_bytes (passes_in p.first p.second) n)
-    → d₁ ≡ put d at (members_bytes passes_bytes (passes_of_plan n p))
-blocks_stored p d d₁ at n e = e ∙ ap (put d at) (sym (passes_bytes_lem n p))
-
 -- A section: its head and its members.
 section : (d d₁ d₂ : List ℕ) (at n skip size : ℕ) (head members : List ℕ) → 1 ≤ n → length head ≡ skip → length members ≡ size
     → d₁ ≡ put d at head → d₂ ≡ put d₁ (at + skip) members → Written d d₂ at (if_present n (head ++ members)) (at + skip + size)
@@ -53,63 +38,81 @@ section d d₁ d₂ at n skip size head members h l m e₁ e₂ =
     rw (present_some n (head ++ members) h)
     (record { buffer = joined d d₁ d₂ at (at + skip) head members e₁ e₂ (omega arith); end = omega (arith, length-append head members) })
 
-batches_long : (p : MosaicPlan) → length (members_bytes batch_bytes (batches_of p)) ≡ size_of batch_form * p.batches
-batches_long p =
-    ap length (batches_bytes p)
-    ∙ length_members batch_bytes (batch_in p.last p.start p.finish) (size_of batch_form) (λ i. length_batch (batch_in p.last p.start p.finish i)) p.batches
+-- how long the members of a plan are
+first_long : {A : Type 0} (bytes : A → List ℕ) (size : ℕ) → ((x : A) → length (bytes x) ≡ size) → (n : ℕ) (xs : List A) → n ≤ length xs
+    → length (members_bytes bytes (take n xs)) ≡ size * n
+first_long bytes size sized n xs l = length_members bytes size sized (take n xs) ∙ ap (λ (k : ℕ). size * k) (length-take-le n xs l)
 
-jobs_long : (p : SortingPlan) → length (members_bytes job_bytes (jobs_of_plan p)) ≡ size_of job_form * p.jobs
-jobs_long p =
-    ap length (jobs_bytes p)
-    ∙ length_members job_bytes (job_in p.desk p.number p.scan p.start) (size_of job_form) (λ i. length_job (job_in p.desk p.number p.scan p.start i)) p.jobs
+first_most : {A : Type 0} (bytes : A → List ℕ) (size : ℕ) → ((x : A) → length (bytes x) ≡ size) → (n : ℕ) (xs : List A)
+    → length (members_bytes bytes (take n xs)) ≤ size * n
+first_most bytes size sized n xs = rw (length_members bytes size sized (take n xs)) (mul-le-mul_left size (omega (arith, length-take n xs)))
 
-blocks_long : (n : ℕ) (p : FlightPlan) → length (members_bytes passes_bytes (passes_of_plan n p)) ≡ size_of passes_form * n
-blocks_long n p =
-    ap length (passes_bytes_lem n p)
-    ∙ length_members passes_bytes (passes_in p.first p.second) (size_of passes_form) (λ i. length_passes (passes_in p.first p.second i)) n
+batches_long : (p : MosaicPlan) → p.count ≤ length p.batches → length (members_bytes batch_bytes (batches_of p)) ≡ size_of batch_form * p.count
+unfolding batches_of
+batches_long p l = first_long batch_bytes (size_of batch_form) length_batch p.count p.batches l
+
+jobs_long : (p : SortingPlan) → p.count ≤ length p.jobs → length (members_bytes job_bytes (jobs_of_plan p)) ≡ size_of job_form * p.count
+unfolding jobs_of_plan
+jobs_long p l = first_long job_bytes (size_of job_form) length_job p.count p.jobs l
+
+blocks_long : (n : ℕ) (p : FlightPlan) → n ≤ length p.blocks → length (members_bytes passes_bytes (passes_of_plan n p)) ≡ size_of passes_form * n
+unfolding passes_of_plan
+blocks_long n p l = first_long passes_bytes (size_of passes_form) length_passes n p.blocks l
+
+batches_most : (p : MosaicPlan) → length (members_bytes batch_bytes (batches_of p)) ≤ size_of batch_form * p.count
+unfolding batches_of
+batches_most p = first_most batch_bytes (size_of batch_form) length_batch p.count p.batches
+
+jobs_most : (p : SortingPlan) → length (members_bytes job_bytes (jobs_of_plan p)) ≤ size_of job_form * p.count
+unfolding jobs_of_plan
+jobs_most p = first_most job_bytes (size_of job_form) length_job p.count p.jobs
+
+blocks_most : (n : ℕ) (p : FlightPlan) → length (members_bytes passes_bytes (passes_of_plan n p)) ≤ size_of passes_form * n
+unfolding passes_of_plan
+blocks_most n p = first_most passes_bytes (size_of passes_form) length_passes n p.blocks
 
 module _ (d d₁ d₂ : List ℕ) (at n : ℕ) where
-  pub mosaic_written : (p : MosaicPlan) → 1 ≤ n → d₁ ≡ put d at (form_bytes mosaic_head_form (p.figure ∷ []))
-      → d₂ ≡ put d₁ (at + size_of mosaic_head_form) (members_bytes batch_bytes (batches_of p))
-      → Written d d₂ at (if_present n (mosaic_bytes p.figure (batches_of p))) (at + size_of mosaic_head_form + size_of batch_form * p.batches)
-  unfolding mosaic_bytes
-  mosaic_written p h e₁ e₂ =
-      section d d₁ d₂ at n (size_of mosaic_head_form) (size_of batch_form * p.batches) (form_bytes mosaic_head_form (p.figure ∷ []))
-      (members_bytes batch_bytes (batches_of p)) h (length_form mosaic_head_form (p.figure ∷ []) refl) (batches_long p) e₁ e₂
+  pub mosaic_written : (p : MosaicPlan) → 1 ≤ n → p.count ≤ length p.batches → d₁ ≡ put d at (form_bytes mosaic_head_form (p.figure ∷ []))
+      → d₂ ≡ put d₁ (at + size_of mosaic_head_form) (members_bytes batch_bytes (take p.count p.batches))
+      → Written d d₂ at (if_present n (mosaic_bytes p.figure (batches_of p))) (at + size_of mosaic_head_form + size_of batch_form * p.count)
+  unfolding mosaic_bytes batches_of
+  mosaic_written p h l e₁ e₂ =
+      section d d₁ d₂ at n (size_of mosaic_head_form) (size_of batch_form * p.count) (form_bytes mosaic_head_form (p.figure ∷ []))
+      (members_bytes batch_bytes (batches_of p)) h (length_form mosaic_head_form (p.figure ∷ []) refl) (batches_long p l) e₁ e₂
 
-  pub sorting_written : (p : SortingPlan) → 1 ≤ n → d₁ ≡ put d at (form_bytes sorting_head_form (p.figure ∷ []))
-      → d₂ ≡ put d₁ (at + size_of sorting_head_form) (members_bytes job_bytes (jobs_of_plan p))
-      → Written d d₂ at (if_present n (sorting_bytes p.figure (jobs_of_plan p))) (at + size_of sorting_head_form + size_of job_form * p.jobs)
-  unfolding sorting_bytes
-  sorting_written p h e₁ e₂ =
-      section d d₁ d₂ at n (size_of sorting_head_form) (size_of job_form * p.jobs) (form_bytes sorting_head_form (p.figure ∷ []))
-      (members_bytes job_bytes (jobs_of_plan p)) h (length_form sorting_head_form (p.figure ∷ []) refl) (jobs_long p) e₁ e₂
+  pub sorting_written : (p : SortingPlan) → 1 ≤ n → p.count ≤ length p.jobs → d₁ ≡ put d at (form_bytes sorting_head_form (p.figure ∷ []))
+      → d₂ ≡ put d₁ (at + size_of sorting_head_form) (members_bytes job_bytes (take p.count p.jobs))
+      → Written d d₂ at (if_present n (sorting_bytes p.figure (jobs_of_plan p))) (at + size_of sorting_head_form + size_of job_form * p.count)
+  unfolding sorting_bytes jobs_of_plan
+  sorting_written p h l e₁ e₂ =
+      section d d₁ d₂ at n (size_of sorting_head_form) (size_of job_form * p.count) (form_bytes sorting_head_form (p.figure ∷ []))
+      (members_bytes job_bytes (jobs_of_plan p)) h (length_form sorting_head_form (p.figure ∷ []) refl) (jobs_long p l) e₁ e₂
 
-  pub flight_written : (p : FlightPlan) → 1 ≤ n → d₁ ≡ put d at (form_bytes flight_head_form (p.figure ∷ p.order ∷ []))
-      → d₂ ≡ put d₁ (at + size_of flight_head_form) (members_bytes passes_bytes (passes_of_plan n p))
+  pub flight_written : (p : FlightPlan) → 1 ≤ n → n ≤ length p.blocks → d₁ ≡ put d at (form_bytes flight_head_form (p.figure ∷ p.order ∷ []))
+      → d₂ ≡ put d₁ (at + size_of flight_head_form) (members_bytes passes_bytes (take n p.blocks))
       → Written d d₂ at (if_present n (flight_bytes p.figure p.order (passes_of_plan n p))) (at + size_of flight_head_form + size_of passes_form * n)
-  unfolding flight_bytes
-  flight_written p h e₁ e₂ =
+  unfolding flight_bytes passes_of_plan
+  flight_written p h l e₁ e₂ =
       section d d₁ d₂ at n (size_of flight_head_form) (size_of passes_form * n) (form_bytes flight_head_form (p.figure ∷ p.order ∷ []))
-      (members_bytes passes_bytes (passes_of_plan n p)) h (length_form flight_head_form (p.figure ∷ p.order ∷ []) refl) (blocks_long n p) e₁ e₂
+      (members_bytes passes_bytes (passes_of_plan n p)) h (length_form flight_head_form (p.figure ∷ p.order ∷ []) refl) (blocks_long n p l) e₁ e₂
 
 -- How long a section is at most.
 present_long : (n most : ℕ) (bytes : List ℕ) → length bytes ≤ most → length (if_present n bytes) ≤ most
 present_long n most bytes h = omega (arith, present_most n bytes)
 
 pub mosaic_long : (n : ℕ) (p : MosaicPlan)
-    → length (if_present n (mosaic_bytes p.figure (batches_of p))) ≤ size_of mosaic_head_form + size_of batch_form * p.batches
+    → length (if_present n (mosaic_bytes p.figure (batches_of p))) ≤ size_of mosaic_head_form + size_of batch_form * p.count
 unfolding mosaic_bytes
 mosaic_long n p =
-    present_long n (size_of mosaic_head_form + size_of batch_form * p.batches) (form_bytes mosaic_head_form (p.figure ∷ []) ++ members_bytes batch_bytes (batches_of p))
-    (omega (arith, length-append (form_bytes mosaic_head_form (p.figure ∷ [])) (members_bytes batch_bytes (batches_of p)), length_form mosaic_head_form (p.figure ∷ []) refl, batches_long p))
+    present_long n (size_of mosaic_head_form + size_of batch_form * p.count) (form_bytes mosaic_head_form (p.figure ∷ []) ++ members_bytes batch_bytes (batches_of p))
+    (omega (arith, length-append (form_bytes mosaic_head_form (p.figure ∷ [])) (members_bytes batch_bytes (batches_of p)), length_form mosaic_head_form (p.figure ∷ []) refl, batches_most p))
 
 pub sorting_long : (n : ℕ) (p : SortingPlan)
-    → length (if_present n (sorting_bytes p.figure (jobs_of_plan p))) ≤ size_of sorting_head_form + size_of job_form * p.jobs
+    → length (if_present n (sorting_bytes p.figure (jobs_of_plan p))) ≤ size_of sorting_head_form + size_of job_form * p.count
 unfolding sorting_bytes
 sorting_long n p =
-    present_long n (size_of sorting_head_form + size_of job_form * p.jobs) (form_bytes sorting_head_form (p.figure ∷ []) ++ members_bytes job_bytes (jobs_of_plan p))
-    (omega (arith, length-append (form_bytes sorting_head_form (p.figure ∷ [])) (members_bytes job_bytes (jobs_of_plan p)), length_form sorting_head_form (p.figure ∷ []) refl, jobs_long p))
+    present_long n (size_of sorting_head_form + size_of job_form * p.count) (form_bytes sorting_head_form (p.figure ∷ []) ++ members_bytes job_bytes (jobs_of_plan p))
+    (omega (arith, length-append (form_bytes sorting_head_form (p.figure ∷ [])) (members_bytes job_bytes (jobs_of_plan p)), length_form sorting_head_form (p.figure ∷ []) refl, jobs_most p))
 
 pub flight_long : (n : ℕ) (p : FlightPlan)
     → length (if_present n (flight_bytes p.figure p.order (passes_of_plan n p))) ≤ size_of flight_head_form + size_of passes_form * n
@@ -117,4 +120,4 @@ unfolding flight_bytes
 flight_long n p =
     present_long n (size_of flight_head_form + size_of passes_form * n)
     (form_bytes flight_head_form (p.figure ∷ p.order ∷ []) ++ members_bytes passes_bytes (passes_of_plan n p))
-    (omega (arith, length-append (form_bytes flight_head_form (p.figure ∷ p.order ∷ [])) (members_bytes passes_bytes (passes_of_plan n p)), length_form flight_head_form (p.figure ∷ p.order ∷ []) refl, blocks_long n p))
+    (omega (arith, length-append (form_bytes flight_head_form (p.figure ∷ p.order ∷ [])) (members_bytes passes_bytes (passes_of_plan n p)), length_form flight_head_form (p.figure ∷ p.order ∷ []) refl, blocks_most n p))

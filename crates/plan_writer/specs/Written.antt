@@ -12,27 +12,14 @@ use Rattle.sorting.specs.declared.SortingPlan.{SortingPlan}
 use Rattle.flight.specs.Choice.{passes_of_plan}
 use Rattle.flight.specs.declared.FlightPlan.{FlightPlan}
 
--- a plan of no more members than a sheet may have, and room for their fields
-pub record PutMosaicBatchesPre (d : List ℕ) (at : ℕ) (p : MosaicPlan) : Type 0 where
-  pub few : p.batches ≤ most_strips
-  pub room : at + size_of batch_form * p.batches ≤ length d
-
-pub record PutSortingJobsPre (d : List ℕ) (at : ℕ) (p : SortingPlan) : Type 0 where
-  pub few : p.jobs ≤ most_desks * most_strips_of_desk
-  pub room : at + size_of job_form * p.jobs ≤ length d
-
-pub record PutFlightBlocksPre (d : List ℕ) (at n : ℕ) : Type 0 where
-  pub few : n ≤ most_blocks
-  pub room : at + size_of passes_form * n ≤ length d
-
--- the same with room for the section's head
+-- a plan of no more members than a sheet may have, and room for its section
 pub record WriteMosaicPre (d : List ℕ) (at : ℕ) (p : MosaicPlan) : Type 0 where
-  pub few : p.batches ≤ most_strips
-  pub room : at + size_of mosaic_head_form + size_of batch_form * p.batches ≤ length d
+  pub few : p.count ≤ most_strips
+  pub room : at + size_of mosaic_head_form + size_of batch_form * p.count ≤ length d
 
 pub record WriteSortingPre (d : List ℕ) (at : ℕ) (p : SortingPlan) : Type 0 where
-  pub few : p.jobs ≤ most_desks * most_strips_of_desk
-  pub room : at + size_of sorting_head_form + size_of job_form * p.jobs ≤ length d
+  pub few : p.count ≤ most_desks * most_strips_of_desk
+  pub room : at + size_of sorting_head_form + size_of job_form * p.count ≤ length d
 
 pub record WriteFlightPre (d : List ℕ) (at n : ℕ) : Type 0 where
   pub few : n ≤ most_blocks
@@ -41,8 +28,8 @@ pub record WriteFlightPre (d : List ℕ) (at n : ℕ) : Type 0 where
 -- a plan buffer of the length that every plan fits, and plans of no more members than a sheet may have
 pub record WritePlanPre (d : List ℕ) (s : Sheet) (m : MosaicPlan) (t : SortingPlan) : Type 0 where
   pub room : plan_length ≤ length d
-  pub batches : m.batches ≤ most_strips
-  pub jobs : t.jobs ≤ most_desks * most_strips_of_desk
+  pub batches : m.count ≤ most_strips
+  pub jobs : t.count ≤ most_desks * most_strips_of_desk
   pub blocks : s.flight.blocks ≤ most_blocks
   pub sorting : SortingSound s.sorting
 

@@ -1,55 +1,23 @@
 // The bytes of a plan, stored into the lent buffer: its sections one behind the other, each a head and its members.
 #![tactic(auto)]
 
-ghost use Rattle.std.specs.Prelude.{◌≡◌};
-ghost use Rattle.field.specs.Put.{put, Written};
-ghost use Rattle.rules.specs.Plan.{members_bytes, batch_bytes, job_bytes, passes_bytes, mosaic_bytes, sorting_bytes, flight_bytes, if_present};
+ghost use Rattle.field.specs.Put.{Written};
+ghost use Rattle.rules.specs.Plan.{mosaic_bytes, sorting_bytes, flight_bytes, if_present};
 ghost use Rattle.mosaic.specs.Plan.{batches_of};
 ghost use Rattle.sorting.specs.Plan.{jobs_of_plan};
 ghost use Rattle.flight.specs.Choice.{passes_of_plan};
-ghost use Rattle.plan_writer.specs.Written.{PutMosaicBatchesPre, PutSortingJobsPre, PutFlightBlocksPre, WriteMosaicPre, WriteSortingPre};
-ghost use Rattle.plan_writer.specs.Written.{WriteFlightPre, WritePlanPre, plan_of};
+ghost use Rattle.plan_writer.specs.Written.{WriteMosaicPre, WriteSortingPre, WriteFlightPre, WritePlanPre, plan_of};
 
 use flight::FlightPlan;
 use mosaic::MosaicPlan;
 use plan_fields::heads::{put_flight_head, put_mosaic_head, put_sorting_head};
-use plan_fields::members::{put_batches, put_blocks, put_jobs};
+use plan_fields::members::put_members;
 use plan_format::{
     BATCH_SIZE, FLIGHT_HEAD_SIZE, JOB_SIZE, MOSAIC_HEAD_SIZE, PASSES_SIZE, SORTING_HEAD_SIZE,
 };
 use sheet::Sheet;
 use sheet::desks::strips_in_all;
 use sorting::SortingPlan;
-
-fn put_mosaic_batches(d: &mut [u8], at: usize, p: MosaicPlan)
-    requires { PutMosaicBatchesPre d.old at p }
-    ensures { d.new ≡ put d.old at (members_bytes batch_bytes (batches_of p)) }
-{
-    let last = p.last;
-    let start = p.start;
-    let finish = p.finish;
-    put_batches(d, at, &last, &start, &finish, p.batches);
-}
-
-fn put_sorting_jobs(d: &mut [u8], at: usize, p: SortingPlan)
-    requires { PutSortingJobsPre d.old at p }
-    ensures { d.new ≡ put d.old at (members_bytes job_bytes (jobs_of_plan p)) }
-{
-    let desk = p.desk;
-    let number = p.number;
-    let scan = p.scan;
-    let start = p.start;
-    put_jobs(d, at, &desk, &number, &scan, &start, p.jobs);
-}
-
-fn put_flight_blocks(d: &mut [u8], at: usize, n: usize, p: FlightPlan)
-    requires { PutFlightBlocksPre d.old at n }
-    ensures { d.new ≡ put d.old at (members_bytes passes_bytes (passes_of_plan n p)) }
-{
-    let first = p.first;
-    let second = p.second;
-    put_blocks(d, at, &first, &second, n);
-}
 
 // The mosaic section of a plan, none where the sheet has no strip of it. Returns the offset behind it.
 fn write_mosaic(d: &mut [u8], at: usize, strips: usize, p: MosaicPlan) -> usize
@@ -60,8 +28,8 @@ fn write_mosaic(d: &mut [u8], at: usize, strips: usize, p: MosaicPlan) -> usize
         return at;
     }
     put_mosaic_head(d, at, p.figure);
-    put_mosaic_batches(d, at + MOSAIC_HEAD_SIZE, p);
-    at + MOSAIC_HEAD_SIZE + BATCH_SIZE * p.batches
+    put_members(d, at + MOSAIC_HEAD_SIZE, &p.batches[..p.count]);
+    at + MOSAIC_HEAD_SIZE + BATCH_SIZE * p.count
 }
 
 // The sorting section of a plan, none where the sheet has no strip of it. Returns the offset behind it.
@@ -73,8 +41,8 @@ fn write_sorting(d: &mut [u8], at: usize, strips: usize, p: SortingPlan) -> usiz
         return at;
     }
     put_sorting_head(d, at, p.figure);
-    put_sorting_jobs(d, at + SORTING_HEAD_SIZE, p);
-    at + SORTING_HEAD_SIZE + JOB_SIZE * p.jobs
+    put_members(d, at + SORTING_HEAD_SIZE, &p.jobs[..p.count]);
+    at + SORTING_HEAD_SIZE + JOB_SIZE * p.count
 }
 
 // The flight section of a plan of n blocks, none where the sheet has no block. Returns the offset behind it.
@@ -86,7 +54,7 @@ fn write_flight(d: &mut [u8], at: usize, n: usize, p: FlightPlan) -> usize
         return at;
     }
     put_flight_head(d, at, p.figure, p.order);
-    put_flight_blocks(d, at + FLIGHT_HEAD_SIZE, n, p);
+    put_members(d, at + FLIGHT_HEAD_SIZE, &p.blocks[..n]);
     at + FLIGHT_HEAD_SIZE + PASSES_SIZE * n
 }
 

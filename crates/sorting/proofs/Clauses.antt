@@ -1,5 +1,5 @@
 -- The contract of the planner.
-use Rattle.std.specs.Prelude.{◌≡◌, refl, List, ℕ, ◌*◌, ◌≤◌, length}
+use Rattle.std.specs.Prelude.{◌≡◌, refl, List, ℕ, length}
 use Rattle.std.proofs.Common.{sym, ap, subst, ◌∙◌, arith}
 use Rattle.sheet.specs.declared.SortingSection.{SortingSection}
 use Rattle.interleaving.specs.declared.Incumbent.{Incumbent}
@@ -40,7 +40,7 @@ planned {s} {J} {M} {N} {b} {r} h e f w = record {
     least : b.figure ≡ (first_best (instance_of s)).figure
     least = ap (λ (x : Incumbent). x.figure) (f.found ∙ ap first_best e)
 
-    count : r.jobs ≡ length (chosen_jobs s)
+    count : r.count ≡ length (chosen_jobs s)
     count = w.count ∙ ap (λ (x : List ℕ). (start_state x).left) e ∙ sym (chosen_length s h.sound)
 
     same : jobs_of_list J (first_best J).path ≡ chosen_jobs s

@@ -1,6 +1,5 @@
 -- The contract of the planner.
 use Rattle.std.specs.Prelude.{◌≡◌, List, ℕ, ◌*◌, ◌≤◌, length}
-use Rattle.std.proofs.Common.{◌∙◌}
 use Rattle.sheet.specs.Limits.{most_desks, most_strips_of_desk, table_length}
 use Rattle.sheet.specs.declared.SortingSection.{SortingSection}
 use Rattle.sheet.specs.Sound.{SortingSound}
@@ -20,7 +19,7 @@ pub record Planned (s : SortingSection) (table after : List ℕ) (r : SortingPla
   pub plan : r ≡ written_plan (instance_of s)
   pub figure : r.figure ≡ least_figure s
   pub jobs : jobs_of_plan r ≡ chosen_jobs s
-  pub count : r.jobs ≡ length (chosen_jobs s)
-  pub most : r.jobs ≤ most_desks * most_strips_of_desk
+  pub count : r.count ≡ length (chosen_jobs s)
+  pub most : r.count ≤ most_desks * most_strips_of_desk
   pub size : length after ≡ length table
   pub working : search.Used (instance_of s) table after (least_figure s)

@@ -1,5 +1,5 @@
 -- The least figure and the chosen jobs of a sorting section, by the search over interleavings without any cut (crate interleaving).
-use Rattle.std.specs.Prelude.{List, ◌++◌, ℕ, zero, suc, ◌+◌, ◌-◌, ◌/◌, ◌%◌, ◌^◌, max, get_or}
+use Rattle.std.specs.Prelude.{List, ◌++◌, ℕ, zero, suc, ◌+◌, ◌-◌, ◌/◌, ◌%◌, ◌^◌, max, get_or, take}
 use Rattle.base.specs.Listed.{listed}
 use Rattle.sheet.specs.declared.SortingSection.{SortingSection}
 use Rattle.rules.specs.declared.Job.{Job}
@@ -37,9 +37,6 @@ jobs_of_list J p =
 unfoldable pub chosen_jobs : SortingSection → List Job
 chosen_jobs s = jobs_of_list (instance_of s) (first_best (instance_of s)).path
 
--- job i, from 0, of a plan, and all jobs that it holds
-abbrev pub plan_job : SortingPlan → ℕ → Job
-plan_job p i = record { desk = get_or p.desk i 0; number = get_or p.number i 0; scan = get_or p.scan i 0; start = get_or p.start i 0 }
-
+-- the jobs of a plan: the first entries of its array
 unfoldable pub jobs_of_plan : SortingPlan → List Job
-jobs_of_plan p = listed p.jobs (plan_job p)
+jobs_of_plan p = take p.count p.jobs

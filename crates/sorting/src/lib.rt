@@ -4,21 +4,18 @@
 
 ghost use Rattle.sorting.specs.Clauses.{PlanSortingPre, Planned};
 
+use rules::Job;
 use sheet::SortingSection;
 
 mod instance;
 mod writing;
 
-// A plan of the section: its figure, and the first `jobs` strips in scanner order, each with its desk, its number within the desk, the start of its scan and
-// the start of its desk job.
+// A plan of the section: its figure, and its jobs in scanner order, the first `count` entries, with zeros after them.
 #[derive(Clone, Copy)]
 pub struct SortingPlan {
     pub figure: u64,
-    pub jobs: usize,
-    pub desk: [u64; 18],
-    pub number: [u64; 18],
-    pub scan: [u64; 18],
-    pub start: [u64; 18],
+    pub count: usize,
+    pub jobs: [Job; 18],
 }
 
 // The caller clears the table.

@@ -5,14 +5,14 @@ use Rattle.mosaic.proofs.batches.choose_batches.Goals as goal
 pub loop-i-init : goal.loop-i-init
 loop-i-init c = plan_start
 
-pub add_batch-plan-requires : goal.add_batch-plan-requires
-add_batch-plan-requires c = plan_add c.loop-i.invariant
-    c.loop-i-test.true c.first_batch-q.ensures _ c.max-begin.ensures
+pub add-requires : goal.add-requires
+add-requires c = plan_add c.loop-i.invariant
+    c.loop-i-test.true c.first_batch-q.ensures _ c.max-begin.ensures _ _
 
 pub loop-i-preserved : goal.loop-i-preserved
 loop-i-preserved c = plan_step c.loop-i.invariant
     c.loop-i-test.true c.first_batch-q.ensures c.max-begin.ensures
-    c.add_batch-plan.ensures
+    c.add.ensures
 
 pub returns : goal.returns
 returns c = plan_end c.loop-i.invariant c.loop-i-test.false

@@ -1,13 +1,9 @@
 -- `sorting::writing::digit` meets its contract. The loop's invariant: the rest is the number without its last i digits.
-use Rattle.sorting.proofs.WritingLaws.{digit_start, digit_more, digit_end}
-use native.Mathlib.Omega.{arith}
+use Rattle.sorting.proofs.WritingLaws.{digit_start, digit_more}
 use Rattle.sorting.proofs.writing.digit.Goals as goal
 
 pub loop-i-init : goal.loop-i-init
-loop-i-init c = (omega arith, digit_start _)
+loop-i-init c = digit_start _
 
 pub loop-i-preserved : goal.loop-i-preserved
-loop-i-preserved c = (omega arith, digit_more _ _ _ c.loop-i.invariant.1)
-
-pub returns : goal.returns
-returns c = digit_end _ _ _ _ c.loop-i.invariant (omega arith)
+loop-i-preserved c = digit_more _ _ _ c.loop-i.invariant

@@ -4,7 +4,7 @@ use Rattle.sorting.specs.Writing.{Begun}
 use Rattle.sorting.proofs.writing.plan_of.Given as goal
 
 abbrev pub invariant-loop-s : goal.invariant-loop-s
-invariant-loop-s l = Begun l.jobs l.best l.p l.s
+invariant-loop-s l = Begun l.jobs l.best l.plan l.s
 
 abbrev pub decreases-loop-s : goal.decreases-loop-s
 decreases-loop-s l = l.s.left

@@ -1,6 +1,0 @@
--- `plan_fields::members::put_job` meets its contract: the stores one behind the other are the job's field.
-use Rattle.plan_fields.specs.FieldLaws.{job_stored}
-use Rattle.plan_fields.proofs.members.put_job.Goals as goal
-
-pub returns : goal.returns
-returns c = search job_stored
