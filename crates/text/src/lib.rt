@@ -9,12 +9,10 @@ pub fn put_bytes(out: &mut [u8], at: usize, bytes: &[u8]) -> usize
     requires { at + length bytes.now ≤ length out.old }
     ensures { BytesPut out.old at bytes.now out.new result }
 {
-    let mut done: usize = 0;
-    while done < bytes.len() {
+    for done in 0..bytes.len() {
         out[at + done] = bytes[done];
-        done += 1;
     }
-    at + done
+    at + bytes.len()
 }
 
 // Stores a name and behind it a number in decimal digits. Returns the offset behind them.
