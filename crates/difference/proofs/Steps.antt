@@ -3,7 +3,7 @@
 use mathlib.Core.Path.{◌≡◌, refl, sym, ap, ◌∙◌}
 use mathlib.Core.Bool.{Bool, true, false, ◌&&◌, true≢false}
 use mathlib.Core.List.{List}
-use Prim.Native.Nat.{ℕ, ◌+◌, ◌-◌, ◌*◌, ◌/◌, ◌≤◌, ◌<◌, ◌^◌}
+use Prim.Native.Nat.{ℕ, ◌+◌, ◌-◌, ◌≤◌, ◌<◌, ◌^◌}
 use native.Mathlib.Numerals.{add-one}
 use native.Mathlib.Decide.{dec_le}
 use native.Mathlib.Omega.{arith}
@@ -12,9 +12,10 @@ use lib.Dec.{leb}
 use lib.ListN.{length, set, replicate, length-set}
 use Rattle.difference.specs.System.{System, Solves, Inside, value, raised, relax, relaxed, rounds, holds, least_values, solvable}
 use Rattle.difference.specs.Caps.{most_number, round_cap, value_cap}
-use Rattle.difference.specs.Round.{relax_still, relaxed_bound, relaxed_still, relaxed_length, rounds_length, rounds_bound, rounds_solve}
+use Rattle.difference.specs.Round.{relax_still, relaxed_bound, relaxed_still, rounds_length, rounds_bound, rounds_solve}
 use Rattle.difference.specs.Least.{holds_true, true_holds, false_holds, rounds_still}
-use Rattle.difference.specs.Rows.{system_of, SolvePre, RoundPre, RoundDone, SolveDone, InRound, RoundTurn, InRounds}
+use Rattle.difference.specs.Rows.{item, system_of, SolvePre, RoundPre, RoundDone, SolveDone, InRound, InRounds}
+use Rattle.difference.specs.declared.Constraint.{Constraint}
 
 pub round_start : (S : System) (t : List ℕ) → InRound S t t true 0
 unfolding relaxed holds
@@ -63,22 +64,18 @@ round_end {S} {t₀} {t} {held} {k} inv h =
     e : k ≡ S.count
     e = omega arith
 
--- What the code's reads and sums ask of the row at 4 k.
-pub record Row (rows t : List ℕ) (k : ℕ) : Type 0 where
-  pub from_in : value rows (4 * k) < length t
-  pub to_in : value rows (4 * k + 1) < length t
-  pub from_low : value t (value rows (4 * k)) ≤ value_cap + round_cap
-  pub to_low : value t (value rows (4 * k + 1)) ≤ value_cap + round_cap
-  pub up_low : value rows (4 * k + 2) ≤ most_number
-  pub down_low : value rows (4 * k + 3) ≤ most_number
+-- What the code's reads and sums ask of constraint k.
+pub record Small (rows : List Constraint) (t : List ℕ) (k : ℕ) : Type 0 where
+  pub from_low : value t (item rows k).from ≤ value_cap + round_cap
+  pub to_low : value t (item rows k).to ≤ value_cap + round_cap
+  pub up_low : (item rows k).up ≤ most_number
+  pub down_low : (item rows k).down ≤ most_number
 
-pub row : {rows t₀ t : List ℕ} {held : Bool} {k : ℕ} → RoundPre t₀ rows → InRound (system_of (length t₀) rows) t₀ t held k
-    → k < length rows / 4 → Row rows t k
-row {rows} {t₀} {t} {held} {k} ready inv l = record {
-  from_in = omega (arith, ready.fit.from_in k l);
-  to_in = omega (arith, ready.fit.to_in k l);
-  from_low = rw inv.values (bound (value rows (4 * k)));
-  to_low = rw inv.values (bound (value rows (4 * k + 1)));
+pub small : {rows : List Constraint} {t₀ t : List ℕ} {held : Bool} {k : ℕ} → RoundPre t₀ rows → InRound (system_of (length t₀) rows) t₀ t held k
+    → k < length rows → Small rows t k
+small {rows} {t₀} {t} {held} {k} ready inv l = record {
+  from_low = rw inv.values (bound (item rows k).from);
+  to_low = rw inv.values (bound (item rows k).to);
   up_low = ready.fit.up_low k l;
   down_low = ready.fit.down_low k l;
 }
@@ -149,11 +146,12 @@ module _ {S : System} {t : List ℕ} {r : ℕ} (inside : Inside S) (inv : InRoun
           (sym (true_holds S (rounds S (S.variables - 1)) S.count (rounds_solve S inside (value (rounds S S.variables)) s))
           ∙ inv.unsolved (S.variables - 1) (omega (arith, inside.some)))
 
-pub fit_inside : {n : ℕ} {rows : List ℕ} → SolvePre n rows → Inside (system_of n rows)
+pub fit_inside : {n : ℕ} {rows : List Constraint} → SolvePre n rows → Inside (system_of n rows)
 fit_inside f = record { some = f.some; from_in = f.from_in; to_in = f.to_in }
 
-module _ {n : ℕ} {rows t : List ℕ} {r : ℕ} (fit : SolvePre n rows) (inv : InRounds (system_of n rows) t r) where
-  pub rounds_same_length : length t ≡ n
+-- The same as the code does it: m, the length of the values that were set to zeros, is n, that of those that were lent.
+module _ {n : ℕ} {rows : List Constraint} {t : List ℕ} {r : ℕ} (fit : SolvePre n rows) (inv : InRounds (system_of n rows) t r) where
+  rounds_same_length : length t ≡ n
   rounds_same_length = ap length inv.values ∙ rounds_length (system_of n rows) r
 
   pub round_ready : RoundPre t rows
@@ -162,63 +160,25 @@ module _ {n : ℕ} {rows t : List ℕ} {r : ℕ} (fit : SolvePre n rows) (inv : 
       low : (j : ℕ) → value t j ≤ value_cap
       low j = rw inv.values (omega (arith, rounds_bound (system_of n rows) fit.short fit.up_low r j, inv.within, fit.few))
 
-  module _ {t' : List ℕ} {held : Bool} (d : RoundDone (system_of (length t) rows) t t' held) where
-    pub round_same_length : length t' ≡ n
-    round_same_length = ap length d.values ∙ relaxed_length (system_of (length t) rows) (length rows / 4) t ∙ rounds_same_length
+  module _ {m : ℕ} (same : m ≡ n) where
+    module _ {t' : List ℕ} {held : Bool} (d : RoundDone (system_of (length t) rows) t t' held) (l : r < m) where
+      pub go_on : held ≡ false → InRounds (system_of n rows) t' (r + 1)
+      go_on e = rounds_more inv (omega arith) (rw rounds_same_length at d) e
 
-    pub go_on : r < n → held ≡ false → InRounds (system_of n rows) t' (r + 1)
-    go_on l m = rounds_more inv l (rw rounds_same_length at d) m
+      pub stop : held ≡ true → SolveDone (system_of n rows) t' true
+      stop e = solution_found (fit_inside fit) inv (omega arith) (rw rounds_same_length at d) e
 
-    pub stop : r < n → held ≡ true → SolveDone (system_of n rows) t' true
-    stop l m = solution_found (fit_inside fit) inv l (rw rounds_same_length at d) m
+    pub give_up : m ≤ r → SolveDone (system_of n rows) t false
+    give_up l = none_found (fit_inside fit) inv (omega arith)
 
-  pub give_up : n ≤ r → SolveDone (system_of n rows) t false
-  give_up l = none_found (fit_inside fit) inv l
+-- One constraint of a round, as the code does it.
+module _ {rows : List Constraint} {t₀ t : List ℕ} {held : Bool} {k : ℕ} (ready : RoundPre t₀ rows)
+    (inv : InRound (system_of (length t₀) rows) t₀ t held k) (l : k < length rows) where
+  here : Small rows t k
+  here = small ready inv l
 
--- The same for the code's own indices i and j.
-module _ {rows t₀ t : List ℕ} {held : Bool} {k count : ℕ} (ready : RoundPre t₀ rows)
-    (turn : RoundTurn rows t₀ t held k count) (l : k < count) where
-  at_row : Row rows t k
-  at_row = row ready turn.done (omega (arith, turn.counted))
+  pub wanted_fits : value t (item rows k).from + (item rows k).up < 2 ^ 64
+  wanted_fits = omega (arith, here.from_low, here.up_low)
 
-  pub from_below : {i : ℕ} → i ≡ value rows (4 * k) → i < length t
-  from_below e = omega (arith, at_row.from_in)
-
-  pub to_below : {j : ℕ} → j ≡ value rows (4 * k + 1) → j < length t
-  to_below e = omega (arith, at_row.to_in)
-
-  pub from_scaled : {i : ℕ} → i ≡ value rows (4 * k) → i * 8 < 2 ^ 64
-  from_scaled e = omega (arith, at_row.from_in, turn.done.same_length, ready.fit.few)
-
-  pub to_scaled : {j : ℕ} → j ≡ value rows (4 * k + 1) → j * 8 < 2 ^ 64
-  to_scaled e = omega (arith, at_row.to_in, turn.done.same_length, ready.fit.few)
-
-  pub wanted_fits : {i : ℕ} → i ≡ value rows (4 * k) → value t i + value rows (4 * k + 2) < 2 ^ 64
-  wanted_fits e = rw e (omega (arith, at_row.from_low, at_row.up_low))
-
-  pub had_fits : {j : ℕ} → j ≡ value rows (4 * k + 1) → value t j + value rows (4 * k + 3) < 2 ^ 64
-  had_fits e = rw e (omega (arith, at_row.to_low, at_row.down_low))
-
-  module _ {i j : ℕ} (from : i ≡ value rows (4 * k)) (to : j ≡ value rows (4 * k + 1)) where
-    pub held_more : value t i + value rows (4 * k + 2) ≤ value t j + value rows (4 * k + 3)
-        → RoundTurn rows t₀ t held (k + 1) count
-    held_more h = record {
-      done = constraint_held (system_of (length t₀) rows) t₀ t held k turn.done (omega (arith, turn.counted)) (rw (from, to) at h);
-      counted = turn.counted;
-    }
-
-    pub broken_more : value t j + value rows (4 * k + 3) < value t i + value rows (4 * k + 2)
-        → RoundTurn rows t₀ (set t j (value t i + value rows (4 * k + 2) - value rows (4 * k + 3))) false (k + 1) count
-    broken_more h = record {
-      done =
-          rw (from, to)
-          (constraint_broken (system_of (length t₀) rows) t₀ t held k turn.done (omega (arith, turn.counted)) (rw (from, to) at h));
-      counted = turn.counted;
-    }
-
-pub turn_start : (rows t : List ℕ) → RoundTurn rows t t true 0 (length rows / 4)
-turn_start rows t = record { done = round_start (system_of (length t) rows) t; counted = refl }
-
-pub turn_end : {rows t₀ t : List ℕ} {held : Bool} {k count : ℕ} → RoundTurn rows t₀ t held k count → count ≤ k
-    → RoundDone (system_of (length t₀) rows) t₀ t held
-turn_end turn l = round_end turn.done (omega (arith, turn.counted))
+  pub had_fits : value t (item rows k).to + (item rows k).down < 2 ^ 64
+  had_fits = omega (arith, here.to_low, here.down_low)

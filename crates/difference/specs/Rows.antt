@@ -1,29 +1,34 @@
--- Constraints as the code has them: constraint k is the row of four numbers at 4 k, `from`, `to`, `up`, `down`.
-use Rattle.std.specs.Prelude.{◌≡◌, Bool, false, List, ℕ, ◌+◌, ◌*◌, ◌/◌, ◌≤◌, ◌<◌, length}
+-- Constraints as the code has them, in a list: constraint k is its item k.
+use Rattle.std.specs.Prelude.{◌≡◌, Bool, false, List, ℕ, ◌≤◌, ◌<◌, length, get_or}
 use Rattle.difference.specs.System.{System, value, relaxed, rounds, holds, least_values, solvable}
 use Rattle.difference.specs.Caps.{most_variables, most_constraints, most_number, value_cap}
+use Rattle.difference.specs.declared.Constraint.{Constraint}
 
-abbrev pub system_of : ℕ → List ℕ → System
+-- Item k of a list of constraints, and past its end one of zeros.
+abbrev pub item : List Constraint → ℕ → Constraint
+item rows k = get_or rows k (record { from = 0; to = 0; up = 0; down = 0 })
+
+abbrev pub system_of : ℕ → List Constraint → System
 system_of n rows = record {
   variables = n;
-  count = length rows / 4;
-  from = λ k. value rows (4 * k);
-  to = λ k. value rows (4 * k + 1);
-  up = λ k. value rows (4 * k + 2);
-  down = λ k. value rows (4 * k + 3);
+  count = length rows;
+  from = λ k. (item rows k).from;
+  to = λ k. (item rows k).to;
+  up = λ k. (item rows k).up;
+  down = λ k. (item rows k).down;
 }
 
 -- What the code asks: few variables and constraints and small numbers, so that no sum passes 64 bits.
-pub record SolvePre (n : ℕ) (rows : List ℕ) : Type 0 where
+pub record SolvePre (n : ℕ) (rows : List Constraint) : Type 0 where
   pub some : 0 < n
   pub few : n ≤ most_variables
-  pub short : length rows / 4 ≤ most_constraints
-  pub from_in : (k : ℕ) → k < length rows / 4 → value rows (4 * k) < n
-  pub to_in : (k : ℕ) → k < length rows / 4 → value rows (4 * k + 1) < n
-  pub up_low : (k : ℕ) → k < length rows / 4 → value rows (4 * k + 2) ≤ most_number
-  pub down_low : (k : ℕ) → k < length rows / 4 → value rows (4 * k + 3) ≤ most_number
+  pub short : length rows ≤ most_constraints
+  pub from_in : (k : ℕ) → k < length rows → (item rows k).from < n
+  pub to_in : (k : ℕ) → k < length rows → (item rows k).to < n
+  pub up_low : (k : ℕ) → k < length rows → (item rows k).up ≤ most_number
+  pub down_low : (k : ℕ) → k < length rows → (item rows k).down ≤ most_number
 
-pub record RoundPre (t rows : List ℕ) : Type 0 where
+pub record RoundPre (t : List ℕ) (rows : List Constraint) : Type 0 where
   pub fit : SolvePre (length t) rows
   pub low : (j : ℕ) → value t j ≤ value_cap
 
@@ -43,10 +48,6 @@ pub record InRound (S : System) (t₀ t : List ℕ) (held : Bool) (k : ℕ) : Ty
   pub same_length : length t ≡ length t₀
   pub values : t ≡ relaxed S k t₀
   pub result : held ≡ holds S k t₀
-
-pub record RoundTurn (rows t₀ t : List ℕ) (held : Bool) (k count : ℕ) : Type 0 where
-  pub done : InRound (system_of (length t₀) rows) t₀ t held k
-  pub counted : count ≡ length rows / 4
 
 -- r rounds are done, and none of them began at a solution.
 pub record InRounds (S : System) (t : List ℕ) (r : ℕ) : Type 0 where

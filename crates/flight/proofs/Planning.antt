@@ -10,35 +10,37 @@ use borrow.Author.Tests.{ne_eqb, not-true, not-false}
 use Rattle.base.specs.Listed.{listed}
 use Rattle.order.specs.Order.{Proper}
 use Rattle.difference.specs.System.{value}
-use Rattle.sheet.specs.Limits.{most_time}
 use Rattle.sheet.specs.Sound.{FlightSound}
 use Rattle.sheet.specs.declared.FlightSection.{FlightSection}
 use Rattle.rules.specs.Flight.{no_passes}
 use Rattle.rules.specs.declared.Passes.{Passes}
-use Rattle.flight_order.specs.Constraints.{ordered_flight, least_starts, possible_in, order_figure}
+use Rattle.flight_order.specs.Constraints.{ordered_flight, flight_in, section_of, least_starts, possible_in, order_figure}
+use Rattle.flight_order.specs.declared.Blocks.{Blocks}
+use Rattle.difference.specs.declared.Constraint.{Constraint}
+use Rattle.std.specs.Prelude.{Option}
 use Rattle.flight_order.specs.Timetable.{passes_with_starts, least_passes}
 use Rattle.flight_order.proofs.Good.{least_low}
 use Rattle.flight_order.proofs.Ceiling.{sound_good}
 use Rattle.flight_order.proofs.Planned.{empty_possible, figure_none}
 use Rattle.flight_order.specs.Clauses.{LeastStartsPre, Least}
-use Rattle.flight_search.specs.Search.{no_incumbent, searched}
-use Rattle.flight_search.specs.Orders.{orders_of, free_section}
+use Rattle.flight_search.specs.Search.{no_incumbent, order_of, searched}
+use Rattle.flight_search.specs.Orders.{orders_of}
 use Rattle.flight_search.specs.Clauses.{BlockTimes}
 use Rattle.flight.specs.Choice.{delays_fit, one_by_one, chosen_order, is_possible, least_figure, chosen_passes, passes_of_plan, PlannedIn, Planned}
 use Rattle.flight.specs.Chosen.{chosen_given, chosen_free, chosen_none, chosen_proper}
-use Rattle.flight.specs.Clauses.{SomeBlocks, PlanChosenPre, PlanInOrderPre, PlanBlocksPre, PassesAtPre, PassesAt}
+use Rattle.flight.specs.Clauses.{SomeBlocks, Lent, PlanChosenPre, PlanInOrderPre, PlanBlocksPre, PassesAtPre, PassesAt}
 use Rattle.flight.proofs.Copying.{none_at}
 use Rattle.flight_search.specs.declared.Incumbent.{Incumbent}
 use Rattle.flight.specs.declared.FlightPlan.{FlightPlan}
 
-module _ (f : FlightSection) (w : ℕ) {rows₀ starts₀ : List ℕ} (pre : PlanInOrderPre f w rows₀ starts₀) where
-  pub least_starts_pre : LeastStartsPre (ordered_flight f.blocks w f.turn f.first f.second f.shortest f.longest) rows₀ starts₀
+module _ (f : FlightSection) (w : ℕ) {rows₀ : List Constraint} {starts₀ : List ℕ} (pre : PlanInOrderPre f w rows₀ starts₀) where
+  least_starts_pre : LeastStartsPre (ordered_flight f.blocks w f.turn f.first f.second f.shortest f.longest) rows₀ starts₀
   least_starts_pre = record {
     room = record { good = sound_good f w pre.plan.blocks.sound pre.plan.blocks.some pre.proper; rows_length = pre.plan.rows_length };
     starts_length = pre.plan.starts_length;
   }
 
-  module _ {rows starts : List ℕ} {found : Bool}
+  module _ {rows : List Constraint} {starts : List ℕ} {found : Bool}
       (least : Least (ordered_flight f.blocks w f.turn f.first f.second f.shortest f.longest) rows starts found) where
     pub plan_figure_fits : get_or starts (2 * f.blocks - 1) 0 + get_or f.second (f.blocks - 1) 0 < 2 ^ 64
     plan_figure_fits =
@@ -65,67 +67,62 @@ module _ (f : FlightSection) (w : ℕ) {rows₀ starts₀ : List ℕ} (pre : Pla
       no_more = a.no_more;
     }
 
--- delays of all blocks, within the limits of a sheet
-pub record DelaysWithin (f : FlightSection) (delays : List ℕ) : Type 0 where
-  pub long : f.blocks ≤ length delays
-  pub low : (i : ℕ) → get_or delays i 0 ≤ most_time
+-- The blocks of a flight, lent for its constraints in an order.
+module _ {f : FlightSection} {b : Blocks} (lent : Lent f b) where
+  pub lent_starts_pre : {w : ℕ} {rows : List Constraint} {starts : List ℕ} → PlanInOrderPre f w rows starts
+      → LeastStartsPre (flight_in (section_of b) w) rows starts
+  lent_starts_pre {w} {rows} {starts} pre = subst (λ (s : FlightSection). LeastStartsPre (flight_in s w) rows starts) (sym lent.section) (least_starts_pre f w pre)
+
+  pub lent_least : {w : ℕ} {rows : List Constraint} {starts : List ℕ} {found : Bool} → Least (flight_in (section_of b) w) rows starts found
+      → Least (flight_in f w) rows starts found
+  lent_least {w} {rows} {starts} {found} least = subst (λ (s : FlightSection). Least (flight_in s w) rows starts found) lent.section least
 
 module _ (f : FlightSection) where
   pub given_order : f.ordered ≡ true → f.order ≡ chosen_order f
   given_order e = sym (chosen_given f e)
 
   module _ (fits : Bool) (d : fits ≡ delays_fit f f.blocks) (e : f.ordered ≡ false) where
-    pub searched_order : (best : Incumbent) → not fits ≡ false
-        → best ≡ searched (orders_of (free_section f.blocks f.turn f.first f.second f.shortest f.longest)) (2 * f.blocks) 0 no_incumbent
-        → best.order ≡ chosen_order f
+    pub searched_order : {b : Blocks} (best : Option Incumbent) → not fits ≡ false
+        → Lent f b → best ≡ searched (orders_of (section_of b)) (2 * b.count) 0 no_incumbent → order_of best ≡ chosen_order f
     unfolding orders_of possible_in order_figure least_starts
-    searched_order best h q = ap (λ (b : Incumbent). b.order) q ∙ sym (chosen_free f e (sym d ∙ not-false fits h))
+    searched_order {b} best h lent q =
+        ap order_of (q ∙ ap (λ (s : FlightSection). searched (orders_of s) (2 * s.blocks) 0 no_incumbent) lent.section) ∙ sym (chosen_free f e (sym d ∙ not-false fits h))
 
     pub order_unsearched : (w : ℕ) → not fits ≡ true → w ≡ one_by_one f.blocks → w ≡ chosen_order f
     order_unsearched w h q = q ∙ sym (chosen_none f e (sym d ∙ not-true fits h))
 
-  -- The delays are within the limits of a sheet.
-  pub shortest_within : SomeBlocks f → DelaysWithin f f.shortest
-  shortest_within pre =
-      record { long = omega (arith, pre.sound.shortest_length, pre.sound.most_blocks_holds); low = λ i. omega (arith, pre.sound.window i, pre.sound.most_delay i) }
-
-  pub longest_within : SomeBlocks f → DelaysWithin f f.longest
-  longest_within pre =
-      record { long = omega (arith, pre.sound.longest_length, pre.sound.most_blocks_holds); low = λ i. omega (arith, pre.sound.most_delay i) }
-
-  pub block_times : (lower upper : List ℕ) → SomeBlocks f → DelaysWithin f lower → DelaysWithin f upper
-      → BlockTimes f.blocks f.turn f.first f.second lower upper
-  block_times lower upper pre l u = record {
+  pub block_times : {b : Blocks} → SomeBlocks f → Lent f b → BlockTimes (section_of b)
+  block_times {b} pre lent = subst BlockTimes (sym lent.section) record {
     some = pre.some;
     few = pre.sound.most_blocks_holds;
     turn_low = pre.sound.most_turn_holds;
     first_long = omega (arith, pre.sound.first_length, pre.sound.most_blocks_holds);
     second_long = omega (arith, pre.sound.second_length, pre.sound.most_blocks_holds);
-    shortest_long = l.long;
-    longest_long = u.long;
+    shortest_long = omega (arith, pre.sound.shortest_length, pre.sound.most_blocks_holds);
+    longest_long = omega (arith, pre.sound.longest_length, pre.sound.most_blocks_holds);
     first_low = λ i. omega (arith, pre.sound.most_first i);
     second_low = λ i. omega (arith, pre.sound.most_second i);
-    shortest_low = l.low;
-    longest_low = u.low;
+    shortest_low = λ i. omega (arith, pre.sound.window i, pre.sound.most_delay i);
+    longest_low = λ i. omega (arith, pre.sound.most_delay i);
   }
 
 -- The plan in the chosen order is the plan.
 module _ (f : FlightSection) (w : ℕ) (chosen : w ≡ chosen_order f) where
-  pub plan_in_order_pre : {rows starts : List ℕ} → PlanChosenPre f rows starts → PlanInOrderPre f w rows starts
+  pub plan_in_order_pre : {rows : List Constraint} {starts : List ℕ} → PlanChosenPre f rows starts → PlanInOrderPre f w rows starts
   plan_in_order_pre pre = record { plan = pre; proper = rw chosen (chosen_proper f pre.blocks.sound) }
 
   pub plan_chosen : (r : FlightPlan) → PlannedIn f w r → Planned f r
   unfolding is_possible least_figure chosen_passes
   plan_chosen r p = subst (λ (z : ℕ). PlannedIn f z r) chosen p
 
-module _ (f : FlightSection) (rows starts : List ℕ) (pre : PlanBlocksPre f rows starts) where
-  pub rows_part : 4 * (4 * f.blocks - 1) ≡ length (take (4 * (4 * f.blocks - 1)) rows)
-  rows_part = sym (length-take-le (4 * (4 * f.blocks - 1)) rows (omega (arith, pre.rows_long, pre.blocks.sound.most_blocks_holds)))
+module _ (f : FlightSection) (rows : List Constraint) (starts : List ℕ) (pre : PlanBlocksPre f rows starts) where
+  rows_part : 4 * f.blocks - 1 ≡ length (take (4 * f.blocks - 1) rows)
+  rows_part = sym (length-take-le (4 * f.blocks - 1) rows (omega (arith, pre.rows_long, pre.blocks.sound.most_blocks_holds)))
 
-  pub starts_part : 2 * f.blocks ≡ length (take (2 * f.blocks) starts)
+  starts_part : 2 * f.blocks ≡ length (take (2 * f.blocks) starts)
   starts_part = sym (length-take-le (2 * f.blocks) starts (omega (arith, pre.starts_long, pre.blocks.sound.most_blocks_holds)))
 
-  pub plan_chosen_pre : PlanChosenPre f (take (4 * (4 * f.blocks - 1)) rows) (take (2 * f.blocks) starts)
+  pub plan_chosen_pre : PlanChosenPre f (take (4 * f.blocks - 1) rows) (take (2 * f.blocks) starts)
   plan_chosen_pre = record { blocks = pre.blocks; rows_length = sym rows_part; starts_length = sym starts_part }
 
 -- No block, no passes.

@@ -6,7 +6,7 @@ use Rattle.rules.specs.Flight.{no_passes}
 use Rattle.rules.specs.declared.Passes.{Passes}
 use Rattle.flight_order.specs.Constraints.{possible_in, order_figure}
 use Rattle.flight_order.specs.Timetable.{least_passes}
-use Rattle.flight_search.specs.Search.{no_incumbent, searched}
+use Rattle.flight_search.specs.Search.{no_incumbent, order_of, searched}
 use Rattle.flight_search.specs.Orders.{orders_of}
 use Rattle.flight.specs.declared.FlightPlan.{FlightPlan}
 
@@ -24,7 +24,7 @@ one_by_one (suc i) = one_by_one i + 2 ^ (2 * i + 1)
 -- searched for, and that of the blocks one after the other is taken, which like every order is impossible.
 unfoldable pub free_order : FlightSection → ℕ
 free_order f =
-    elim (delays_fit f f.blocks) [ true ↦ (searched (orders_of f) (2 * f.blocks) 0 no_incumbent).order | false ↦ one_by_one f.blocks ]
+    elim (delays_fit f f.blocks) [ true ↦ order_of (searched (orders_of f) (2 * f.blocks) 0 no_incumbent) | false ↦ one_by_one f.blocks ]
 
 -- 01: "A given order must be kept; otherwise any proper order may be chosen."
 unfoldable pub chosen_order : FlightSection → ℕ

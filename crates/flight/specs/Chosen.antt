@@ -1,6 +1,6 @@
 -- The chosen order is proper and as given. Where none is given it is possible exactly where every longest delay is at least the turn, and then no proper order
 -- that is possible has a smaller figure. The idea: a block's own two passes are the turn apart in any timetable, so its longest delay is at least the turn.
-use Rattle.std.specs.Prelude.{◌≡◌, Bool, ◌&&◌, List, ℕ, zero, suc, ◌+◌, ◌*◌, ◌≤◌, ◌<◌, leb, get_or}
+use Rattle.std.specs.Prelude.{◌≡◌, Bool, ◌&&◌, Option, List, ℕ, zero, suc, ◌+◌, ◌*◌, ◌≤◌, ◌<◌, leb, get_or}
 use Rattle.std.proofs.Math.Path.{refl, sym, ap}
 use Rattle.std.proofs.Common.{◌∙◌, true≢false, ⊎_elim, arith, leb-true, leb-false}
 use Rattle.std.proofs.Math.Bool.{true, false}
@@ -16,8 +16,8 @@ use Rattle.flight_order.specs.Constraints.{possible_in, order_figure}
 use Rattle.flight_order.specs.Timetable.{least_passes}
 use Rattle.flight_order.proofs.Planned.{possible_lawful}
 use Rattle.flight_search.specs.Orders.{orders_of}
-use Rattle.flight_search.specs.Search.{no_incumbent, searched}
-use Rattle.flight_search.specs.Searched.{Attained, AsGood, search_attained, search_least}
+use Rattle.flight_search.specs.Search.{no_incumbent, order_of, searched}
+use Rattle.flight_search.specs.Searched.{NoWorse, search_no_worse}
 use Rattle.flight_search.specs.declared.Incumbent.{Incumbent}
 use Rattle.flight.specs.Choice.{delays_fit, one_by_one, free_order, chosen_order, is_possible, least_figure}
 use Rattle.flight.specs.OneByOne.{one_by_one_proper, one_by_one_possible}
@@ -83,26 +83,22 @@ module _ (f : FlightSection) where
   not_given e = rw e
 
   order_found : (b : Bool) → delays_fit f f.blocks ≡ b
-      → free_order f ≡ elim b [ true ↦ (searched (orders_of f) (2 * f.blocks) 0 no_incumbent).order | false ↦ one_by_one f.blocks ]
+      → free_order f ≡ elim b [ true ↦ order_of (searched (orders_of f) (2 * f.blocks) 0 no_incumbent) | false ↦ one_by_one f.blocks ]
   unfolding free_order
-  order_found b e = ap (λ (x : Bool). elim x [ true ↦ (searched (orders_of f) (2 * f.blocks) 0 no_incumbent).order | false ↦ one_by_one f.blocks ]) e
+  order_found b e = ap (λ (x : Bool). elim x [ true ↦ order_of (searched (orders_of f) (2 * f.blocks) 0 no_incumbent) | false ↦ one_by_one f.blocks ]) e
 
-  pub chosen_free : f.ordered ≡ false → delays_fit f f.blocks ≡ true → chosen_order f ≡ (searched (orders_of f) (2 * f.blocks) 0 no_incumbent).order
+  pub chosen_free : f.ordered ≡ false → delays_fit f f.blocks ≡ true → chosen_order f ≡ order_of (searched (orders_of f) (2 * f.blocks) 0 no_incumbent)
   chosen_free e long = not_given e ∙ order_found true long
 
   pub chosen_none : f.ordered ≡ false → delays_fit f f.blocks ≡ false → chosen_order f ≡ one_by_one f.blocks
   chosen_none e short = not_given e ∙ order_found false short
 
-  result : Incumbent
+  result : Option Incumbent
   result = searched (orders_of f) (2 * f.blocks) 0 no_incumbent
 
-  attained : Attained (orders_of f) result
+  as_good : (w : ℕ) → Proper f.blocks w → possible_in f w ≡ true → NoWorse (orders_of f) w (order_of result)
   unfolding orders_of result
-  attained = search_attained (orders_of f)
-
-  as_good : (w : ℕ) → Proper f.blocks w → possible_in f w ≡ true → AsGood (orders_of f) w result
-  unfolding orders_of result
-  as_good w proper possible = search_least (orders_of f) w proper possible
+  as_good w proper possible = search_no_worse (orders_of f) w proper possible
 
   module _ (sound : FlightSound f) where
     -- Where an order is possible every longest delay is at least the turn ..
@@ -117,9 +113,8 @@ module _ (f : FlightSection) where
         go false e = let s = delay_short f f.blocks (omega arith) e in absurd (omega (arith, s.short, possible_long w proper possible s.block s.known))
 
     -- .. and where every longest delay is, the search finds an order.
-    found : delays_fit f f.blocks ≡ true → result.possible ≡ true
-    found long =
-        (as_good (one_by_one f.blocks) (one_by_one_proper f.blocks) (one_by_one_possible f sound (delays_long f f.blocks long))).some
+    found : delays_fit f f.blocks ≡ true → NoWorse (orders_of f) (one_by_one f.blocks) (order_of result)
+    found long = as_good (one_by_one f.blocks) (one_by_one_proper f.blocks) (one_by_one_possible f sound (delays_long f f.blocks long))
 
     pub chosen_proper : Proper f.blocks (chosen_order f)
     unfolding orders_of result
@@ -127,7 +122,7 @@ module _ (f : FlightSection) where
       where
         go : (o : Bool) → f.ordered ≡ o → (b : Bool) → delays_fit f f.blocks ≡ b → Proper f.blocks (chosen_order f)
         go true e b d = rw (chosen_given e) (sound.given e)
-        go false e true d = rw (chosen_free e d) (attained.proper (found d))
+        go false e true d = rw (chosen_free e d) (found d).proper
         go false e false d = rw (chosen_none e d) (one_by_one_proper f.blocks)
 
     pub chosen_allowed : OrderAllowed f (chosen_order f)
@@ -135,7 +130,7 @@ module _ (f : FlightSection) where
 
     pub free_possible : f.ordered ≡ false → delays_fit f f.blocks ≡ true → is_possible f ≡ true
     unfolding is_possible orders_of result
-    free_possible e long = rw (chosen_free e long) (attained.possible (found long))
+    free_possible e long = rw (chosen_free e long) (found long).possible
 
     pub chosen_least : (w : ℕ) → OrderAllowed f w → possible_in f w ≡ true → least_figure f ≤ order_figure f w
     unfolding least_figure orders_of result
@@ -143,7 +138,7 @@ module _ (f : FlightSection) where
       where
         go : (o : Bool) → f.ordered ≡ o → delays_fit f f.blocks ≡ true → order_figure f (chosen_order f) ≤ order_figure f w
         go true e long = rw (chosen_given e, allowed.as_given e) (omega arith)
-        go false e long = rw (chosen_free e long) (omega (arith, (as_good w allowed.proper possible).below, attained.figure (found long)))
+        go false e long = rw (chosen_free e long) (as_good w allowed.proper possible).figure
 
     pub allowed_possible : (w : ℕ) → OrderAllowed f w → possible_in f w ≡ true → is_possible f ≡ true
     unfolding is_possible

@@ -6,8 +6,10 @@ ghost use Rattle.std.specs.Prelude.{◌≡◌, ◌≤◌};
 ghost use Rattle.sheet.specs.Limits.{most_blocks};
 ghost use Rattle.sheet.specs.Sound.{FlightSound};
 ghost use Rattle.flight.specs.Choice.{delays_fit, one_by_one, chosen_order, Planned, PlannedIn};
-ghost use Rattle.flight.specs.Clauses.{SomeBlocks, PlanChosenPre, PlanInOrderPre, PlanBlocksPre, PassesAtPre, PassesAt};
+ghost use Rattle.flight.specs.Clauses.{SomeBlocks, Lent, PlanChosenPre, PlanInOrderPre, PlanBlocksPre, PassesAtPre, PassesAt};
 
+use difference::{Constraint, NO_CONSTRAINT};
+use flight_order::Blocks;
 use rules::Passes;
 use sheet::FlightSection;
 
@@ -41,23 +43,33 @@ fn passes_at(starts: &[u64], n: usize) -> [Passes; 32]
     blocks
 }
 
+// The blocks of a flight section, lent.
+fn lent<'a>(f: &'a FlightSection) -> Blocks<'a>
+    ensures { Lent f.now result }
+{
+    Blocks {
+        count: f.blocks,
+        turn: f.turn,
+        first: &f.first,
+        second: &f.second,
+        shortest: &f.shortest,
+        longest: &f.longest,
+    }
+}
+
 // The plan in one order, with room for its constraints and starts.
-fn plan_in_order(f: FlightSection, order: u64, rows: &mut [u64], starts: &mut [u64]) -> FlightPlan
+fn plan_in_order(
+    f: FlightSection,
+    order: u64,
+    rows: &mut [Constraint],
+    starts: &mut [u64],
+) -> FlightPlan
     requires { PlanInOrderPre f order rows.old starts.old }
     ensures { PlannedIn f order result }
 {
     let n = f.blocks;
-    let found = flight_order::least_starts(
-        n,
-        order,
-        f.turn,
-        &f.first,
-        &f.second,
-        &f.shortest,
-        &f.longest,
-        rows,
-        starts,
-    );
+    let blocks = lent(&f);
+    let found = blocks.least_starts(order, rows, starts);
     let last_start = starts[2 * n - 1];
     let last_time = f.second[n - 1];
     FlightPlan {
@@ -69,20 +81,11 @@ fn plan_in_order(f: FlightSection, order: u64, rows: &mut [u64], starts: &mut [u
 }
 
 // Whether every longest delay is at least the turn.
-fn delays_fit(f: FlightSection) -> bool
-    requires { FlightSound f }
-    ensures { result ≡ delays_fit f f.blocks }
+fn delays_fit(f: &FlightSection) -> bool
+    requires { FlightSound f.now }
+    ensures { result ≡ delays_fit f.now f.now.blocks }
 {
-    let n = f.blocks;
-    let upper = f.longest;
-    let mut i: usize = 0;
-    while i < n {
-        if upper[i] < f.turn {
-            return false;
-        }
-        i += 1;
-    }
-    true
+    f.longest[..f.blocks].iter().all(|delay| f.turn <= *delay)
 }
 
 // The order of n blocks one after the other.
@@ -90,53 +93,47 @@ fn one_by_one(n: usize) -> u64
     requires { n ≤ most_blocks }
     ensures { result ≡ one_by_one n }
 {
-    let mut order: u64 = 0;
-    let mut i: usize = 0;
-    while i < n {
+    let mut order = 0;
+    for i in 0..n {
         order = order::append_second(order, (2 * i + 1) as u64);
-        i += 1;
     }
     order
 }
 
 // The given order, or the one that the search takes. Where a longest delay is shorter than the turn no order is possible, and none is
 // searched for.
-fn choose_order(f: FlightSection) -> u64
-    requires { SomeBlocks f }
-    ensures { result ≡ chosen_order f }
+fn choose_order(f: &FlightSection) -> u64
+    requires { SomeBlocks f.now }
+    ensures { result ≡ chosen_order f.now }
 {
     if f.ordered {
         return f.order;
     }
-    let n = f.blocks;
     if !delays_fit(f) {
-        return one_by_one(n);
+        return one_by_one(f.blocks);
     }
-    let first = f.first;
-    let second = f.second;
-    let shortest = f.shortest;
-    let longest = f.longest;
-    let best = flight_search::best_order(n, f.turn, &first, &second, &shortest, &longest);
-    best.order
+    match flight_search::best_order(&lent(f)) {
+        Some(best) => best.order,
+        None => 0,
+    }
 }
 
 // The plan in the chosen order.
-fn plan_chosen(f: FlightSection, rows: &mut [u64], starts: &mut [u64]) -> FlightPlan
+fn plan_chosen(f: FlightSection, rows: &mut [Constraint], starts: &mut [u64]) -> FlightPlan
     requires { PlanChosenPre f rows.old starts.old }
     ensures { Planned f result }
 {
-    let order = choose_order(f);
+    let order = choose_order(&f);
     plan_in_order(f, order, rows, starts)
 }
 
 // The plan of at least one block, with room for the constraints and starts of 32.
-fn plan_blocks(f: FlightSection, rows: &mut [u64], starts: &mut [u64]) -> FlightPlan
+fn plan_blocks(f: FlightSection, rows: &mut [Constraint], starts: &mut [u64]) -> FlightPlan
     requires { PlanBlocksPre f rows.old starts.old }
     ensures { Planned f result }
 {
-    let n = f.blocks;
-    let count = difference::ROW * (4 * n - 1);
-    let passes = 2 * n;
+    let count = 4 * f.blocks - 1;
+    let passes = 2 * f.blocks;
     plan_chosen(f, &mut rows[..count], &mut starts[..passes])
 }
 
@@ -153,7 +150,7 @@ pub fn plan_flight(f: FlightSection) -> FlightPlan
             blocks: [NO_PASSES; 32],
         };
     }
-    let mut rows = [0; flight_order::MOST_NUMBERS];
+    let mut rows = [NO_CONSTRAINT; flight_order::MOST_CONSTRAINTS];
     let mut starts = [0; flight_order::MOST_PASSES];
     plan_blocks(f, &mut rows, &mut starts)
 }

@@ -1,7 +1,6 @@
 -- The least starts never reach the ceiling: the last pass ends no later than all passes and shortest delays of all blocks take, one after the other, with a
 -- turn between any two passes.
-use Rattle.std.specs.Prelude.{◌≡◌}
-use Prim.Native.Nat.{ℕ, ◌+◌, ◌-◌, ◌*◌, ◌≤◌, ◌<◌}
+use Prim.Native.Nat.{ℕ, ◌+◌, ◌-◌, ◌*◌}
 use Rattle.sheet.specs.Limits.{most_time, most_turn, most_blocks}
 
 -- No least pass ends later: both passes and the longest delay of every block, and the turns between them.

@@ -3,11 +3,12 @@
 -- A delay may be anything from `shortest` to `longest` (02, Req 07; an exact delay is a window of one value), and `turn` passes between the end of a pass and
 -- the start of the next (02, Req 06). In the literature: coupled tasks on one machine with minimum and maximum time lags; a turn is a minimum time lag between
 -- passes.
-use Rattle.std.specs.Prelude.{Bool, cond, List, ℕ, ◌+◌, ◌-◌, ◌*◌, ltb, eqb, get_or}
+use Rattle.std.specs.Prelude.{Bool, false, cond, List, ℕ, ◌+◌, ◌-◌, ◌*◌, ltb, eqb, get_or}
 use Rattle.order.specs.Passes.{pass_at, time_of}
 use Rattle.difference.specs.System.{System, value, least_values, solvable}
 use Rattle.sheet.specs.declared.FlightSection.{FlightSection}
-use Rattle.flight_order.specs.declared.Constraint.{Constraint}
+use Rattle.difference.specs.declared.Constraint.{Constraint}
+use Rattle.flight_order.specs.declared.Blocks.{Blocks}
 
 pub record OrderedFlight : Type 0 where
   pub blocks : ℕ
@@ -49,6 +50,24 @@ system_for F = record {
 -- The flight of a sheet in an order.
 abbrev pub flight_in : FlightSection → ℕ → OrderedFlight
 flight_in f order = ordered_flight f.blocks order f.turn f.first f.second f.shortest f.longest
+
+-- The flight section of n blocks, with a turn, without an order; and that of blocks that are lent.
+abbrev pub free_section : ℕ → ℕ → List ℕ → List ℕ → List ℕ → List ℕ → FlightSection
+free_section n turn first second shortest longest =
+    record {
+      blocks = n;
+      turn = turn;
+      first = first;
+      shortest = shortest;
+      longest = longest;
+      second = second;
+      ordered = false;
+      order = 0;
+      place = 0;
+    }
+
+abbrev pub section_of : Blocks → FlightSection
+section_of b = free_section b.count b.turn b.first.now b.second.now b.shortest.now b.longest.now
 
 -- The least start of each pass, by its number, and whether a timetable keeps the order at all.
 unfoldable pub least_starts : FlightSection → ℕ → List ℕ

@@ -1,10 +1,10 @@
 -- What the code asks of a flight, and that each of its constraints is then about two of its passes and has small numbers.
-use Rattle.std.specs.Prelude.{ℕ, ◌+◌, ◌-◌, ◌*◌, ◌≤◌, ◌<◌, length, get_or}
+use Rattle.std.specs.Prelude.{ℕ, ◌*◌, ◌≤◌, ◌<◌, length, get_or}
 use Rattle.order.specs.Order.{Proper}
 use Rattle.difference.specs.Caps.{most_number}
 use Rattle.sheet.specs.Limits.{most_time, most_blocks}
 use Rattle.flight_order.specs.Constraints.{OrderedFlight}
-use Rattle.flight_order.specs.declared.Constraint.{Constraint}
+use Rattle.difference.specs.declared.Constraint.{Constraint}
 
 pub record Good (F : OrderedFlight) : Type 0 where
   pub some : 0 < F.blocks

@@ -1,5 +1,5 @@
 -- The numbered constraints say the three rules of a schedule: each delay in its window, and each pass of the order after the pass before it.
-use Rattle.std.specs.Prelude.{◌≡◌, ℕ, ◌+◌, ◌-◌, ◌*◌, ◌≤◌, ◌<◌, get_or}
+use Rattle.std.specs.Prelude.{ℕ, ◌+◌, ◌*◌, ◌≤◌, ◌<◌, get_or}
 use Rattle.order.specs.Passes.{pass_at, time_of}
 use Rattle.flight_order.specs.Constraints.{OrderedFlight}
 

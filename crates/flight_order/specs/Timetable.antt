@@ -1,6 +1,5 @@
 -- Lists of passes, and the starts and times of the rules by the number of the pass.
-use Rattle.std.specs.Prelude.{◌≡◌, List, ℕ, ◌+◌, ◌-◌, ◌*◌, ◌<◌}
-use Rattle.std.proofs.Common.{◌∙◌}
+use Rattle.std.specs.Prelude.{List, ℕ, ◌+◌}
 use Rattle.base.specs.Listed.{listed}
 use Rattle.difference.specs.System.{value}
 use Rattle.sheet.specs.declared.FlightSection.{FlightSection}

@@ -1,18 +1,12 @@
--- `flight::delays_fit` meets its contract. Invariant: the first i longest delays are at least the turn.
-use Rattle.flight.proofs.Delays.{fit_none, delay_known, fit_more, fit_wrong, fit_all}
+-- `flight::delays_fit` meets its contract: the test of all longest delays decides whether they fit.
+use Rattle.std.proofs.Common.{rules, take, ◌<◌, ◌≤◌}
+use Rattle.std.proofs.lemmas.Iterator.{cases_from_all, YieldsList-from_slice}
+use borrow.Author.Tests.{tests}
+use Rattle.flight.proofs.Delays.{fits_decided}
 use Rattle.flight.proofs.delays_fit.Goals as goal
 
-pub loop-i-init : goal.loop-i-init
-loop-i-init c = search fit_none
-
-pub bounds-upper-i : goal.bounds-upper-i
-bounds-upper-i c = search delay_known
-
-pub returns-then-upper-i : goal.returns-then-upper-i
-returns-then-upper-i c = search fit_wrong
-
-pub loop-i-preserved : goal.loop-i-preserved
-loop-i-preserved c = search fit_more
-
 pub returns : goal.returns
-returns c = search fit_all
+returns c =
+    fits_decided c.args.f.now c.requires _
+    (cases_from_all _ _ _ (λ x. c.args.f.now.turn ≤ x) (λ x. x < c.args.f.now.turn) c.all.ensures.ran
+    (YieldsList-from_slice (take c.args.f.now.blocks c.args.f.now.longest) cc) (λ x q k. search (rules, tests)) (λ x q k. search (rules, tests)))

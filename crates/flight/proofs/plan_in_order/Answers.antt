@@ -1,15 +1,15 @@
 -- `flight::plan_in_order` meets its contract: the starts are the least ones, and the last pass gives the figure.
-use Rattle.flight.proofs.Planning.{least_starts_pre, plan_figure_fits, passes_at_pre, plan_made}
+use Rattle.flight.proofs.Planning.{lent_starts_pre, lent_least, plan_figure_fits, passes_at_pre, plan_made}
 use Rattle.flight.proofs.plan_in_order.Goals as goal
 
 pub least_starts-found-requires : goal.least_starts-found-requires
-least_starts-found-requires c = search least_starts_pre
+least_starts-found-requires c = lent_starts_pre c.lent-blocks.ensures c.requires
 
 pub overflow_add-result : goal.overflow_add-result
-overflow_add-result c = record { fits = search plan_figure_fits }
+overflow_add-result c = record { fits = plan_figure_fits _ _ c.requires (lent_least c.lent-blocks.ensures c.least_starts-found.ensures) }
 
 pub passes_at-requires : goal.passes_at-requires
 passes_at-requires c = search passes_at_pre
 
 pub returns : goal.returns
-returns c = search plan_made
+returns c = search (plan_made _ _ c.requires (lent_least c.lent-blocks.ensures c.least_starts-found.ensures))

@@ -16,8 +16,8 @@ overflow_sub-seconds t c = search firsts_few
 pub search-requires : goal.search-requires
 search-requires t c = (omega arith, search only_second_search_pre)
 
-pub returns-then-n-firsts : goal.returns-then-n-firsts
-returns-then-n-firsts t c = search only_second
+pub returns-then-blocks-firsts : goal.returns-then-blocks-firsts
+returns-then-blocks-firsts t c = search only_second
 
 pub search-after-requires : goal.search-after-requires
 search-after-requires t c = (omega arith, search first_search_pre)

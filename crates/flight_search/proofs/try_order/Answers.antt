@@ -1,21 +1,21 @@
 -- `flight_search::try_order` meets its contract: the order is not possible, or is no better than the incumbent, or replaces it.
-use Rattle.flight_search.proofs.Trying.{least_starts_pre, figure_fits, try_impossible, try_first, tries}
+use Rattle.flight_search.proofs.Trying.{least_starts_pre, figure_fits, try_impossible, try_first, try_stays, try_replaces}
 use Rattle.flight_search.proofs.try_order.Goals as goal
 
 pub least_starts-requires : goal.least_starts-requires
-least_starts-requires c = search least_starts_pre
+least_starts-requires c = least_starts_pre c.requires
 
 pub returns-then-not-least_starts : goal.returns-then-not-least_starts
-returns-then-not-least_starts c = search try_impossible
+returns-then-not-least_starts c = search (try_impossible c.requires c.least_starts.ensures)
 
 pub overflow_add-figure : goal.overflow_add-figure
-overflow_add-figure c = record { fits = search figure_fits }
+overflow_add-figure c = record { fits = figure_fits c.requires c.least_starts.ensures }
 
-pub returns-then-not-best : goal.returns-then-not-best
-returns-then-not-best c = search try_first
+pub returns-in_default : goal.returns-in_default
+returns-in_default c = search (try_first c.requires c.least_starts.ensures)
 
-pub returns-then-best-figure : goal.returns-then-best-figure
-returns-then-best-figure c = search tries
+pub returns-then-b-figure : goal.returns-then-b-figure
+returns-then-b-figure c = search (try_stays c.requires c.least_starts.ensures)
 
-pub returns-else-best-figure : goal.returns-else-best-figure
-returns-else-best-figure c = search tries
+pub returns-else-b-figure : goal.returns-else-b-figure
+returns-else-b-figure c = search (try_replaces c.requires c.least_starts.ensures)
