@@ -9,7 +9,7 @@ pub overflow_add-result : goal.overflow_add-result
 overflow_add-result c = record { fits = plan_figure_fits _ _ c.requires (lent_least c.lent-blocks.ensures c.least_starts-found.ensures) }
 
 pub passes_at-requires : goal.passes_at-requires
-passes_at-requires c = search passes_at_pre
+passes_at-requires c = passes_at_pre _ _ c.requires (lent_least c.lent-blocks.ensures c.least_starts-found.ensures) c.least_starts-found.auto.starts
 
 pub returns : goal.returns
 returns c = search (plan_made _ _ c.requires (lent_least c.lent-blocks.ensures c.least_starts-found.ensures))
