@@ -1,6 +1,6 @@
 -- A number in decimal columns: right-aligned, its digits from the highest place to the units, and a filler left of its first digit.
 -- A filler of a space gives the columns of a page; a filler of the digit 0 gives leading zeros. Below the definitions, some samples.
-use Rattle.std.specs.Prelude.{◌+◌, ◌-◌, ◌*◌, ◌/◌, ◌%◌, ◌^◌, ◌≡◌, refl, [], ◌∷◌}
+use Rattle.std.specs.Prelude.{◌≡◌, refl, [], ◌∷◌}
 use Rattle.decimal.specs.Columns.{zero_digit, space, column_of, column_at, columns}
 
 -- "  0"

@@ -1,7 +1,6 @@
 -- Laws for a loop that stores the columns of a number from the units to the left: what holds before each column,
 -- how one column more is stored, and that in the end all are stored.
-use Rattle.std.specs.Prelude.{ℕ, ◌+◌, ◌-◌, ◌/◌, ◌%◌, ◌^◌, ◌≤◌, ◌<◌, ◌≡◌, List, length}
-use Rattle.std.proofs.Common.{◌∙◌}
+use Rattle.std.specs.Prelude.{ℕ, ◌+◌, ◌-◌, ◌/◌, ◌^◌, ◌≤◌, ◌≡◌, List, length}
 use Rattle.field.specs.Put.{put}
 use Rattle.decimal.specs.Columns.{column_at, columns}
 

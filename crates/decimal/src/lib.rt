@@ -12,6 +12,7 @@ pub const ZERO_DIGIT: u8 = 48;
 pub const SPACE: u8 = 32;
 
 // The column of what is left of a number without its lower digits: the last digit of it, or the filler where nothing is left.
+#[tactic(auto, unfolding(crate::specs::Columns::column_of))]
 fn column(filler: u8, rest: u64) -> u8
     ensures { result ≡ column_of filler rest }
 {
@@ -27,11 +28,9 @@ pub fn put_columns(d: &mut [u8], at: usize, width: usize, filler: u8, value: u64
     requires { at + width ≤ length d.old }
     ensures { d.new ≡ put d.old at (columns filler width value) }
 {
-    let mut left = width;
     let mut rest = value;
     let mut next = ZERO_DIGIT + (value % 10) as u8;
-    while 0 < left {
-        left -= 1;
+    for left in (0..width).rev() {
         d[at + left] = next;
         rest /= 10;
         next = column(filler, rest);

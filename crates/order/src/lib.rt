@@ -28,6 +28,7 @@ pub fn seconds_before(x: u64, k: u64) -> u64
 }
 
 // The first passes among the first k passes.
+#[tactic(auto, using(crate::specs::Seconds::seconds_le), unfolding(crate::specs::Order::firsts))]
 pub fn firsts_before(x: u64, k: u64) -> u64
     ensures { result ≡ firsts x k }
 {
@@ -66,6 +67,7 @@ pub fn proper(n: u64, x: u64) -> bool
 }
 
 // The pass of n blocks at position k: the first pass of block i is pass i, its second pass is pass n + i.
+#[tactic(auto, using(crate::specs::Seconds::seconds_le), unfolding(crate::specs::Passes::pass_at))]
 pub fn pass_at(n: usize, order: u64, k: usize) -> usize
     requires { (n ≤ 32) × (k < 64) }
     ensures { result ≡ pass_at n order k }
@@ -78,7 +80,8 @@ pub fn pass_at(n: usize, order: u64, k: usize) -> usize
 }
 
 // The time that pass p of n blocks takes.
-pub fn time_of<'a>(n: usize, first: &'a [u64], second: &'a [u64], p: usize) -> u64
+#[tactic(auto, unfolding(crate::specs::Passes::time_of))]
+pub fn time_of(n: usize, first: &[u64], second: &[u64], p: usize) -> u64
     requires { (n ≤ length first.now) × (n ≤ length second.now) × (p < 2 * n) }
     ensures { result ≡ time_of n first.now second.now p }
 {

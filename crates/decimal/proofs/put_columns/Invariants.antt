@@ -4,6 +4,3 @@ use Rattle.decimal.proofs.put_columns.Given as goal
 
 abbrev pub invariant-loop-left : goal.invariant-loop-left
 invariant-loop-left l = Stored l.initial.d l.d l.at l.width l.filler l.value l.left l.rest l.next
-
-abbrev pub decreases-loop-left : goal.decreases-loop-left
-decreases-loop-left l = l.left
