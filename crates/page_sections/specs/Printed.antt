@@ -1,5 +1,5 @@
 -- What each function of the sections asks and leaves: the lines of a section by where it stands in the plan.
-use Rattle.std.specs.Prelude.{ℕ, ◌+◌, ◌*◌, ◌^◌, ◌≤◌, ◌<◌, List, ◌∷◌, length}
+use Rattle.std.specs.Prelude.{ℕ, ◌+◌, ◌*◌, ◌≤◌, List, ◌∷◌, length}
 use Rattle.base.specs.Listed.{listed}
 use Rattle.plan_format.specs.Format.{size_of, mosaic_head_form, batch_form, sorting_head_form, job_form, flight_head_form, passes_form}
 use Rattle.rules.specs.Plan.{if_present}
@@ -17,7 +17,11 @@ job_line_from plan first i = job_line (job_from plan (first + size_of job_form *
 unfoldable pub block_line_from : List ℕ → ℕ → ℕ → List ℕ
 block_line_from plan first i = block_line (i + 1) (passes_from plan (first + size_of passes_form * i))
 
--- the lines of a section: none where it has no member
+-- the lines of a section, by the letter and the figure of its head and the line of each of its members: none where it has no member
+abbrev pub section_printed : ℕ → ℕ → ℕ → (ℕ → List ℕ) → List (List ℕ)
+section_printed letter figure members line = if_present members (head_line letter figure ∷ listed members line)
+
+-- those of the mosaic, the sorting and the flight
 unfoldable pub mosaic_printed : List ℕ → Part → ℕ → List (List ℕ)
 mosaic_printed plan part figure =
     if_present part.members (head_line mosaic_head_letter figure ∷ listed part.members (batch_line_from plan (part.head + size_of mosaic_head_form)))
@@ -30,10 +34,10 @@ unfoldable pub flight_printed : List ℕ → Part → ℕ → List (List ℕ)
 flight_printed plan part figure =
     if_present part.members (head_line flight_head_letter figure ∷ listed part.members (block_line_from plan (part.head + size_of flight_head_form)))
 
--- n members of one size from an offset on, all below 2^64, and room for their lines
-pub record PrintMembersPre (page : List ℕ) (at first size n : ℕ) : Type 0 where
-  pub room : at + line_length * n ≤ length page
-  pub place : first + size * n < 2 ^ 64
+-- member i, from 0, of a section of a plan, of members of one size, and room for its line
+pub record PutLinePre (page : List ℕ) (at : ℕ) (plan : List ℕ) (head size i : ℕ) : Type 0 where
+  pub room : at + line_length ≤ length page
+  pub place : head + size * (i + 1) ≤ length plan
 
 -- a section within its plan, and room for its lines
 pub record PrintSectionPre (page : List ℕ) (at : ℕ) (plan : List ℕ) (size : ℕ) (part : Part) : Type 0 where
