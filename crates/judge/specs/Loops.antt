@@ -90,6 +90,9 @@ refused_number TimeTooLarge e = omega arith
 refused_number TimeOfZero e = omega arith
 refused_number LongestBelowShortest e = omega arith
 
+-- what a judging that goes from section to section rests on: where each stands, and that a refusal ends it
+pub ruleset each_section = (mosaic_asked, sorting_asked, flight_asked, refused_number)
+
 -- the sections from one on
 
 pub section_absent : (s : Sheet) (plan : List ℕ) (section : ℕ) → present s section ≡ false → section_verdict s plan section ≡ verdict 0 0

@@ -102,7 +102,7 @@ fn stated_figure(s: Sheet, plan: &[u8], section: u64, part: Part) -> u64
 }
 
 // Judges a plan for a sound sheet: its layout, then section by section. The first field that breaks a rule ends the judging.
-#[tactic(auto, using(crate::specs::Loops::refused_number), unfolding(crate::specs::Judged::judged_plan, crate::specs::Judged::concluded, crate::specs::Judged::found, crate::specs::Judged::sections_from, judge_layout::specs::Layout::verdict))]
+#[tactic(auto, using(crate::specs::Loops::each_section), unfolding(crate::specs::Judged::judged_plan, crate::specs::Judged::concluded, crate::specs::Judged::found, crate::specs::Judged::sections_from, judge_layout::specs::Layout::verdict))]
 fn judge_plan(
     s: Sheet,
     plan: &[u8],

@@ -16,10 +16,9 @@ use Rattle.field.specs.declared.Field.TheVariants.{Whole}
 use Rattle.sheet.specs.Refusals.{layout_wrong}
 use Rattle.sheet.specs.declared.Sheet.{Sheet}
 use Rattle.plan_format.specs.Format.{mosaic_head_form, batch_form, sorting_head_form, job_form, flight_head_form, passes_form}
-use Rattle.judge_layout.specs.Layout.{is_field, run, part_from, part_of, mosaic_part, sorting_part, flight_part, verdict, layout_verdict}
+use Rattle.judge_layout.specs.Layout.{is_field, run, part_from, part_of, mosaic_part, sorting_part, flight_part, verdict, layout_verdict, Verdict}
 use Rattle.judge_layout.specs.Laws.{is_field_true}
 use Rattle.judge_layout.specs.declared.Part.{Part}
-use Rattle.judge_layout.specs.declared.Verdict.{Verdict}
 use Rattle.judge_members.specs.Members.{present, head_form, member_form}
 use Rattle.judge.specs.Judged.{pick_part, part_at}
 use Rattle.judge_laws.proofs.Laid.{is_field_lem, run_each}

@@ -14,8 +14,7 @@ use Rattle.sheet.specs.Table.{RefusedFor}
 use Rattle.sheet.proofs.Refused.{refused_for, refused_is, sound_exactly}
 use Rattle.sheet.specs.declared.Sheet.{Sheet}
 use Rattle.plan_read.specs.PlanRead.{figure_from}
-use Rattle.judge_layout.specs.Layout.{verdict, layout_verdict}
-use Rattle.judge_layout.specs.declared.Verdict.{Verdict}
+use Rattle.judge_layout.specs.Layout.{verdict, layout_verdict, Verdict}
 use Rattle.judge_members.specs.Members.{present, head_form, member_place, begun, member_follows, after_member, head_follows, figure_of, head_number}
 use Rattle.judge_members.specs.declared.Progress.{Progress}
 use Rattle.judge.specs.Judged.{part_at, section_from, section_verdict, sections_from, turned_back, found, judged}

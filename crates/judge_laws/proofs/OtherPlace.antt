@@ -15,9 +15,8 @@ use Rattle.sheet.specs.declared.Sheet.{Sheet}
 use Rattle.rules.specs.Flight.{pass_start, pass_time, pass_end, second_due, clear_at, flight_figure}
 use Rattle.rules.specs.declared.Passes.{Passes}
 use Rattle.judge_rules.specs.Follows.{block_follows, passes_in_order, flight_head}
-use Rattle.judge_layout.specs.Layout.{mosaic_part, sorting_part, flight_part, verdict, layout_verdict}
+use Rattle.judge_layout.specs.Layout.{mosaic_part, sorting_part, flight_part, verdict, layout_verdict, Verdict}
 use Rattle.judge_layout.specs.declared.Part.{Part}
-use Rattle.judge_layout.specs.declared.Verdict.{Verdict}
 use Rattle.judge_members.specs.Members.{present, begun, member_follows, after_batch, after_strip, after_member, head_follows, figure_of, head_number, member_place}
 use Rattle.judge_members.specs.declared.Progress.{Progress}
 use Rattle.judge.specs.Judged.{part_at, section_from, section_verdict, sections_from, stated_figure, turned_back, found, concluded, judged_plan, judged}

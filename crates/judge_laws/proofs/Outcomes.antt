@@ -7,8 +7,7 @@ use borrow.Author.Tests.{eq-eqb, eqb-true, eqb-false}
 use Rattle.sheet.specs.Refusals.{layout_wrong}
 use Rattle.sheet.specs.Read.{read_sheet}
 use Rattle.sheet.specs.declared.Sheet.{Sheet}
-use Rattle.judge_layout.specs.Layout.{mosaic_part, sorting_part, flight_part, verdict, layout_verdict}
-use Rattle.judge_layout.specs.declared.Verdict.{Verdict}
+use Rattle.judge_layout.specs.Layout.{mosaic_part, sorting_part, flight_part, verdict, layout_verdict, Verdict}
 use Rattle.judge_members.specs.Members.{present, begun}
 use Rattle.judge.specs.Judged.{part_at, section_from, section_verdict, sections_from, stated_figure, turned_back, found, concluded, judged_plan, judged}
 use Rattle.judge.specs.Loops.{section_absent, zero_number, section_here, sections_next, all_right, sheet_right}

@@ -1,6 +1,5 @@
 -- A head of a mosaic or of a sorting is due with eight bytes alone (02, Req 09): with any other length it is no field that is due, wherever it stands.
 use Rattle.std.specs.Prelude.{ℕ, ◌≡◌}
-use Rattle.std.proofs.Common.{◌∙◌}
 use Rattle.sheet.specs.Tags.{plan_mosaic_tag, plan_sorting_tag}
 
 -- the tag of a head whose figure has eight bytes: 90 and A0

@@ -1,7 +1,6 @@
 -- The judge finds no fault exactly where the sheet's number, the layout's and that of each section are 0; then its answer is the figures found.
 -- The layout's number is 0 exactly where the three parts are right and the last ends with the plan.
-use Rattle.std.specs.Prelude.{ℕ, ◌+◌, ◌≡◌, true, List, length}
-use Rattle.std.proofs.Common.{◌∙◌}
+use Rattle.std.specs.Prelude.{ℕ, ◌≡◌, true, List, length}
 use Rattle.sheet.specs.declared.Sheet.{Sheet}
 use Rattle.judge_layout.specs.Layout.{mosaic_part, sorting_part, flight_part}
 use Rattle.judge.specs.Judged.{section_verdict}

@@ -1,15 +1,13 @@
 -- The theorems of the judge. It finds no fault exactly in the plans that are allowed for the sheet, and its three figures are then the rules' figures of that
 -- plan.
 -- 01: "The judge takes a sheet and a plan and gives the figure of each section, 0 for an absent section".
-use Rattle.std.specs.Prelude.{ℕ, ◌≤◌, ◌<◌, ◌≡◌}
-use Rattle.std.proofs.Common.{◌∙◌}
+use Rattle.std.specs.Prelude.{ℕ, ◌≤◌, ◌≡◌}
 use Rattle.sheet.specs.Sound.{strips_in_all}
 use Rattle.sheet.specs.declared.Sheet.{Sheet}
 use Rattle.rules.specs.Mosaic.{mosaic_figure}
 use Rattle.rules.specs.Sorting.{sorting_figure}
 use Rattle.rules.specs.Flight.{flight_figure}
 use Rattle.rules.specs.Plan.{Plan}
-use Rattle.judge_members.specs.Members.{present}
 use Rattle.judge.specs.declared.Judged.{Judged}
 
 -- The judge's figures of a plan, where it is allowed: those that the rules give.
