@@ -9,15 +9,14 @@ use super::SortingSection;
 pub fn desk_index(desk: u64) -> usize
     ensures { result ≡ desk - 1 }
 {
-    if desk == 0 { 0 } else { (desk - 1) as usize }
+    desk.saturating_sub(1) as usize
 }
 
 // The strips of a desk, which is numbered from 1.
 pub fn strips_of_desk(counts: [usize; 3], desk: u64) -> usize
     ensures { result ≡ strips_of_desk counts desk }
 {
-    let d = desk_index(desk);
-    if d < 3 { counts[d] } else { 0 }
+    counts.get(desk_index(desk)).copied().unwrap_or(0)
 }
 
 // The strips of all desks.
@@ -25,6 +24,5 @@ pub fn strips_in_all(t: SortingSection) -> usize
     requires { SortingSound t }
     ensures { result ≡ strips_in_all t }
 {
-    let counts = t.counts;
-    counts[0] + counts[1] + counts[2]
+    t.counts[0] + t.counts[1] + t.counts[2]
 }

@@ -12,8 +12,8 @@ returns-then-members-lt1-clause-number c = search (rows, test_fails, test_passes
 
 pub returns-then-not-few_blocks-clause-number : goal.returns-then-not-few_blocks-clause-number
 unfolding end_number end_checks
-returns-then-not-few_blocks-clause-number c = search (rows, test_fails, test_passes, le-leb, lt-leb) depth 14
+returns-then-not-few_blocks-clause-number c = search (rows, test_fails, test_passes, le-leb) depth 14
 
 pub returns-clause-number : goal.returns-clause-number
 unfolding end_number end_checks first_failure
-returns-clause-number c = search (rows, test_fails, test_passes, le-leb, lt-leb) depth 14
+returns-clause-number c = search (rows, test_passes, le-leb) depth 14

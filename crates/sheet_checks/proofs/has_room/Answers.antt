@@ -12,9 +12,9 @@ strips : (tag members of_desk : ℕ) → tag ≡ mosaic_strip_tag → ltb member
 unfolding has_room
 strips tag members of_desk e = rw e
 
-window-blocks : (tag members of_desk : ℕ) → tag ≡ flight_window_block_tag → ltb members most_blocks ≡ has_room tag members of_desk
+window_blocks : (tag members of_desk : ℕ) → tag ≡ flight_window_block_tag → ltb members most_blocks ≡ has_room tag members of_desk
 unfolding has_room
-window-blocks tag members of_desk e = rw e
+window_blocks tag members of_desk e = rw e
 
 pub returns-in-17 : goal.returns-in-17
 returns-in-17 c = search strips
@@ -28,7 +28,7 @@ unfolding has_room
 returns-in-49 c = search branches depth 14
 
 pub returns-in-51 : goal.returns-in-51
-returns-in-51 c = search window-blocks
+returns-in-51 c = search window_blocks
 
 pub returns-in_default : goal.returns-in_default
 unfolding has_room
