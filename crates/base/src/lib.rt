@@ -1,8 +1,7 @@
-// What several layers need: the answer of a call that writes into a lent buffer, the greater of two numbers, and a slice set to zeros. The definitions that
-// they share stand in specs/.
+// What several layers need: the answer of a call that writes into a lent buffer, and a slice set to zeros. The definitions that they share stand in specs/.
 #![tactic(auto)]
 
-ghost use Rattle.std.specs.Prelude.{◌≡◌, max, length, replicate};
+ghost use Rattle.std.specs.Prelude.{◌≡◌, length, replicate};
 
 // The answer of a call: 0, 0 and the length written, or the number and place of its refusal and 0.
 #[repr(C)]
@@ -13,14 +12,7 @@ pub struct Answer {
     pub length: usize,
 }
 
-// The greater of two numbers.
-pub fn greater(a: u64, b: u64) -> u64
-    ensures { result ≡ max a b }
-{
-    if a < b { b } else { a }
-}
-
-// All values set to 0.
+// All values set to 0, from the first one on.
 pub fn clear(values: &mut [u64])
     ensures { values.new ≡ replicate (length values.old) 0 }
 {

@@ -27,7 +27,10 @@ pub fn ready_time(m: MosaicSection, j: usize) -> u64
 {
     let mut greatest: u64 = 0;
     for k in 0..m.stations {
-        greatest = greatest.max(station_sum(m, k, j));
+        let sum = station_sum(m, k, j);
+        if greatest < sum {
+            greatest = sum;
+        }
     }
     greatest
 }
