@@ -97,10 +97,10 @@ def cases_of_code():
 def answer(length):
     """The answer of the case that gives a length of the table."""
     if length == "none":
-        return "None"
+        return "LengthDue::None"
     if " or " in length:
-        return "Some(Either(%s))" % length.replace(" or ", ", ")
-    return "Some(Bytes(%s))" % length
+        return "LengthDue::Either(%s)" % length.replace(" or ", ", ")
+    return "LengthDue::Bytes(%s)" % length
 
 
 def main():

@@ -1,7 +1,7 @@
 -- The way through the rows of a field, as the code answers their tests: a row that fails gives its number, one that passes leaves it to the rows behind it.
 -- No law speaks of the rows before its own; those of numbers that a callee gives are crate sheet's (GivenNumbers.antt).
 use Prim.{tt}
-use Rattle.std.specs.Prelude.{Option, ℕ, ◌+◌, ◌≡◌, Bool, true, false, not, List, ◌∷◌, T, leb, ltb}
+use Rattle.std.specs.Prelude.{ℕ, ◌+◌, ◌≡◌, Bool, true, false, not, List, ◌∷◌, T, leb, ltb}
 use Rattle.std.proofs.Common.{sym, ap, ◌∙◌, ne_eqb}
 use Rattle.std.proofs.lemmas.Bool.{not-true, not-false}
 use Rattle.base.specs.Branch.{check}
@@ -19,7 +19,7 @@ use Rattle.sheet_lengths.specs.Lengths.{lengths_given, GivesLength}
 use Rattle.sheet_lengths.specs.declared.LengthDue.{LengthDue}
 
 -- the length, by the one that is due
-module _ (len tag stations desks : ℕ) (due : Option LengthDue) (x : Bool) (d : GivesLength tag stations due) (e : x ≡ is_among len (lengths_given due)) where
+module _ (len tag stations desks : ℕ) (due : LengthDue) (x : Bool) (d : GivesLength tag stations due) (e : x ≡ is_among len (lengths_given due)) where
   tested : (b : Bool) → x ≡ b → is_among len (lengths_due tag (field_table stations desks)) ≡ b
   tested b h = ap (is_among len) (sym (d desks)) ∙ sym e ∙ h
 
