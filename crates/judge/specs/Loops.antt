@@ -1,18 +1,18 @@
--- The judge's loop over the members of a section: wherever it stands, what is left to judge gives the section's verdict.
-use Rattle.std.specs.Prelude.{ℕ, suc, ◌+◌, ◌-◌, ◌*◌, ◌^◌, ◌≤◌, ◌<◌, ◌≡◌, refl, Bool, true, false, cond, not, List, length, eqb, Err}
+-- The judge's two loops: over the sections, and over the members of one. Wherever they stand, what is left to judge gives the answer.
+use Rattle.std.specs.Prelude.{ℕ, suc, ◌+◌, ◌-◌, ◌*◌, ◌^◌, ◌≤◌, ◌<◌, ◌≡◌, refl, Bool, true, false, cond, not, List, length, eqb, Ok, Err}
 use Rattle.std.proofs.Math.Path.{sym, ap}
 use Rattle.std.proofs.Common.{ap₂, ◌∙◌, mul_comm, mul-le-mul_left}
 use native.Mathlib.Omega.{arith}
 use borrow.Author.Tests.{eq-eqb, ne_eqb, not-true, not-false}
 use Rattle.sheet.specs.Given.{number_of}
+use Rattle.sheet.proofs.GivenNumbers.{refusal_not_zero}
 use Rattle.sheet.specs.Refusals.{rule_broken}
 use Rattle.sheet.specs.Read.{read_sheet}
 use Rattle.sheet.specs.Sound.{SheetSound, SortingSound}
 use Rattle.sheet.proofs.Theorems.{read_sound}
 use Rattle.sheet.specs.declared.Sheet.{Sheet}
 use Rattle.sheet.specs.declared.refusals.Refusal.{Refusal}
-use Rattle.sheet.specs.declared.refusals.Refusal.TheVariants.{TableTooSmall, BufferTooSmall, FieldCut, TagNotPermitted, LengthWrong, OutOfRange, TooMany, NoMembers, OrderNotProper}
-use Rattle.sheet.specs.declared.refusals.Refusal.TheVariants.{OrderMissing, OrderImpossible, LayoutWrong, RuleBroken, FigureUntrue, TimeTooLarge, TimeOfZero, LongestBelowShortest}
+use Rattle.sheet.specs.declared.refusals.Refusal.TheVariants.{RuleBroken}
 use Rattle.plan_format.specs.Format.{size_of, mosaic_head_form, batch_form, sorting_head_form, job_form, flight_head_form, passes_form}
 use Rattle.judge_layout.specs.Layout.{mosaic_part, sorting_part, flight_part, Verdict, verdict, verdict_of, layout_verdict}
 use Rattle.judge_layout.specs.Laws.{LayoutVerdictPre, PartFits, parts_fit}
@@ -46,6 +46,12 @@ module _ (s : Sheet) (plan : List ℕ) (mosaic sorting flight : Part) (a : Secti
   unfolding part_at pick_part
   flight_asked = record { sound = a.sound; here = a.parts.flight_is }
 
+-- the part that is picked is the plan's
+pub picked : (s : Sheet) (plan : List ℕ) (section : ℕ) (mosaic sorting flight part : Part) → LayoutVerdictPre s plan mosaic sorting flight
+    → part ≡ pick_part section mosaic sorting flight → part ≡ part_at s plan section
+unfolding part_at
+picked s plan section mosaic sorting flight part a e = e ∙ rw (a.mosaic_is, a.sorting_is, a.flight_is)
+
 part_fits : (s : Sheet) (plan : List ℕ) (section : ℕ) → PartFits plan (size_of (member_form section)) (part_at s plan section)
 unfolding part_at pick_part member_form
 part_fits s plan section = by_section (eqb section 1) (eqb section 2)
@@ -70,28 +76,8 @@ place_small : (section head k : ℕ) → head + size_of (member_form section) * 
 unfolding member_place
 place_small section head k h = omega (arith, head_small section, mul_comm (size_of (member_form section)) k)
 
--- a refusal has a number
-pub refused_number : (r : Refusal) → number_of r ≡ 0 → ⊥
-refused_number TableTooSmall e = omega arith
-refused_number BufferTooSmall e = omega arith
-refused_number FieldCut e = omega arith
-refused_number TagNotPermitted e = omega arith
-refused_number LengthWrong e = omega arith
-refused_number OutOfRange e = omega arith
-refused_number TooMany e = omega arith
-refused_number NoMembers e = omega arith
-refused_number OrderNotProper e = omega arith
-refused_number OrderMissing e = omega arith
-refused_number OrderImpossible e = omega arith
-refused_number LayoutWrong e = omega arith
-refused_number RuleBroken e = omega arith
-refused_number FigureUntrue e = omega arith
-refused_number TimeTooLarge e = omega arith
-refused_number TimeOfZero e = omega arith
-refused_number LongestBelowShortest e = omega arith
-
--- what a judging that goes from section to section rests on: where each stands, and that a refusal ends it
-pub ruleset each_section = (mosaic_asked, sorting_asked, flight_asked, refused_number)
+-- what the judging of a plan rests on: where each section stands, and that a refusal ends it
+pub ruleset each_section = (mosaic_asked, sorting_asked, flight_asked, refusal_not_zero)
 
 -- the sections from one on
 
@@ -103,6 +89,14 @@ pub zero_number : (place : ℕ) → (verdict 0 place).number ≡ 0
 unfolding verdict
 zero_number place = refl
 
+pub record Outer (s : Sheet) (plan : List ℕ) (section : ℕ) : Type 0 where
+  pub low : 1 ≤ section
+  pub high : section ≤ 4
+  pub same : sections_from (4 - section) s plan section ≡ sections_from 3 s plan 1
+
+pub outer_start : (s : Sheet) (plan : List ℕ) → Outer s plan 1
+outer_start s plan = record { low = omega arith; high = omega arith; same = refl }
+
 pub sections_next : (left : ℕ) (s : Sheet) (plan : List ℕ) (section : ℕ) → (section_verdict s plan section).number ≡ 0
     → sections_from (suc left) s plan section ≡ sections_from left s plan (section + 1)
 unfolding sections_from
@@ -113,14 +107,50 @@ pub sections_stop : (left : ℕ) (s : Sheet) (plan : List ℕ) (section : ℕ) �
 unfolding sections_from
 sections_stop left s plan section e = rw (ne_eqb _ _ e, sections_from)
 
-fault_alone : (s : Sheet) (plan : List ℕ) (section : ℕ) (v : Verdict) → v ≡ section_verdict s plan section → (v.number ≡ 0 → ⊥) → v ≡ sections_from 1 s plan section
-fault_alone s plan section v h n = h ∙ sym (sections_stop 0 s plan section (λ z. n (ap (λ w. w.number) h ∙ z)))
+module _ (s : Sheet) (plan : List ℕ) (section : ℕ) (o : Outer s plan section) where
+  pub outer_end : 3 < section → verdict_of (Ok tt) ≡ sections_from 3 s plan 1
+  unfolding sections_from verdict
+  outer_end h = ap (λ n. sections_from n s plan section) none ∙ o.same
+    where
+      none : 0 ≡ 4 - section
+      none = omega arith
+
+  module _ (h : section ≤ 3) where
+    left : 4 - section ≡ suc (3 - section)
+    left = omega arith
+
+    opened : sections_from (suc (3 - section)) s plan section ≡ sections_from 3 s plan 1
+    opened = ap (λ n. sections_from n s plan section) (sym left) ∙ o.same
+
+    outer_next : (section_verdict s plan section).number ≡ 0 → Outer s plan (section + 1)
+    outer_next e =
+        let l = o.low in
+        record {
+          low = omega arith;
+          high = omega arith;
+          same = ap (λ n. sections_from n s plan (section + 1)) fewer ∙ sym
+              (sections_next (3 - section) s plan section e) ∙ opened;
+        }
+      where
+        fewer : 4 - (section + 1) ≡ 3 - section
+        fewer = omega arith
+
+    outer_wrong : ((section_verdict s plan section).number ≡ 0 → ⊥) → section_verdict s plan section ≡ sections_from 3 s plan 1
+    outer_wrong e = sym (sections_stop (3 - section) s plan section e) ∙ opened
+
+    pub outer_absent : (x : Bool) → x ≡ present s section → not x ≡ true → Outer s plan (section + 1)
+    outer_absent x ex e = outer_next (ap (λ v. v.number) absent ∙ zero_number 0)
+      where
+        absent : section_verdict s plan section ≡ verdict 0 0
+        absent = section_absent s plan section (sym ex ∙ not-true x e)
 
 -- the members of a section from one on
 
 pub record Inner (s : Sheet) (plan : List ℕ) (section : ℕ) (part : Part) (k : ℕ) (p : Progress) : Type 0 where
   pub asked : SectionPre s plan section part
   pub small : length plan * 1 < 2 ^ 63
+  pub outer : Outer s plan section
+  pub below : section ≤ 3
   pub kept : Kept p
   pub same : section_from (part.members - k) s plan section part k p ≡ section_verdict s plan section
 
@@ -147,14 +177,19 @@ pub members_judged : (s : Sheet) (plan : List ℕ) (section : ℕ) (part : Part)
 unfolding section_from
 members_judged s plan section part k p = refl
 
-pub inner_start : (s : Sheet) (plan : List ℕ) (section : ℕ) (part : Part) (p : Progress) (x : Bool) → x ≡ present s section → not x ≡ false
-    → SectionPre s plan section part → length plan * 1 < 2 ^ 63 → p ≡ begun → Inner s plan section part 0 p
-inner_start s plan section part p x ex hx a small eb =
+pub inner_start : (s : Sheet) (plan : List ℕ) (section : ℕ) (part mosaic sorting flight : Part) (p : Progress) (x : Bool) → Outer s plan section → section ≤ 3
+    → x ≡ present s section → not x ≡ false → SectionsPre s plan mosaic sorting flight → length plan * 1 < 2 ^ 63
+    → part ≡ pick_part section mosaic sorting flight
+    → p ≡ begun → Inner s plan section part 0 p
+inner_start s plan section part mosaic sorting flight p x o h ex hx a small ep eb =
+    let e = picked s plan section mosaic sorting flight part a.parts ep in
     record {
-      asked = a;
+      asked = record { sound = a.sound; here = e };
       small = small;
+      outer = o;
+      below = h;
       kept = rw eb begun_kept;
-      same = ap₂ (λ n q. section_from n s plan section part 0 q) all eb ∙ section_here s plan section part a.here (sym ex ∙ not-false x hx);
+      same = ap₂ (λ n q. section_from n s plan section part 0 q) all eb ∙ section_here s plan section part e (sym ex ∙ not-false x hx);
     }
   where
     all : part.members - 0 ≡ part.members
@@ -188,20 +223,24 @@ module _ (s : Sheet) (plan : List ℕ) (section : ℕ) (part : Part) (k : ℕ) (
       pub after_asked : not x ≡ false → AfterMemberPre s plan section place p
       after_asked h = record { asked = member_asked; index = k; follows = sym ex ∙ not-false x h }
 
-      pub inner_wrong : not x ≡ true → verdict_of (Err (record { refusal = RuleBroken; place = place })) ≡ sections_from 1 s plan section
+      pub inner_wrong : not x ≡ true → verdict_of (Err (record { refusal = RuleBroken; place = place })) ≡ sections_from 3 s plan 1
       unfolding verdict
       inner_wrong h =
-          fault_alone s plan section (verdict rule_broken place)
-          (ap (λ n. verdict rule_broken n) ep
-          ∙ sym (member_wrong (part.members - (k + 1)) s plan section part k p (here false (not-true x h)))
-          ∙ opened_member)
-          (λ z. omega arith)
+          ap (λ n. verdict rule_broken n) ep ∙ sym fault ∙ outer_wrong s plan section i.outer i.below (λ z. broken (sym (ap (λ v. v.number) fault) ∙ z))
+        where
+          fault : section_verdict s plan section ≡ verdict rule_broken (member_place section part.head k)
+          fault = sym opened_member ∙ member_wrong (part.members - (k + 1)) s plan section part k p (here false (not-true x h))
+
+          broken : ◌≡◌ {A = ℕ} rule_broken 0 → ⊥
+          broken z = omega arith
 
       pub inner_more : (next : Progress) → not x ≡ false → next ≡ after_member s plan section place p → Inner s plan section part (k + 1) next
       inner_more next h en =
           record {
             asked = i.asked;
             small = i.small;
+            outer = i.outer;
+            below = i.below;
             kept = rw en (member_kept s plan section k place p i.asked.sound i.kept (sym ex ∙ not-false x h));
             same =
                 ap (λ q. section_from (part.members - (k + 1)) s plan section part (k + 1) q) (en ∙ ap (λ n. after_member s plan section n p) ep)
@@ -213,11 +252,23 @@ module _ (s : Sheet) (plan : List ℕ) (section : ℕ) (part : Part) (k : ℕ) (
   head_asked = record { sound = i.asked.sound; room = omega (arith, i.small, fits.within, fits.members) }
 
   module _ (all : part.members ≤ k) where
-    pub judged_head : verdict (head_number s plan section part p) part.head ≡ section_verdict s plan section
-    judged_head = sym (members_judged s plan section part k p) ∙ ap (λ n. section_from n s plan section part k p) none ∙ i.same
+    judged_head : section_verdict s plan section ≡ verdict (head_number s plan section part p) part.head
+    judged_head = sym i.same ∙ ap (λ n. section_from n s plan section part k p) none ∙ members_judged s plan section part k p
       where
-        none : 0 ≡ part.members - k
+        none : part.members - k ≡ 0
         none = omega arith
+
+    pub head_wrong : (refusal : Refusal) → number_of refusal ≡ head_number s plan section part p
+        → verdict_of (Err (record { refusal = refusal; place = part.head })) ≡ sections_from 3 s plan 1
+    unfolding verdict
+    head_wrong refusal e =
+        ap (λ n. verdict n part.head) e
+        ∙ sym judged_head
+        ∙ outer_wrong s plan section i.outer i.below (λ z. refusal_not_zero refusal (e ∙ sym (ap (λ v. v.number) judged_head) ∙ z))
+
+    pub inner_next : 0 ≡ head_number s plan section part p → Outer s plan (section + 1)
+    unfolding verdict
+    inner_next h = outer_next s plan section i.outer i.below (ap (λ v. v.number) judged_head ∙ sym h)
 
 -- the answer
 

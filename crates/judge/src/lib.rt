@@ -4,7 +4,7 @@
 ghost use Rattle.std.specs.Prelude.{◌≡◌, ◌+◌, ◌<◌};
 ghost use Rattle.sheet.specs.Sound.{SheetSound};
 ghost use Rattle.judge_layout.specs.Layout.{verdict_of};
-ghost use Rattle.judge.specs.Judged.{sections_from, stated_figure, turned_back, answer_of, judged_plan, judged};
+ghost use Rattle.judge.specs.Judged.{pick_part, sections_from, stated_figure, turned_back, answer_of, judged_plan, judged};
 ghost use Rattle.judge.specs.Examined.{no_part, examined_plan, examined};
 ghost use Rattle.judge.specs.Loops.{SectionPre, SectionsPre};
 
@@ -62,30 +62,55 @@ fn no_part() -> Part
     }
 }
 
-// Judges a section, by its number, where its part of the plan stands: the members in order, then the head.
-#[tactic(auto, unfolding(crate::specs::Judged::sections_from, crate::specs::Judged::section_verdict, judge_layout::specs::Layout::verdict))]
-fn judge_section(s: Sheet, plan: &[u8], section: u64, part: Part) -> Result<(), Refused>
-    requires { SectionPre s plan.now section part }
-    ensures { verdict_of result ≡ sections_from 1 s plan.now section }
+// The section of a plan by its number: 1, mosaic; 2, sorting; 3, flight.
+#[tactic(auto, unfolding(crate::specs::Judged::pick_part))]
+fn pick_part(section: u64, mosaic: Part, sorting: Part, flight: Part) -> Part
+    ensures { result ≡ pick_part section mosaic sorting flight }
 {
-    if !is_present(s, section) {
-        return Ok(());
+    match section {
+        1 => mosaic,
+        2 => sorting,
+        _ => flight,
     }
-    let mut progress = begin();
-    for k in 0..part.members {
-        let at = member_place(section, part.head, k);
-        if !member_follows(s, plan, section, k, at, progress) {
-            return Err(Refused {
-                refusal: Refusal::RuleBroken,
-                place: at,
-            });
+}
+
+// Judges section by section the members in order, then the head. The first field that breaks a rule ends the judging.
+fn judge_sections(
+    s: Sheet,
+    plan: &[u8],
+    mosaic: Part,
+    sorting: Part,
+    flight: Part,
+) -> Result<(), Refused>
+    requires { SectionsPre s plan.now mosaic sorting flight }
+    ensures { verdict_of result ≡ sections_from 3 s plan.now 1 }
+{
+    'sections: {
+        for section in 1..=3 {
+            if !is_present(s, section) {
+                continue;
+            }
+            let part = pick_part(section, mosaic, sorting, flight);
+            let mut progress = begin();
+            for k in 0..part.members {
+                let at = member_place(section, part.head, k);
+                if !member_follows(s, plan, section, k, at, progress) {
+                    break 'sections Err(Refused {
+                        refusal: Refusal::RuleBroken,
+                        place: at,
+                    });
+                }
+                progress = after_member(s, plan, section, at, progress);
+            }
+            if let Err(refusal) = check_head(s, plan, section, part, progress) {
+                break 'sections Err(Refused {
+                    refusal,
+                    place: part.head,
+                });
+            }
         }
-        progress = after_member(s, plan, section, at, progress);
+        Ok(())
     }
-    check_head(s, plan, section, part, progress).map_err(|refusal| Refused {
-        refusal,
-        place: part.head,
-    })
 }
 
 // The figure that a plan states at the head of a section, 0 for an absent one.
@@ -101,7 +126,7 @@ fn stated_figure(s: Sheet, plan: &[u8], section: u64, part: Part) -> u64
     }
 }
 
-// Judges a plan for a sound sheet: its layout, then section by section. The first field that breaks a rule ends the judging.
+// Judges a plan for a sound sheet: its layout, then its sections.
 #[tactic(auto, using(crate::specs::Loops::each_section), unfolding(crate::specs::Judged::judged_plan, crate::specs::Judged::concluded, crate::specs::Judged::found, crate::specs::Judged::sections_from, judge_layout::specs::Layout::verdict))]
 fn judge_plan(
     s: Sheet,
@@ -114,9 +139,7 @@ fn judge_plan(
     ensures { answer_of result ≡ judged_plan s plan.now }
 {
     layout_verdict(s, plan, mosaic, sorting, flight)?;
-    judge_section(s, plan, 1, mosaic)?;
-    judge_section(s, plan, 2, sorting)?;
-    judge_section(s, plan, 3, flight)?;
+    judge_sections(s, plan, mosaic, sorting, flight)?;
     Ok(Judged {
         number: 0,
         place: 0,
