@@ -2,7 +2,7 @@
 use Rattle.std.specs.Prelude.{ℕ, ◌+◌, ◌≡◌, true, List}
 use Rattle.std.proofs.Common.{ne_eqb}
 use Rattle.field.specs.Bytes.{NumberRead}
-use Rattle.sheet.specs.Decode.{begun_flight, turn_of, with_flight_head, exact_block, window_block, with_block, with_order, next_flight}
+use Rattle.sheet.specs.Decode.{begun_flight, no_flight, turn_of, with_flight_head, exact_block, window_block, with_block, with_order, next_flight}
 use Rattle.sheet.specs.Tags.{flight_block_tag, flight_window_block_tag}
 use Rattle.sheet.specs.declared.Block.{Block}
 use Rattle.sheet.specs.declared.FlightSection.{FlightSection}
@@ -20,6 +20,24 @@ pub flight_head_is : (s : List ℕ) (c len at turn : ℕ) → turn ≡ turn_of s
     → begun_flight turn at ≡ with_flight_head s c len at
 unfolding with_flight_head
 flight_head_is s c len at turn e = rw e
+
+-- the same built on a flight without a block
+pub flight_head_on : (s : List ℕ) (c len at turn : ℕ) (none : FlightSection) → none ≡ no_flight → turn ≡ turn_of s c len
+    → ◌≡◌ {A = FlightSection}
+    (record {
+      blocks = none.blocks;
+      turn = turn;
+      first = none.first;
+      shortest = none.shortest;
+      longest = none.longest;
+      second = none.second;
+      ordered = none.ordered;
+      order = none.order;
+      place = at;
+    })
+    (with_flight_head s c len at)
+unfolding no_flight with_flight_head
+flight_head_on s c len at turn none en e = rw (en, e)
 
 pub exact_block_is : (s : List ℕ) (c a l b : ℕ) → NumberRead s c 2 a → NumberRead s (c + 2) 2 l → NumberRead s (c + 4) 2 b
     → ◌≡◌ {A = Block} (record { first = a; shortest = l; longest = l; second = b }) (exact_block s c)

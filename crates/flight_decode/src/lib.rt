@@ -10,6 +10,7 @@ use field::number;
 use sheet::tags::{FLIGHT_BLOCK, FLIGHT_HEAD, FLIGHT_ORDER, FLIGHT_WINDOW_BLOCK};
 use sheet::{Block, FlightSection};
 
+#[tactic(auto, unfolding(sheet::specs::Decode::zeros, sheet::specs::Decode::no_flight))]
 pub fn no_flight() -> FlightSection
     ensures { result ≡ no_flight }
 {
@@ -27,6 +28,7 @@ pub fn no_flight() -> FlightSection
 }
 
 // The turn that a flight head of a length has: 0 where it is empty.
+#[tactic(auto, unfolding(sheet::specs::Decode::turn_of))]
 fn turn_of(s: &[u8], c: usize, length: usize) -> u64
     ensures { result ≡ turn_of s.now c length }
 {
@@ -41,98 +43,74 @@ fn with_flight_head(s: &[u8], c: usize, length: usize, head: usize) -> FlightSec
     ensures { result ≡ with_flight_head s.now c length head }
 {
     FlightSection {
-        blocks: 0,
         turn: turn_of(s, c, length),
-        first: [0; 32],
-        shortest: [0; 32],
-        longest: [0; 32],
-        second: [0; 32],
-        ordered: false,
-        order: 0,
         place: head,
+        ..no_flight()
     }
 }
 
 // A block of an exact delay, which is a window of one value.
+#[tactic(auto, unfolding(sheet::specs::Decode::exact_block))]
 fn exact_block(s: &[u8], c: usize) -> Block
     requires { c + 8 < 2 ^ 64 }
     ensures { result ≡ exact_block s.now c }
 {
-    let first = number(s, c, 2);
     let delay = number(s, c + 2, 2);
-    let second = number(s, c + 4, 2);
     Block {
-        first,
+        first: number(s, c, 2),
         shortest: delay,
         longest: delay,
-        second,
+        second: number(s, c + 4, 2),
     }
 }
 
 // A block with a window for its delay.
+#[tactic(auto, unfolding(sheet::specs::Decode::window_block))]
 fn window_block(s: &[u8], c: usize) -> Block
     requires { c + 8 < 2 ^ 64 }
     ensures { result ≡ window_block s.now c }
 {
-    let first = number(s, c, 2);
-    let shortest = number(s, c + 2, 2);
-    let longest = number(s, c + 4, 2);
-    let second = number(s, c + 6, 2);
     Block {
-        first,
-        shortest,
-        longest,
-        second,
+        first: number(s, c, 2),
+        shortest: number(s, c + 2, 2),
+        longest: number(s, c + 4, 2),
+        second: number(s, c + 6, 2),
     }
 }
 
 // The flight with one block more.
-fn with_block(b: Block, f: FlightSection) -> FlightSection
+#[tactic(auto, unfolding(sheet::specs::Decode::with_block))]
+fn with_block(b: Block, mut f: FlightSection) -> FlightSection
     requires { f.blocks < most_blocks }
     ensures { result ≡ with_block b f }
 {
     let i = f.blocks;
-    let mut first = f.first;
-    let mut shortest = f.shortest;
-    let mut longest = f.longest;
-    let mut second = f.second;
-    first[i] = b.first;
-    shortest[i] = b.shortest;
-    longest[i] = b.longest;
-    second[i] = b.second;
+    f.first[i] = b.first;
+    f.shortest[i] = b.shortest;
+    f.longest[i] = b.longest;
+    f.second[i] = b.second;
     FlightSection {
         blocks: i + 1,
-        turn: f.turn,
-        first,
-        shortest,
-        longest,
-        second,
-        ordered: f.ordered,
-        order: f.order,
+        // Without an order, 11 is still given at the head.
         place: f.place,
+        ..f
     }
 }
 
+// The flight with its order, whose field stands at an offset.
+#[tactic(auto, unfolding(sheet::specs::Decode::with_order))]
 fn with_order(s: &[u8], c: usize, at: usize, f: FlightSection) -> FlightSection
     ensures { result ≡ with_order s.now c at f }
 {
-    let first = f.first;
-    let shortest = f.shortest;
-    let longest = f.longest;
-    let second = f.second;
     FlightSection {
-        blocks: f.blocks,
-        turn: f.turn,
-        first,
-        shortest,
-        longest,
-        second,
         ordered: true,
         order: number(s, c, 8),
         place: at,
+        ..f
     }
 }
 
+// The flight after a field.
 pub fn next_flight(
     s: &[u8],
     c: usize,
@@ -144,17 +122,11 @@ pub fn next_flight(
     requires { NextFlightPre c tag f.blocks }
     ensures { result ≡ next_flight s.now c tag length at f }
 {
-    if tag == FLIGHT_HEAD {
-        return with_flight_head(s, c, length, at);
+    match tag {
+        FLIGHT_HEAD => with_flight_head(s, c, length, at),
+        FLIGHT_BLOCK => with_block(exact_block(s, c), f),
+        FLIGHT_WINDOW_BLOCK => with_block(window_block(s, c), f),
+        FLIGHT_ORDER => with_order(s, c, at, f),
+        _ => f,
     }
-    if tag == FLIGHT_BLOCK {
-        return with_block(exact_block(s, c), f);
-    }
-    if tag == FLIGHT_WINDOW_BLOCK {
-        return with_block(window_block(s, c), f);
-    }
-    if tag == FLIGHT_ORDER {
-        return with_order(s, c, at, f);
-    }
-    f
 }

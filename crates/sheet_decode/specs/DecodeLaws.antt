@@ -28,10 +28,26 @@ pub mosaic_head_is : (s : List ℕ) (c m mount : ℕ) → NumberRead s c 1 m →
 unfolding with_mosaic_head
 mosaic_head_is s c m mount n₁ n₂ = rw (n₁.is, n₂.is)
 
+-- the same built on a mosaic without a strip
+pub mosaic_head_on : (s : List ℕ) (c stations mount : ℕ) (none : MosaicSection) → none ≡ no_mosaic → NumberRead s c 1 stations → NumberRead s (c + 1) 2 mount
+    → ◌≡◌ {A = MosaicSection}
+    (record { stations = stations; mount = mount; strips = none.strips; station = none.station; bench = none.bench; weight = none.weight })
+    (with_mosaic_head s c)
+unfolding no_mosaic with_mosaic_head
+mosaic_head_on s c stations mount none e n₁ n₂ = rw (e, n₁.is, n₂.is)
+
 pub sorting_head_is : (s : List ℕ) (c m : ℕ) → NumberRead s c 1 m
     → begun_sorting m ≡ with_sorting_head s c
 unfolding with_sorting_head
 sorting_head_is s c m n = rw n.is
+
+-- the same built on a sorting without a strip
+pub sorting_head_on : (s : List ℕ) (c desks : ℕ) (none : SortingSection) → none ≡ no_sorting → NumberRead s c 1 desks
+    → ◌≡◌ {A = SortingSection}
+    (record { desks = desks; counts = none.counts; scan = none.scan; desk = none.desk; weight = none.weight })
+    (with_sorting_head s c)
+unfolding no_sorting with_sorting_head
+sorting_head_on s c desks none e n = rw (e, n.is)
 
 -- the times of the first k stations of a strip are stored
 pub record TimesStored (s : List ℕ) (c base count : ℕ) (times : List ℕ) (k : ℕ) (out : List ℕ) : Type 0 where

@@ -19,6 +19,7 @@ use sheet::tags::{
 use sheet::{FlightSection, MosaicSection, Reading, Sheet, SortingSection};
 use sheet_checks::ends_section;
 
+#[tactic(auto, unfolding(sheet::specs::Decode::zeros, sheet::specs::Decode::no_mosaic))]
 pub fn no_mosaic() -> MosaicSection
     ensures { result ≡ no_mosaic }
 {
@@ -32,6 +33,7 @@ pub fn no_mosaic() -> MosaicSection
     }
 }
 
+#[tactic(auto, unfolding(sheet::specs::Decode::zeros, sheet::specs::Decode::no_sorting))]
 pub fn no_sorting() -> SortingSection
     ensures { result ≡ no_sorting }
 {
@@ -45,6 +47,7 @@ pub fn no_sorting() -> SortingSection
 }
 
 // Before the first field.
+#[tactic(auto, unfolding(sheet::specs::Decode::start_reading))]
 pub fn start() -> Reading
     ensures { result ≡ start_reading }
 {
@@ -59,6 +62,7 @@ pub fn start() -> Reading
     }
 }
 
+#[tactic(auto, unfolding(sheet::specs::Read::refused))]
 pub fn refuse(number: u64, place: usize) -> Sheet
     ensures { result ≡ refused number place }
 {
@@ -71,18 +75,16 @@ pub fn refuse(number: u64, place: usize) -> Sheet
     }
 }
 
+#[tactic(auto, unfolding(sheet::specs::Read::accepted))]
 pub fn accept(st: Reading) -> Sheet
     ensures { result ≡ accepted st }
 {
-    let mosaic = st.mosaic;
-    let sorting = st.sorting;
-    let flight = st.flight;
     Sheet {
         number: 0,
         place: 0,
-        mosaic,
-        sorting,
-        flight,
+        mosaic: st.mosaic,
+        sorting: st.sorting,
+        flight: st.flight,
     }
 }
 
@@ -90,15 +92,10 @@ fn with_mosaic_head(s: &[u8], c: usize) -> MosaicSection
     requires { c + 1 < 2 ^ 64 }
     ensures { result ≡ with_mosaic_head s.now c }
 {
-    let stations = byte(s, c) as usize;
-    let mount = number(s, c + 1, 2);
     MosaicSection {
-        stations,
-        mount,
-        strips: 0,
-        station: [0; 160],
-        bench: [0; 40],
-        weight: [0; 40],
+        stations: byte(s, c) as usize,
+        mount: number(s, c + 1, 2),
+        ..no_mosaic()
     }
 }
 
@@ -108,21 +105,19 @@ fn with_station_times(
     c: usize,
     base: usize,
     count: usize,
-    times: [u64; 160],
+    mut times: [u64; 160],
 ) -> [u64; 160]
     requires { StationTimesPre c base count }
     ensures { result ≡ with_station_times s.now c base count times }
 {
-    let mut out = times;
-    let mut k: usize = 0;
-    while k < count {
-        out[base + k] = number(s, c + 2 * k, 2);
-        k += 1;
+    for k in 0..count {
+        times[base + k] = number(s, c + 2 * k, 2);
     }
-    out
+    times
 }
 
 // The weight of a strip, behind so many other bytes: absent, it is 1.
+#[tactic(auto, unfolding(sheet::specs::Decode::weight_of))]
 fn weight_of(s: &[u8], c: usize, length: usize, others: usize) -> u64
     requires { c + others < 2 ^ 64 }
     ensures { result ≡ weight_of s.now c length others }
@@ -133,26 +128,16 @@ fn weight_of(s: &[u8], c: usize, length: usize, others: usize) -> u64
     byte(s, c + others)
 }
 
-fn with_mosaic_strip(s: &[u8], c: usize, length: usize, m: MosaicSection) -> MosaicSection
+// The mosaic with one strip more.
+fn with_mosaic_strip(s: &[u8], c: usize, length: usize, mut m: MosaicSection) -> MosaicSection
     requires { MosaicStripPre c m.strips m.stations }
     ensures { result ≡ with_mosaic_strip s.now c length m }
 {
-    let stations = m.stations;
-    let strips = m.strips;
-    let times = m.station;
-    let station = with_station_times(s, c, 4 * strips, stations, times);
-    let mut bench = m.bench;
-    let mut weight = m.weight;
-    bench[strips] = number(s, c + 2 * stations, 2);
-    weight[strips] = weight_of(s, c, length, 2 * stations + 2);
-    MosaicSection {
-        stations,
-        mount: m.mount,
-        strips: strips + 1,
-        station,
-        bench,
-        weight,
-    }
+    m.station = with_station_times(s, c, 4 * m.strips, m.stations, m.station);
+    m.bench[m.strips] = number(s, c + 2 * m.stations, 2);
+    m.weight[m.strips] = weight_of(s, c, length, 2 * m.stations + 2);
+    m.strips += 1;
+    m
 }
 
 fn with_sorting_head(s: &[u8], c: usize) -> SortingSection
@@ -160,10 +145,7 @@ fn with_sorting_head(s: &[u8], c: usize) -> SortingSection
 {
     SortingSection {
         desks: byte(s, c) as usize,
-        counts: [0; 3],
-        scan: [0; 18],
-        desk: [0; 18],
-        weight: [0; 18],
+        ..no_sorting()
     }
 }
 
@@ -172,65 +154,47 @@ fn with_strip_at(
     s: &[u8],
     c: usize,
     length: usize,
-    t: SortingSection,
+    mut t: SortingSection,
     d: usize,
     k: usize,
 ) -> SortingSection
     requires { StripAtPre c d k }
     ensures { result ≡ with_strip_at s.now c length t d k }
 {
-    let mut counts = t.counts;
-    let mut scan = t.scan;
-    let mut desk = t.desk;
-    let mut weight = t.weight;
-    counts[d] = k + 1;
-    scan[6 * d + k] = number(s, c + 1, 2);
-    desk[6 * d + k] = number(s, c + 3, 2);
-    weight[6 * d + k] = weight_of(s, c, length, 5);
-    SortingSection {
-        desks: t.desks,
-        counts,
-        scan,
-        desk,
-        weight,
-    }
+    t.counts[d] = k + 1;
+    t.scan[6 * d + k] = number(s, c + 1, 2);
+    t.desk[6 * d + k] = number(s, c + 3, 2);
+    t.weight[6 * d + k] = weight_of(s, c, length, 5);
+    t
 }
 
 fn next_mosaic(s: &[u8], c: usize, tag: u8, length: usize, m: MosaicSection) -> MosaicSection
     requires { NextMosaicPre c tag m.strips m.stations }
     ensures { result ≡ next_mosaic s.now c tag length m }
 {
-    if tag == MOSAIC_HEAD {
-        return with_mosaic_head(s, c);
+    match tag {
+        MOSAIC_HEAD => with_mosaic_head(s, c),
+        MOSAIC_STRIP => with_mosaic_strip(s, c, length, m),
+        _ => m,
     }
-    if tag == MOSAIC_STRIP {
-        return with_mosaic_strip(s, c, length, m);
-    }
-    m
 }
 
 fn next_sorting(s: &[u8], c: usize, tag: u8, length: usize, t: SortingSection) -> SortingSection
     requires { NextSortingPre c tag (number_at s.now c 1) (strips_of_desk t.counts (number_at s.now c 1)) }
     ensures { result ≡ next_sorting s.now c tag length t }
 {
-    if tag == SORTING_HEAD {
-        return with_sorting_head(s, c);
+    match tag {
+        SORTING_HEAD => with_sorting_head(s, c),
+        SORTING_STRIP => {
+            let desk = byte(s, c);
+            let of_desk = strips_of_desk(t.counts, desk);
+            with_strip_at(s, c, length, t, desk_index(desk), of_desk)
+        }
+        _ => t,
     }
-    if tag == SORTING_STRIP {
-        let desk = byte(s, c);
-        let counts = t.counts;
-        return with_strip_at(
-            s,
-            c,
-            length,
-            t,
-            desk_index(desk),
-            strips_of_desk(counts, desk),
-        );
-    }
-    t
 }
 
+#[tactic(auto, unfolding(sheet::specs::Decode::next_section))]
 fn next_section(tag: u8, section: u64) -> u64
     ensures { result ≡ next_section tag section }
 {
@@ -243,44 +207,41 @@ fn next_section(tag: u8, section: u64) -> u64
     }
 }
 
+#[tactic(auto, unfolding(sheet::specs::Decode::next_members))]
 fn next_members(tag: u8, members: usize) -> usize
     requires { members + 1 < 2 ^ 64 }
     ensures { result ≡ next_members tag members }
 {
     if ends_section(tag) {
-        return 0;
+        0
+    } else if tag == FLIGHT_ORDER {
+        members
+    } else {
+        members + 1
     }
-    if tag == FLIGHT_ORDER {
-        return members;
-    }
-    members + 1
 }
 
+#[tactic(auto, unfolding(sheet::specs::Decode::next_head))]
 fn next_head(tag: u8, head: usize, at: usize) -> usize
     ensures { result ≡ next_head tag head at }
 {
-    if ends_section(tag) {
-        return at;
-    }
-    head
+    if ends_section(tag) { at } else { head }
 }
 
 // The reading after a whole field that passed its checks.
+#[tactic(auto, unfolding(sheet::specs::Decode::next_reading))]
 pub fn next_reading(s: &[u8], st: Reading, tag: u8, length: usize) -> Reading
     requires { NextReadingPre s.now st tag length }
     ensures { result ≡ next_reading s.now st tag length }
 {
     let at = st.at;
-    let mosaic = st.mosaic;
-    let sorting = st.sorting;
-    let flight = st.flight;
     Reading {
         at: at + 3 + length,
         section: next_section(tag, st.section),
         head: next_head(tag, st.head, at),
         members: next_members(tag, st.members),
-        mosaic: next_mosaic(s, at + 3, tag, length, mosaic),
-        sorting: next_sorting(s, at + 3, tag, length, sorting),
-        flight: next_flight(s, at + 3, tag, length, at, flight),
+        mosaic: next_mosaic(s, at + 3, tag, length, st.mosaic),
+        sorting: next_sorting(s, at + 3, tag, length, st.sorting),
+        flight: next_flight(s, at + 3, tag, length, at, st.flight),
     }
 }

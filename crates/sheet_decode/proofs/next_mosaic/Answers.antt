@@ -4,17 +4,17 @@ use Rattle.sheet.specs.Decode.{next_mosaic}
 use Rattle.sheet_decode.specs.Pre.{strip_pre}
 use Rattle.sheet_decode.proofs.next_mosaic.Goals as goal
 
-pub returns-then-tag-eq-MOSAIC_HEAD : goal.returns-then-tag-eq-MOSAIC_HEAD
+pub returns-in-16 : goal.returns-in-16
 unfolding next_mosaic
-returns-then-tag-eq-MOSAIC_HEAD c = search branches depth 14
+returns-in-16 c = rw c.in-16.is c.with_mosaic_head.ensures
 
 pub with_mosaic_strip-requires : goal.with_mosaic_strip-requires
 with_mosaic_strip-requires c = search strip_pre
 
-pub returns-then-tag-eq-MOSAIC_STRIP : goal.returns-then-tag-eq-MOSAIC_STRIP
+pub returns-in-17 : goal.returns-in-17
 unfolding next_mosaic
-returns-then-tag-eq-MOSAIC_STRIP c = search branches depth 14
+returns-in-17 c = rw c.in-17.is c.with_mosaic_strip.ensures
 
-pub returns : goal.returns
+pub returns-in_default : goal.returns-in_default
 unfolding next_mosaic
-returns c = search branches depth 14
+returns-in_default c = search branches depth 14

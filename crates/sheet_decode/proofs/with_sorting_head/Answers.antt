@@ -1,8 +1,6 @@
 -- `with_sorting_head` meets its contract: the number read is that of the definition.
-use Rattle.sheet_decode.specs.DecodeLaws.{sorting_head_is}
-use Rattle.sheet.specs.Decode.{zeros}
+use Rattle.sheet_decode.specs.DecodeLaws.{sorting_head_on}
 use Rattle.sheet_decode.proofs.with_sorting_head.Goals as goal
 
 pub returns : goal.returns
-unfolding zeros
-returns c = search sorting_head_is
+returns c = sorting_head_on _ _ _ c.no_sorting.result c.no_sorting.ensures c.byte.ensures
