@@ -2,7 +2,6 @@
 pub mod Plan
 pub mod Clauses
 pub mod Writing
-pub mod Instance
 pub mod Route
 pub mod Chosen
 pub mod Lawful

@@ -9,20 +9,12 @@ pub fn instance_of(s: SortingSection) -> [u64; 57]
     requires { SortingSound s }
     ensures { result ≡ instance_of s }
 {
-    let counts = s.counts;
-    let scan = s.scan;
-    let desk = s.desk;
-    let weight = s.weight;
     let mut jobs = [0u64; 57];
-    jobs[0] = counts[0] as u64;
-    jobs[1] = counts[1] as u64;
-    jobs[2] = counts[2] as u64;
-    let mut k: usize = 0;
-    while k < 18 {
-        jobs[3 + k] = scan[k];
-        jobs[21 + k] = desk[k];
-        jobs[39 + k] = weight[k];
-        k += 1;
-    }
+    jobs[39..57].copy_from_slice(&s.weight);
+    jobs[21..39].copy_from_slice(&s.desk);
+    jobs[3..21].copy_from_slice(&s.scan);
+    jobs[2] = s.counts[2] as u64;
+    jobs[1] = s.counts[1] as u64;
+    jobs[0] = s.counts[0] as u64;
     jobs
 }
