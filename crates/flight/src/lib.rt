@@ -37,7 +37,7 @@ fn copy_starts(starts: &[u64], from: usize, n: usize) -> [u64; 32]
 }
 
 // The blocks of a flight section, lent.
-fn lent<'a>(f: &'a FlightSection) -> Blocks<'a>
+fn blocks_of<'a>(f: &'a FlightSection) -> Blocks<'a>
     ensures { Lent f.now result }
 {
     Blocks {
@@ -61,7 +61,7 @@ fn plan_in_order(
     ensures { PlannedIn f order result }
 {
     let n = f.blocks;
-    let blocks = lent(&f);
+    let blocks = blocks_of(&f);
     let possible = blocks.least_starts(order, rows, starts);
     let last = 2 * n - 1;
     let block = n - 1;
@@ -109,7 +109,7 @@ fn choose_order(f: &FlightSection) -> u64
     if !delays_fit(f) {
         return one_by_one(f.blocks);
     }
-    match flight_search::best_order(&lent(f)) {
+    match flight_search::best_order(&blocks_of(f)) {
         Some(best) => best.order,
         None => 0,
     }
