@@ -64,30 +64,6 @@ round_end {S} {t₀} {t} {held} {k} inv h =
     e : k ≡ S.count
     e = omega arith
 
--- What the code's reads and sums ask of constraint k.
-pub record Small (rows : List Constraint) (t : List ℕ) (k : ℕ) : Type 0 where
-  pub from_low : value t (item rows k).from ≤ value_cap + round_cap
-  pub to_low : value t (item rows k).to ≤ value_cap + round_cap
-  pub up_low : (item rows k).up ≤ most_number
-  pub down_low : (item rows k).down ≤ most_number
-
-pub small : {rows : List Constraint} {t₀ t : List ℕ} {held : Bool} {k : ℕ} → RoundPre t₀ rows → InRound (system_of (length t₀) rows) t₀ t held k
-    → k < length rows → Small rows t k
-small {rows} {t₀} {t} {held} {k} ready inv l = record {
-  from_low = rw inv.values (bound (item rows k).from);
-  to_low = rw inv.values (bound (item rows k).to);
-  up_low = ready.fit.up_low k l;
-  down_low = ready.fit.down_low k l;
-}
-  where
-    bound : (j : ℕ) → value (relaxed (system_of (length t₀) rows) k t₀) j ≤ value_cap + round_cap
-    bound j =
-        omega (
-          arith,
-          ready.fit.short,
-          relaxed_bound (system_of (length t₀) rows) k t₀ value_cap most_number (λ k' l'. ready.fit.up_low k' (omega arith)) ready.low j,
-        )
-
 -- One round.
 pub rounds_start : {S : System} {t : List ℕ} → t ≡ replicate S.variables 0 → InRounds S t 0
 unfolding rounds
@@ -171,14 +147,20 @@ module _ {n : ℕ} {rows : List Constraint} {t : List ℕ} {r : ℕ} (fit : Solv
     pub give_up : m ≤ r → SolveDone (system_of n rows) t false
     give_up l = none_found (fit_inside fit) inv (omega arith)
 
--- One constraint of a round, as the code does it.
+-- The sums of one constraint of a round fit 64 bits.
 module _ {rows : List Constraint} {t₀ t : List ℕ} {held : Bool} {k : ℕ} (ready : RoundPre t₀ rows)
     (inv : InRound (system_of (length t₀) rows) t₀ t held k) (l : k < length rows) where
-  here : Small rows t k
-  here = small ready inv l
+  low : (j : ℕ) → value t j ≤ value_cap + round_cap
+  low j =
+      rw inv.values
+      (omega (
+        arith,
+        ready.fit.short,
+        relaxed_bound (system_of (length t₀) rows) k t₀ value_cap most_number (λ k' l'. ready.fit.up_low k' (omega arith)) ready.low j,
+      ))
 
   pub wanted_fits : value t (item rows k).from + (item rows k).up < 2 ^ 64
-  wanted_fits = omega (arith, here.from_low, here.up_low)
+  wanted_fits = omega (arith, low (item rows k).from, ready.fit.up_low k l)
 
   pub had_fits : value t (item rows k).to + (item rows k).down < 2 ^ 64
-  had_fits = omega (arith, here.to_low, here.down_low)
+  had_fits = omega (arith, low (item rows k).to, ready.fit.down_low k l)

@@ -44,7 +44,7 @@ fn passes_at(starts: &[u64], n: usize) -> [Passes; 32]
 }
 
 // The blocks of a flight section, lent.
-fn lent<'a>(f: &'a FlightSection) -> Blocks<'a>
+fn blocks_of<'a>(f: &'a FlightSection) -> Blocks<'a>
     ensures { Lent f.now result }
 {
     Blocks {
@@ -68,13 +68,12 @@ fn plan_in_order(
     ensures { PlannedIn f order result }
 {
     let n = f.blocks;
-    let blocks = lent(&f);
+    let blocks = blocks_of(&f);
     let found = blocks.least_starts(order, rows, starts);
-    let last_start = starts[2 * n - 1];
-    let last_time = f.second[n - 1];
+    let finish = starts[2 * n - 1] + f.second[n - 1];
     FlightPlan {
         possible: found,
-        figure: last_start + last_time,
+        figure: finish,
         order,
         blocks: passes_at(starts, n),
     }
@@ -112,7 +111,7 @@ fn choose_order(f: &FlightSection) -> u64
     if !delays_fit(f) {
         return one_by_one(f.blocks);
     }
-    match flight_search::best_order(&lent(f)) {
+    match flight_search::best_order(&blocks_of(f)) {
         Some(best) => best.order,
         None => 0,
     }

@@ -16,15 +16,15 @@ module _ (n : ℕ) (y : ℕ → ℕ) where
   unfolding passes_with_starts
   passes_length = listed_length n (λ i. record { first = y i; second = y (n + i) })
 
-  passes_at_lem : (i : ℕ) → i < n → passes_at (passes_with_starts n y) i ≡ record { first = y i; second = y (n + i) }
+  block_passes : (i : ℕ) → i < n → passes_at (passes_with_starts n y) i ≡ record { first = y i; second = y (n + i) }
   unfolding passes_with_starts passes_at
-  passes_at_lem i l = listed_at n (λ i. record { first = y i; second = y (n + i) }) i no_passes l
+  block_passes i l = listed_at n (λ i. record { first = y i; second = y (n + i) }) i no_passes l
 
   pub passes_first : (i : ℕ) → i < n → (passes_at (passes_with_starts n y) i).first ≡ y i
-  passes_first i l = ap (λ (q : Passes). q.first) (passes_at_lem i l)
+  passes_first i l = ap (λ (q : Passes). q.first) (block_passes i l)
 
   pub passes_second : (i : ℕ) → i < n → (passes_at (passes_with_starts n y) i).second ≡ y (n + i)
-  passes_second i l = ap (λ (q : Passes). q.second) (passes_at_lem i l)
+  passes_second i l = ap (λ (q : Passes). q.second) (block_passes i l)
 
 module _ (f : FlightSection) where
   pub start_from : (y : ℕ → ℕ) (p : ℕ) → p < 2 * f.blocks → pass_start f (passes_with_starts f.blocks y) p ≡ y p
