@@ -7,4 +7,4 @@ pub returns-then-n-lt1 : goal.returns-then-n-lt1
 returns-then-n-lt1 c = search flight_absent
 
 pub returns : goal.returns
-returns c = flight_written _ _ _ _ _ c.args.p (omega arith) (omega arith) c.put_flight_head.ensures c.put_members.ensures
+returns c = flight_written _ c.args.p _ _ _ _ (omega arith) (omega arith) c.put_flight_head.ensures c.put_members.ensures

@@ -7,4 +7,4 @@ pub returns-then-strips-lt1 : goal.returns-then-strips-lt1
 returns-then-strips-lt1 c = search mosaic_absent
 
 pub returns : goal.returns
-returns c = mosaic_written _ _ _ _ _ c.args.p (omega arith) (omega arith) c.put_mosaic_head.ensures c.put_members.ensures
+returns c = mosaic_written _ c.args.p _ _ _ _ (omega arith) (omega arith) c.put_mosaic_head.ensures c.put_members.ensures
