@@ -58,11 +58,10 @@ fn plan_in_order(f: FlightSection, order: u64, rows: &mut [u64], starts: &mut [u
         rows,
         starts,
     );
-    let last_start = starts[2 * n - 1];
-    let last_time = f.second[n - 1];
+    let finish = starts[2 * n - 1] + f.second[n - 1];
     FlightPlan {
         possible: found,
-        figure: last_start + last_time,
+        figure: finish,
         order,
         blocks: passes_at(starts, n),
     }

@@ -5,8 +5,8 @@ use Rattle.flight.proofs.plan_in_order.Goals as goal
 pub least_starts-found-requires : goal.least_starts-found-requires
 least_starts-found-requires c = search least_starts_pre
 
-pub overflow_add-result : goal.overflow_add-result
-overflow_add-result c = record { fits = search plan_figure_fits }
+pub overflow_add-finish : goal.overflow_add-finish
+overflow_add-finish c = record { fits = search plan_figure_fits }
 
 pub passes_at-requires : goal.passes_at-requires
 passes_at-requires c = search passes_at_pre
