@@ -4,12 +4,12 @@ use Rattle.std.specs.Prelude.{ℕ, zero, suc, ◌+◌, ◌*◌, ◌≤◌, ◌<�
 use Rattle.std.proofs.Common.{ap, ◌∙◌, mul-suc, arith}
 use Rattle.field.specs.Bytes.{NumberRead}
 use Rattle.field.specs.Numbers.{past_read}
-use Rattle.plan_format.specs.Format.{width_of, offset_of, EachFits, mosaic_head_form, batch_form, sorting_head_form, job_form, flight_head_form, passes_form}
+use Rattle.plan_format.specs.Format.{width_of, offset_of, EachFits, batch_form, job_form, passes_form}
 use Rattle.rules.specs.Plan.{batch_values, job_values, passes_values}
 use Rattle.rules.specs.declared.Batch.{Batch}
 use Rattle.rules.specs.declared.Job.{Job}
 use Rattle.rules.specs.declared.Passes.{Passes}
-use Rattle.plan_read.specs.PlanRead.{figure_from, order_from, batch_from, job_from, passes_from, members_from, BatchFits, JobFits, PassesFits, BatchRead}
+use Rattle.plan_read.specs.PlanRead.{batch_from, job_from, passes_from, members_from, BatchFits, JobFits, PassesFits, BatchRead}
 use Rattle.plan_read.specs.PlanRead.{JobRead, PassesRead}
 
 -- past the end every number is 0
@@ -38,23 +38,6 @@ module _ (plan : List ℕ) (at : ℕ) where
       → PassesRead plan at (record { first = first; second = second })
   unfolding passes_from
   passes_read first second a b = record { is = rw (a.is, b.is); fits = record { first = a.fits; second = b.fits } }
-
-  module _ (value : ℕ) where
-    pub mosaic_figure_read : NumberRead plan (at + offset_of mosaic_head_form 0) (width_of mosaic_head_form 0) value → value ≡ figure_from mosaic_head_form plan at
-    unfolding figure_from
-    mosaic_figure_read r = r.is
-
-    pub sorting_figure_read : NumberRead plan (at + offset_of sorting_head_form 0) (width_of sorting_head_form 0) value → value ≡ figure_from sorting_head_form plan at
-    unfolding figure_from
-    sorting_figure_read r = r.is
-
-    pub flight_figure_read : NumberRead plan (at + offset_of flight_head_form 0) (width_of flight_head_form 0) value → value ≡ figure_from flight_head_form plan at
-    unfolding figure_from
-    flight_figure_read r = r.is
-
-    pub order_read : NumberRead plan (at + offset_of flight_head_form 1) (width_of flight_head_form 1) value → value ≡ order_from plan at
-    unfolding order_from
-    order_read r = r.is
 
 -- the values of members that fit
 pub batch_each : (b : Batch) → BatchFits b → EachFits batch_form.widths (batch_values b)

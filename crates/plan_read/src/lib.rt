@@ -25,30 +25,35 @@ fn number_behind(plan: &[u8], at: usize, skip: usize, width: usize) -> u64
     number(plan, at + skip, width)
 }
 
+#[tactic(auto, unfolding(crate::specs::PlanRead::figure_from))]
 pub fn mosaic_figure_from(plan: &[u8], at: usize) -> u64
     ensures { result ≡ figure_from mosaic_head_form plan.now at }
 {
     number_behind(plan, at, CONTENT, FIGURE_WIDTH)
 }
 
+#[tactic(auto, unfolding(crate::specs::PlanRead::figure_from))]
 pub fn sorting_figure_from(plan: &[u8], at: usize) -> u64
     ensures { result ≡ figure_from sorting_head_form plan.now at }
 {
     number_behind(plan, at, CONTENT, FIGURE_WIDTH)
 }
 
+#[tactic(auto, unfolding(crate::specs::PlanRead::figure_from))]
 pub fn flight_figure_from(plan: &[u8], at: usize) -> u64
     ensures { result ≡ figure_from flight_head_form plan.now at }
 {
     number_behind(plan, at, CONTENT, FLIGHT_FIGURE_WIDTH)
 }
 
+#[tactic(auto, unfolding(crate::specs::PlanRead::order_from))]
 pub fn order_from(plan: &[u8], at: usize) -> u64
     ensures { result ≡ order_from plan.now at }
 {
     number_behind(plan, at, FLIGHT_ORDER, ORDER_WIDTH)
 }
 
+#[tactic(auto, using(crate::specs::Laws::batch_read))]
 pub fn batch_from(plan: &[u8], at: usize) -> Batch
     ensures { BatchRead plan.now at result }
 {
@@ -59,6 +64,7 @@ pub fn batch_from(plan: &[u8], at: usize) -> Batch
     }
 }
 
+#[tactic(auto, using(crate::specs::Laws::job_read))]
 pub fn job_from(plan: &[u8], at: usize) -> Job
     ensures { JobRead plan.now at result }
 {
@@ -70,6 +76,7 @@ pub fn job_from(plan: &[u8], at: usize) -> Job
     }
 }
 
+#[tactic(auto, using(crate::specs::Laws::passes_read))]
 pub fn passes_from(plan: &[u8], at: usize) -> Passes
     ensures { PassesRead plan.now at result }
 {
