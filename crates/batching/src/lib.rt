@@ -77,7 +77,7 @@ impl Strips<'_> {
     {
         for p in lo..self.count {
             let free = begin + (self.bench_sums[p] - self.bench_sums[i]);
-            row[p] = self.choose_batch(late, &*row, free, p).figure;
+            row[p] = self.choose_batch(late, row, free, p).figure;
         }
     }
 
@@ -100,8 +100,8 @@ impl Strips<'_> {
     {
         for q in i + 1..=self.count {
             let begin = self.ready[q - 1];
-            self.fill_block(&*late, row, begin, i, q);
-            late[WIDTH * i + q] = self.closed_figure(&*row, begin, i, q);
+            self.fill_block(late, row, begin, i, q);
+            late[WIDTH * i + q] = self.closed_figure(row, begin, i, q);
         }
     }
 
