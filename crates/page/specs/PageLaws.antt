@@ -211,30 +211,30 @@ module _ (sheet plan : List ℕ) (e : Examined) (ex : e ≡ examined sheet plan)
   same_parts : e ≡ examined_plan (read_sheet sheet) plan
   same_parts = ex ∙ parts
 
-  mosaic_printed_lem : mosaic_printed plan e.mosaic e.judged.mosaic
+  mosaic_lines_are : mosaic_printed plan e.mosaic e.judged.mosaic
       ≡ if_present (read_sheet sheet).mosaic.strips (mosaic_lines (mosaic_figure (read_sheet sheet).mosaic (stated_batches (read_sheet sheet) plan)) (stated_batches (read_sheet sheet) plan))
   unfolding examined_plan stated_plan
-  mosaic_printed_lem =
+  mosaic_lines_are =
       ap₂ (mosaic_printed plan) (ap (λ (x : Examined). x.mosaic) same_parts) (ap (λ j. j.mosaic) (judged_by sheet plan e ex) ∙ figures.mosaic)
       ∙ mosaic_is (read_sheet sheet) plan whole lawful (mosaic_figure (read_sheet sheet).mosaic (stated_batches (read_sheet sheet) plan))
 
-  sorting_printed_lem : sorting_printed plan e.sorting e.judged.sorting
+  sorting_lines_are : sorting_printed plan e.sorting e.judged.sorting
       ≡ if_present (strips_in_all (read_sheet sheet).sorting) (sorting_lines (sorting_figure (read_sheet sheet).sorting (stated_jobs (read_sheet sheet) plan)) (stated_jobs (read_sheet sheet) plan))
   unfolding examined_plan stated_plan
-  sorting_printed_lem =
+  sorting_lines_are =
       ap₂ (sorting_printed plan) (ap (λ (x : Examined). x.sorting) same_parts) (ap (λ j. j.sorting) (judged_by sheet plan e ex) ∙ figures.sorting)
       ∙ sorting_is (read_sheet sheet) plan whole lawful (sorting_figure (read_sheet sheet).sorting (stated_jobs (read_sheet sheet) plan))
 
-  flight_printed_lem : flight_printed plan e.flight e.judged.flight
+  flight_lines_are : flight_printed plan e.flight e.judged.flight
       ≡ if_present (read_sheet sheet).flight.blocks (flight_lines (flight_figure (read_sheet sheet).flight (stated_passes (read_sheet sheet) plan)) (stated_passes (read_sheet sheet) plan))
   unfolding examined_plan stated_plan
-  flight_printed_lem =
+  flight_lines_are =
       ap₂ (flight_printed plan) (ap (λ (x : Examined). x.flight) same_parts) (ap (λ j. j.flight) (judged_by sheet plan e ex) ∙ figures.flight)
       ∙ flight_is (read_sheet sheet) plan whole lawful (flight_figure (read_sheet sheet).flight (stated_passes (read_sheet sheet) plan))
 
   lines_are : lines_bytes (examined_lines plan e) ≡ page_of sheet plan
   unfolding examined_lines page_of page_bytes page_lines stated_plan
-  lines_are = ap lines_bytes (ap₂ ◌++◌ (ap₂ ◌++◌ mosaic_printed_lem sorting_printed_lem) flight_printed_lem)
+  lines_are = ap lines_bytes (ap₂ ◌++◌ (ap₂ ◌++◌ mosaic_lines_are sorting_lines_are) flight_lines_are)
 
   page_fits : (page : List ℕ) → page_length ≤ length page → length (page_of sheet plan) ≤ length page
   page_fits page large = subst (λ (l : List ℕ). length l ≤ length page) lines_are (lines_fit page plan e (print_asked page large))

@@ -11,7 +11,7 @@ use base::Answer;
 use judge::{Examined, examine};
 use page_sections::{print_flight, print_mosaic, print_sorting};
 use sheet::limits::PAGE_LENGTH;
-use sheet::numbers::BUFFER_TOO_SMALL;
+use sheet::refusals::Refusal;
 
 // The sections of an allowed plan one behind the other, from the start of the page. Returns the length written.
 fn print_sections(page: &mut [u8], plan: &[u8], e: Examined) -> usize
@@ -29,7 +29,7 @@ pub fn page(sheet: &[u8], plan: &[u8], page: &mut [u8]) -> Answer
 {
     if page.len() < PAGE_LENGTH {
         return Answer {
-            number: BUFFER_TOO_SMALL,
+            number: Refusal::BufferTooSmall.number(),
             place: 0,
             length: 0,
         };
@@ -42,10 +42,10 @@ pub fn page(sheet: &[u8], plan: &[u8], page: &mut [u8]) -> Answer
             length: 0,
         };
     }
-    let length = print_sections(page, plan, e);
+    let written = print_sections(page, plan, e);
     Answer {
         number: 0,
         place: 0,
-        length: length,
+        length: written,
     }
 }

@@ -1,6 +1,10 @@
 -- The lines as they are stored: stores one behind the other are one store of the joined columns, with the line feed behind them.
-use Rattle.std.specs.Prelude.{ℕ, ◌+◌, ◌≤◌, ◌<◌, ◌≡◌, refl, List, [], ◌∷◌, ◌++◌, length, set}
+use Rattle.std.specs.Prelude.{ℕ, ◌+◌, ◌-◌, ◌≤◌, ◌<◌, ◌≡◌, refl, List, [], ◌∷◌, ◌++◌, length, set, take, drop, replicate}
 use Rattle.std.proofs.Common.{sym, ap, ◌∙◌, append_assoc, arith, length-set, length-append}
+use Rattle.std.proofs.Math.Path.{ap₂}
+use Rattle.std.proofs.Math.ListN.{length-take, length-drop}
+use Rattle.std.proofs.lemmas.List.Edits.{sets-eq}
+use borrow.Rule.Slice.PartMut.{mid_of, put_mid, Post-is}
 use Rattle.decimal.specs.Columns.{space, columns}
 use Rattle.decimal.proofs.Laws.{length_columns}
 use Rattle.field.specs.Put.{put, put_one, joined}
@@ -47,27 +51,17 @@ module _ (d : List ℕ) (at letter : ℕ) where
       (put_one d₁ (at + 32) line_feed)
       (omega (arith, length_columns space 31 figure))
 
--- room for the blanks, one behind the other
-module _ (d : List ℕ) (at : ℕ) (h : at + 4 ≤ length d) where
-  pub second_blank : at + 1 < length (set d at space)
-  second_blank = omega (arith, length-set d at space)
-
-  pub third_blank : at + 2 < length (set (set d at space) (at + 1) space)
-  third_blank = omega (arith, length-set d at space, length-set (set d at space) (at + 1) space)
-
-  pub fourth_blank : at + 3 < length (set (set (set d at space) (at + 1) space) (at + 2) space)
-  fourth_blank =
-      omega (arith, length-set d at space, length-set (set d at space) (at + 1) space, length-set (set (set d at space) (at + 1) space) (at + 2) space)
-
-pub blanks_stored : (d : List ℕ) (at : ℕ) → set (set (set (set d at space) (at + 1) space) (at + 2) space) (at + 3) space ≡ put d at blanks
-unfolding blanks
-blanks_stored d at =
-    joined d (set (set (set d at space) (at + 1) space) (at + 2) space) _ at (at + 3) (space ∷ space ∷ space ∷ []) (space ∷ [])
-    (joined d (set (set d at space) (at + 1) space) _ at (at + 2) (space ∷ space ∷ []) (space ∷ [])
-    (joined d (set d at space) _ at (at + 1) (space ∷ []) (space ∷ []) (put_one d at space) (put_one _ (at + 1) space) refl)
-    (put_one _ (at + 2) space) refl)
-    (put_one _ (at + 3) space)
-    refl
+-- the part of the second field, filled with spaces
+pub blanks_stored : (d part : List ℕ) (at : ℕ) → at + 4 ≤ length d → part ≡ replicate (length (mid_of at (at + 4 - at) d)) space
+    → put_mid at (at + 4 - at) d part ≡ put d at blanks
+unfolding put blanks
+blanks_stored d part at room e =
+    ap₂ (λ (l r : List ℕ). take at d ++ (l ++ r)) (e ∙ ap (λ n. replicate n space) four) (Post-is at (at + 4) d (omega arith))
+    ∙ sym (append_assoc (take at d) (space ∷ space ∷ space ∷ space ∷ []) (drop (at + 4) d))
+    ∙ sym (sets-eq (space ∷ space ∷ space ∷ space ∷ []) d at room)
+  where
+    four : length (mid_of at (at + 4 - at) d) ≡ 4
+    four = omega (arith, length-take (at + 4 - at) (drop at d), length-drop at d)
 
 pub last_feed : (d d₁ d₂ : List ℕ) (at : ℕ) → at + 25 ≤ length d → length d₁ ≡ length d → length d₂ ≡ length d₁ → at + 24 < length d₂
 last_feed d d₁ d₂ at h e₁ e₂ = omega (arith, e₁, e₂)

@@ -1,6 +1,5 @@
 -- The lines as they are stored: stores one behind the other are one store of the joined columns, with the line feed behind them.
-use Rattle.std.specs.Prelude.{ℕ, ◌+◌, ◌≤◌, ◌<◌, ◌≡◌, List, [], ◌∷◌, ◌++◌}
-use Rattle.std.proofs.Common.{◌∙◌}
+use Rattle.std.specs.Prelude.{ℕ, List, [], ◌∷◌, ◌++◌}
 use Rattle.decimal.specs.Columns.{space, columns}
 use Rattle.page_lines.specs.Line.{line_feed}
 

@@ -10,7 +10,7 @@ ghost use Rattle.page_lines.specs.LineLaws.{last_fields};
 use decimal::{SPACE, put_columns};
 use rules::{Batch, Job, Passes};
 
-const LINE_FEED: u8 = 10;
+const LINE_FEED: u8 = b'\n';
 
 // The columns of a line; its line feed stands behind them.
 pub const LINE_COLUMNS: usize = 32;
@@ -29,11 +29,11 @@ const SECOND: usize = 1 + FIRST_COLUMNS;
 
 const THIRD: usize = SECOND + SECOND_COLUMNS;
 
-const BATCH_LETTER: u8 = 77;
+const BATCH_LETTER: u8 = b'M';
 
-const JOB_LETTER: u8 = 83;
+const JOB_LETTER: u8 = b'S';
 
-const BLOCK_LETTER: u8 = 70;
+const BLOCK_LETTER: u8 = b'F';
 
 // The line of a section's head.
 pub fn put_head_line(page: &mut [u8], at: usize, letter: u8, figure: u64)
@@ -59,10 +59,7 @@ fn put_blanks(page: &mut [u8], at: usize)
     requires { at + 4 ≤ length page.old }
     ensures { page.new ≡ put page.old at blanks }
 {
-    page[at] = SPACE;
-    page[at + 1] = SPACE;
-    page[at + 2] = SPACE;
-    page[at + 3] = SPACE;
+    page[at..at + SECOND_COLUMNS].fill(SPACE);
 }
 
 // The third and the fourth field, from the offset of the third, and the line feed.

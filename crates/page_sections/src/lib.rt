@@ -21,11 +21,11 @@ use rules::{Batch, Job, Passes};
 // The length of a line, with its line feed.
 const LINE_LENGTH: usize = LINE_COLUMNS + 1;
 
-const MOSAIC_HEAD_LETTER: u8 = 109;
+const MOSAIC_HEAD_LETTER: u8 = b'm';
 
-const SORTING_HEAD_LETTER: u8 = 115;
+const SORTING_HEAD_LETTER: u8 = b's';
 
-const FLIGHT_HEAD_LETTER: u8 = 102;
+const FLIGHT_HEAD_LETTER: u8 = b'f';
 
 // What the members of a section are: their size in a plan, and the line that each gets on the page.
 trait Member {
