@@ -19,6 +19,7 @@ pub enum Field {
 }
 
 // The byte at an offset.
+#[tactic(auto, using(crate::specs::Numbers::byte_read, crate::specs::Numbers::past_read))]
 pub fn byte(s: &[u8], at: usize) -> u64
     ensures { NumberRead s.now at 1 result }
 {
