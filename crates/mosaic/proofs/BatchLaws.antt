@@ -89,14 +89,14 @@ module _ {rs sums weights late : List ℕ} {s n : ℕ} (P : ChooseBatchesPre rs 
         finish_most : begin + (get_or sums q 0 - get_or sums i 0) ≤ ready_cap + q * mount_cap + get_or sums q 0
         finish_most = omega (arith, plan_sub, M.most_free_holds, C.first, P.input.most_ready j, P.input.most_mount)
 
-        finish_cap_lem : begin + (get_or sums q 0 - get_or sums i 0) ≤ begin_cap
-        finish_cap_lem = omega (arith, finish_most, C.last, P.input.most_strips_holds, P.input.most_sum q C.last)
+        finish_capped : begin + (get_or sums q 0 - get_or sums i 0) ≤ begin_cap
+        finish_capped = omega (arith, finish_most, C.last, P.input.most_strips_holds, P.input.most_sum q C.last)
 
         pub plan_finish : begin + (get_or sums q 0 - get_or sums i 0) < 2 ^ 64
-        plan_finish = omega (arith, finish_cap_lem)
+        plan_finish = omega (arith, finish_capped)
 
         product_most : (get_or weights q 0 - get_or weights i 0) * (begin + (get_or sums q 0 - get_or sums i 0)) ≤ weights_cap * begin_cap
-        product_most = mul-le-mul {n₂ = weights_cap} {m₂ = begin_cap} (omega (arith, P.input.most_weights q C.last)) finish_cap_lem
+        product_most = mul-le-mul {n₂ = weights_cap} {m₂ = begin_cap} (omega (arith, P.input.most_weights q C.last)) finish_capped
 
         pub plan_add : (last start : ℕ)
             → AddBatchPre plan (get_or weights q 0 - get_or weights i 0) (record { last = last; start = start; finish = begin + (get_or sums q 0 - get_or sums i 0) })
