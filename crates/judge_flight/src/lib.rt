@@ -15,32 +15,43 @@ use plan_read::passes_from;
 use running::flight::pass_time;
 use sheet::FlightSection;
 
-// The start of pass p of n blocks.
-fn pass_start(plan: &[u8], at: usize, n: usize, p: usize) -> u64
-    requires { PassStartPre at n p }
-    ensures { StartTold (start_in_plan plan.now at n p) result }
-{
-    if p < n {
-        passes_from(plan, at + PASSES_SIZE * p).first
-    } else {
-        passes_from(plan, at + PASSES_SIZE * (p - n)).second
+// A flight as a plan states it: its section, the plan, and the offset of its first member.
+#[derive(Clone, Copy)]
+struct Stated<'a> {
+    flight: FlightSection,
+    plan: &'a [u8],
+    at: usize,
+}
+
+impl Stated<'_> {
+    // The start of pass p.
+    fn start(&self, p: usize) -> u64
+        requires { PassStartPre self.now.at self.now.flight.blocks p }
+        ensures { StartTold (start_in_plan self.now.plan.now self.now.at self.now.flight.blocks p) result }
+    {
+        let n = self.flight.blocks;
+        if p < n {
+            passes_from(self.plan, self.at + PASSES_SIZE * p).first
+        } else {
+            passes_from(self.plan, self.at + PASSES_SIZE * (p - n)).second
+        }
     }
-}
 
-// The end of pass p.
-fn pass_end(f: FlightSection, plan: &[u8], at: usize, p: usize) -> u64
-    requires { PassEndPre f at p }
-    ensures { FigureTold (end_in_plan f plan.now at p) result }
-{
-    pass_start(plan, at, f.blocks, p) + pass_time(f, p)
-}
+    // The end of pass p.
+    fn end(&self, p: usize) -> u64
+        requires { PassEndPre self.now.flight self.now.at p }
+        ensures { FigureTold (end_in_plan self.now.flight self.now.plan.now self.now.at p) result }
+    {
+        self.start(p) + pass_time(self.flight, p)
+    }
 
-// From when on another pass may start after pass p: the turn after its end.
-fn clear_at(f: FlightSection, plan: &[u8], at: usize, p: usize) -> u64
-    requires { PassEndPre f at p }
-    ensures { result ≡ clear_in_plan f plan.now at p }
-{
-    pass_end(f, plan, at, p) + f.turn
+    // From when on another pass may start after pass p: the turn after its end.
+    fn clear(&self, p: usize) -> u64
+        requires { PassEndPre self.now.flight self.now.at p }
+        ensures { result ≡ clear_in_plan self.now.flight self.now.plan.now self.now.at p }
+    {
+        self.end(p) + self.flight.turn
+    }
 }
 
 // Whether each pass starts no earlier than the turn after the one before it in the order ends.
@@ -48,10 +59,15 @@ pub fn passes_in_order(f: FlightSection, order: u64, plan: &[u8], at: usize) -> 
     requires { PassesInOrderPre f order at }
     ensures { result ≡ passes_in_order f order (blocks_from plan.now at f.blocks) (2 * f.blocks - 1) }
 {
+    let stated = Stated {
+        flight: f,
+        plan,
+        at,
+    };
     for k in 1..2 * f.blocks {
         let p = pass_at(f.blocks, order, k - 1);
         let q = pass_at(f.blocks, order, k);
-        if pass_start(plan, at, f.blocks, q) < clear_at(f, plan, at, p) {
+        if stated.start(q) < stated.clear(p) {
             return false;
         }
     }
@@ -63,9 +79,14 @@ pub fn flight_figure(f: FlightSection, plan: &[u8], at: usize) -> u64
     requires { FlightHeadPre f at }
     ensures { FigureTold (flight_figure f (blocks_from plan.now at f.blocks)) result }
 {
+    let stated = Stated {
+        flight: f,
+        plan,
+        at,
+    };
     let mut greatest: u64 = 0;
     for p in 0..2 * f.blocks {
-        greatest = greatest.max(pass_end(f, plan, at, p));
+        greatest = greatest.max(stated.end(p));
     }
     greatest
 }

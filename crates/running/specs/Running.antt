@@ -15,7 +15,7 @@ use Rattle.rules.specs.declared.Job.{Job}
 use Rattle.rules.specs.declared.Passes.{Passes}
 use Rattle.running.specs.declared.Desks.{Desks}
 
--- A batch may follow the batch before it (noBatch before the first), under the ceiling c.
+-- A batch may follow the batch before it (`no_batch` before the first), under the ceiling c.
 pub record BatchFollowsUnder (c : ℕ) (m : MosaicSection) (before b : Batch) : Type 0 where
   pub lawful : BatchUnder c m before b
   pub known : b.last ≤ m.strips

@@ -5,8 +5,8 @@ use Rattle.judge_flight.proofs.flight_figure.Goals as goal
 pub loop-p-init : goal.loop-p-init
 loop-p-init c = latest_none _ _
 
-pub pass_end-requires : goal.pass_end-requires
-pass_end-requires c = search latest_asked
+pub end-requires : goal.end-requires
+end-requires c = search latest_asked
 
 pub loop-p-preserved : goal.loop-p-preserved
 loop-p-preserved c = search latest_more

@@ -6,14 +6,14 @@ use Rattle.judge_flight.proofs.passes_in_order.Goals as goal
 pub loop-k-init : goal.loop-k-init
 loop-k-init c = search ordered_none
 
-pub pass_start-requires : goal.pass_start-requires
-pass_start-requires c = search this_start
+pub start-requires : goal.start-requires
+start-requires c = search this_start
 
-pub clear_at-requires : goal.clear_at-requires
-clear_at-requires c = search (end_before, this_end)
+pub clear-requires : goal.clear-requires
+clear-requires c = search (end_before, this_end)
 
-pub returns-then-pass_start-clear_at : goal.returns-then-pass_start-clear_at
-returns-then-pass_start-clear_at c = search ordered_wrong
+pub returns-then-start-clear : goal.returns-then-start-clear
+returns-then-start-clear c = search ordered_wrong
 
 pub loop-k-preserved : goal.loop-k-preserved
 loop-k-preserved c = search ordered_more

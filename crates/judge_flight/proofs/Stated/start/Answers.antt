@@ -1,6 +1,6 @@
--- `pass_start` meets its contract: a first pass and a second pass are the starts of their block.
+-- `start` meets its contract: a first pass and a second pass are the starts of their block.
 use Rattle.judge_flight.specs.Laws.{first_start, second_start}
-use Rattle.judge_flight.proofs.pass_start.Goals as goal
+use Rattle.judge_flight.proofs.Stated.start.Goals as goal
 
 pub returns-then-p-n : goal.returns-then-p-n
 returns-then-p-n c = search first_start
