@@ -6,7 +6,7 @@ ghost use Rattle.planner.specs.Call.{Called, PlanSectionsPre, PlanWithinPre, Wit
 use base::Answer;
 use sheet::Sheet;
 use sheet::limits::{PLAN_LENGTH, TABLE_LENGTH};
-use sheet::numbers::{BUFFER_TOO_SMALL, ORDER_IMPOSSIBLE, TABLE_TOO_SMALL};
+use sheet::refusals::Refusal;
 
 // A sheet that was read. The flight is planned first: where it is impossible, nothing has been written.
 fn plan_sections(s: Sheet, plan: &mut [u8], table: &mut [u64]) -> Answer
@@ -23,7 +23,7 @@ fn plan_sections(s: Sheet, plan: &mut [u8], table: &mut [u64]) -> Answer
     let flight = flight::plan_flight(s.flight);
     if !flight.possible {
         return Answer {
-            number: ORDER_IMPOSSIBLE,
+            number: Refusal::OrderImpossible as u64,
             place: s.flight.place,
             length: 0,
         };
@@ -34,7 +34,7 @@ fn plan_sections(s: Sheet, plan: &mut [u8], table: &mut [u64]) -> Answer
     Answer {
         number: 0,
         place: 0,
-        length: length,
+        length,
     }
 }
 
@@ -55,14 +55,14 @@ pub fn plan(sheet: &[u8], plan: &mut [u8], table: &mut [u64]) -> Answer
 {
     if table.len() < TABLE_LENGTH {
         return Answer {
-            number: TABLE_TOO_SMALL,
+            number: Refusal::TableTooSmall as u64,
             place: 0,
             length: 0,
         };
     }
     if plan.len() < PLAN_LENGTH {
         return Answer {
-            number: BUFFER_TOO_SMALL,
+            number: Refusal::BufferTooSmall as u64,
             place: 0,
             length: 0,
         };

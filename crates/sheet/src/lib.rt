@@ -3,7 +3,6 @@
 
 pub mod desks;
 pub mod limits;
-pub mod numbers;
 pub mod refusals;
 pub mod sections;
 pub mod tags;

@@ -13,5 +13,5 @@ pub returns : goal.returns
 returns c =
     let e : c.loop-done.done ≡ length c.args.bytes.now = omega arith in
     subst (λ n. BytesPut c.args.out.now c.args.at c.args.bytes.now c.loop-done.out (c.args.at + n)) e (
-      storing_all _ _ _ _ _ c.loop-done.invariant c.requires (omega arith)
+    storing_all _ _ _ _ _ c.loop-done.invariant c.requires (omega arith)
     )

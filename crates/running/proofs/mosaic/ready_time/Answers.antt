@@ -10,7 +10,7 @@ loop-k-init c = greatest_none _ _
 pub loop-k-preserved : goal.loop-k-preserved
 loop-k-preserved c =
     greatest_more _ _ _ _ _ _ c.loop-k.invariant c.loop-k-test.true c.station_sum-sum.ensures (
-      elim c.if-greatest-sum.branch [ then-greatest-sum w ↦ omega arith | else-greatest-sum w ↦ omega arith ]
+    elim c.if-greatest-sum.branch [ then-greatest-sum w ↦ omega arith | else-greatest-sum w ↦ omega arith ]
     )
 
 pub returns : goal.returns
