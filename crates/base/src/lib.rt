@@ -12,9 +12,11 @@ pub struct Answer {
     pub length: usize,
 }
 
-// All values set to 0, from the first one on.
+// All values set to 0.
 pub fn clear(values: &mut [u64])
     ensures { values.new ≡ replicate (length values.old) 0 }
 {
-    values[0..].fill(0);
+    for z in 0..values.len() {
+        values[z] = 0;
+    }
 }

@@ -1,0 +1,2 @@
+-- What the proof of `clear` cites: zeros written from the front.
+mod Clearing
