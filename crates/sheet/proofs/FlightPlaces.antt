@@ -2,7 +2,7 @@
 -- block was read from (Req 07).
 -- The idea: the place that the reading keeps is that of the field which it has just passed, and the fields between change neither it nor the turn; a block is
 -- added behind those before it.
-use Rattle.std.specs.Prelude.{ℕ, ◌+◌, ◌≤◌, ◌<◌, ◌≡◌, List, ◌⊎◌}
+use Rattle.std.specs.Prelude.{ℕ, ◌+◌, ◌≤◌, ◌<◌, ◌≡◌, false, List, ◌⊎◌}
 use Rattle.std.proofs.Math.Path.{refl, ap}
 use Rattle.std.proofs.Common.{sym, subst, ◌∙◌, true≢false, inl, inr, arith, ne_eqb}
 use Rattle.std.proofs.Math.Bool.{true}
@@ -33,7 +33,7 @@ use Rattle.sheet.specs.declared.Block.{Block}
 use Rattle.sheet.specs.declared.FlightSection.{FlightSection}
 use Rattle.sheet.specs.declared.Reading.{Reading}
 use Rattle.sheet.specs.declared.Sheet.{Sheet}
-use Rattle.sheet.specs.FlightPlaces.{FieldRead, HeadRead, OrderRead, block_at, BlockRead}
+use Rattle.sheet.specs.FlightPlaces.{FieldRead, HeadRead, OrderRead, block_at, BlockRead, exact, window}
 
 record Placed (s : List ℕ) (st : Reading) : Type 0 where
   head : in_flight ≤ st.section → HeadRead s st.flight

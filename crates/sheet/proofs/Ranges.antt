@@ -14,7 +14,7 @@ use Rattle.sheet.specs.RowLaws.{Answers}
 use Rattle.sheet.proofs.RowLaws.{answers_none, answers_here, answers_behind, first_here}
 use Rattle.sheet.specs.Causes.{CountOutOfRange, TimeTooLarge, TimeOfZero, FirstOut}
 use Rattle.sheet.specs.Checks.{count_number, time_number, value_number, value_numbers, range_number}
-use Rattle.sheet.specs.Ranges.{OneDecided, RangeDecided}
+use Rattle.sheet.specs.Ranges.{OneDecided, count_out, too_large, of_zero, within, RangeDecided}
 
 -- A value that is out of its range gives the number of its kind, one within it gives 0 ..
 pub count_number_lem : (v : Value) → CountOutOfRange v → value_number v ≡ out_of_range

@@ -1,7 +1,7 @@
 -- The weights of a sheet's strips (02, Req 09): "any other value is 6"; each weight is the one that its strip's field gives; and where no strip carries one,
 -- each is 1.
 -- The idea: the values before a weight decide before it does; a strip is stored behind those before it, which keep their weights.
-use Rattle.std.specs.Prelude.{ℕ, ◌+◌, ◌-◌, ◌*◌, ◌≤◌, ◌<◌, ◌≡◌, List, [], ◌∷◌, ◌++◌}
+use Rattle.std.specs.Prelude.{ℕ, ◌+◌, ◌-◌, ◌*◌, ◌≤◌, ◌<◌, ◌≡◌, List, [], ◌∷◌, ◌++◌, ◌⊎◌}
 use Rattle.std.proofs.Math.Path.{refl, sym, ap, subst}
 use Rattle.std.proofs.Common.{◌∙◌, inl, inr, arith, ne_eqb}
 use Rattle.std.proofs.Math.Decide.{ℕ_discrete}
@@ -37,7 +37,7 @@ use Rattle.sheet.specs.declared.MosaicSection.{MosaicSection}
 use Rattle.sheet.specs.declared.SortingSection.{SortingSection}
 use Rattle.sheet.specs.declared.Reading.{Reading}
 use Rattle.sheet.specs.declared.Sheet.{Sheet}
-use Rattle.sheet.specs.Weights.{WeightOut, MosaicWeightRead, SortingWeightRead, Unweighted}
+use Rattle.sheet.specs.Weights.{WeightOut, mosaic, sorting, MosaicWeightRead, SortingWeightRead, Unweighted}
 
 -- where some values are within their ranges and the next is not, the next is the first that is out
 out_behind : (values : List Value) (v : Value) → InRange values → CountOutOfRange v → FirstOut CountOutOfRange (values ++ (v ∷ []))

@@ -2,7 +2,8 @@
 -- is read with the same number and the same sections, and in the second the places of later fields are one higher.
 -- The idea: the values before the weight are the same, a weight of 1 is within its range, and both strips are stored with the weight 1 (MovedPlaces.antt has
 -- what follows behind them).
-use Rattle.std.specs.Prelude.{ℕ, ◌+◌, ◌*◌, ◌≡◌, List, [], ◌∷◌, ◌++◌}
+use Rattle.std.specs.Prelude.{ℕ, ◌+◌, ◌*◌, ◌≤◌, ◌<◌, ◌≡◌, List, [], ◌∷◌, ◌++◌}
+use Rattle.std.proofs.Common.{◌∙◌}
 use Rattle.sheet.specs.Tags.{mosaic_strip_tag, sorting_strip_tag}
 use Rattle.sheet.specs.MovedPlaces.{with_field}
 use Rattle.sheet.specs.declared.Reading.{Reading}

@@ -1,9 +1,10 @@
 -- The field table by tag: the contents that it has for each, two for a flight head and for a strip, and that a field of a length that is due has the values of
 -- its content.
 -- The idea: for a tag that is known the table computes. Only the rows of a mosaic strip do not: they are there or not by the number of stations.
-use Rattle.std.specs.Prelude.{ℕ, ◌+◌, ◌*◌, ◌≡◌, eqb}
+use Rattle.std.specs.Prelude.{ℕ, ◌+◌, ◌*◌, ◌≤◌, ◌≡◌, ◌&&◌, ◌⊎◌, eqb}
+use Rattle.std.proofs.Common.{◌∙◌, true≢false}
 use Rattle.std.proofs.Math.Bool.{cond}
-use mathlib.Core.List.{List, [], ◌∷◌}
+use mathlib.Core.List.{List, [], ◌∷◌, ◌++◌}
 use Rattle.field.specs.Bytes.{number_at}
 use Rattle.sheet.specs.Limits.{most_weight}
 use Rattle.sheet.specs.Among.{Among}

@@ -2,7 +2,8 @@
 -- block was read from (Req 07).
 -- The idea: the place that the reading keeps is that of the field which it has just passed, and the fields between change neither it nor the turn; a block is
 -- added behind those before it.
-use Rattle.std.specs.Prelude.{ℕ, ◌+◌, ◌≡◌, false, List, ◌⊎◌, get_or}
+use Rattle.std.specs.Prelude.{ℕ, ◌+◌, ◌≤◌, ◌<◌, ◌≡◌, false, List, ◌⊎◌, get_or}
+use Rattle.std.proofs.Common.{◌∙◌, true≢false}
 use Rattle.field.specs.Bytes.{number_at}
 use Rattle.field.specs.Field.{field_at}
 use Rattle.field.specs.declared.Field.TheVariants.{Whole}

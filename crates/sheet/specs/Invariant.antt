@@ -1,5 +1,6 @@
 -- What holds wherever a reading stands, and that a field which passes its checks keeps it. The field's tag is one of eight; each is one law.
-use Rattle.std.specs.Prelude.{ℕ, ◌≤◌, ◌<◌, ◌≡◌, true, false, List, length}
+use Rattle.std.specs.Prelude.{ℕ, ◌+◌, ◌≤◌, ◌<◌, ◌≡◌, true, false, List, length}
+use Rattle.std.proofs.Common.{◌∙◌}
 use Rattle.sheet.specs.Limits.{most_blocks}
 use Rattle.sheet.specs.Sections.{no_section, in_mosaic, in_sorting, in_flight, after_order}
 use Rattle.sheet.specs.Sound.{MosaicSound, SortingSound, FlightWithin, strips_in_all}

@@ -1,8 +1,9 @@
 -- Two sheets that part in one field, which is d bytes longer in the one than in the other: where these fields are checked and decoded alike, both sheets are
 -- read with the same number and the same sections, and the places of later fields are d higher.
 -- The idea: up to the field the two sheets are the same; behind it their readings stand at the same fields, d bytes apart, and stay alike.
-use Prim.Native.Nat.{ℕ, ◌+◌}
+use Prim.Native.Nat.{ℕ, ◌+◌, ◌-◌, ◌≤◌, ◌<◌}
 use Rattle.std.specs.Prelude.{◌≡◌, List, ◌++◌}
+use Rattle.std.proofs.Common.{◌∙◌}
 use Rattle.std.proofs.Math.Bool.{cond}
 use Rattle.std.proofs.Math.Dec.{leb}
 use Rattle.field.specs.Field.{field_bytes}

@@ -2,7 +2,8 @@
 -- place whose two bounds are its delay, the same sheet is read with the same number and the same sections, and in the second the places of later fields are two
 -- higher.
 -- The idea: both blocks have the same values, the delay once or twice, and add the same block (MovedPlaces.antt has what follows behind them).
-use Rattle.std.specs.Prelude.{ℕ, List, ◌++◌}
+use Rattle.std.specs.Prelude.{ℕ, ◌+◌, ◌≤◌, ◌≡◌, List, [], ◌∷◌, ◌++◌}
+use Rattle.std.proofs.Common.{◌∙◌}
 use Rattle.field.specs.Bytes.{bytes_of}
 use Rattle.sheet.specs.Tags.{flight_block_tag, flight_window_block_tag}
 use Rattle.sheet.specs.MovedPlaces.{with_field}

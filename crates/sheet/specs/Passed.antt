@@ -1,5 +1,5 @@
 -- A field that passes every row: what the rows' causes shut out, stated of the field.
-use Rattle.std.specs.Prelude.{ℕ, ◌+◌, ◌≤◌, ◌≡◌, List}
+use Rattle.std.specs.Prelude.{ℕ, ◌+◌, ◌≤◌, ◌<◌, ◌≡◌, List, [], ◌∷◌, ◌++◌}
 use Rattle.field.specs.Bytes.{number_at}
 use Rattle.order.specs.Order.{Proper}
 use Rattle.sheet.specs.Tags.{flight_order_tag, flight_window_block_tag}

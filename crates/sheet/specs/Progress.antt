@@ -1,5 +1,6 @@
 -- The reader's loop: wherever it stands, what is left to read gives the sheet's answer.
-use Rattle.std.specs.Prelude.{ℕ, ◌-◌, ◌<◌, ◌≡◌, List, length}
+use Rattle.std.specs.Prelude.{ℕ, ◌+◌, ◌-◌, ◌≤◌, ◌<◌, ◌≡◌, List, length}
+use Rattle.std.proofs.Common.{◌∙◌}
 use Rattle.sheet.specs.Read.{read_from, read_sheet}
 use Rattle.sheet.specs.Invariant.{Kept}
 use Rattle.sheet.specs.declared.Reading.{Reading}

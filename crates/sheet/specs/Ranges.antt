@@ -1,6 +1,7 @@
 -- The check of the ranges decides 6, 15 and 16: it gives the number of the first value that is not within its range, and 0 where every value is.
 -- The idea: one value is decided by its two tests; a row of values by its first value or, where that is within its range, by the others.
-use Rattle.std.specs.Prelude.{ℕ, ◌≡◌, List}
+use Rattle.std.specs.Prelude.{ℕ, ◌<◌, ◌≡◌, ◌&&◌, List, [], ◌∷◌}
+use Rattle.std.proofs.Common.{◌∙◌}
 use Rattle.sheet.specs.Refusals.{out_of_range, time_too_large, time_of_zero}
 use Rattle.sheet.specs.FieldTable.{Value, Within, InRange}
 use Rattle.sheet.specs.Causes.{CountOutOfRange, TimeTooLarge, TimeOfZero, FirstOut}

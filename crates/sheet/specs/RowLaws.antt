@@ -1,7 +1,8 @@
 -- One theorem for all rows: where each check gives its row's number exactly where the row's cause lies, the first number that is not 0 is that of the first
 -- row whose cause lies there, with its place, and it is 0 exactly where no cause lies. The idea: one row after another, each judged where those before pass.
 use Prim.Native.Nat.{ℕ, zero, suc, ◌<◌}
-use Rattle.std.specs.Prelude.{◌≡◌, List, [], ◌∷◌}
+use Rattle.std.specs.Prelude.{◌≡◌, List, [], ◌∷◌, ◌++◌}
+use Rattle.std.proofs.Common.{◌∙◌, true≢false, lit<}
 use Rattle.sheet.specs.Rows.{Row, Fails, NoCause}
 
 -- what a check gives: the number where the cause lies, 0 where it does not

@@ -1,9 +1,10 @@
 -- Two fields of the same tag and the same content, in two sheets or at two offsets, are checked and decoded alike: no check and no value looks beyond the
 -- content.
 -- The idea: a field whose length is due has its values within it; one whose length is not due is refused for that before they are looked at.
-use Prim.Native.Nat.{ℕ, ◌+◌, ◌<◌}
-use Rattle.std.specs.Prelude.{◌≡◌, cond, get_or}
-use mathlib.Core.List.{List}
+use Prim.Native.Nat.{ℕ, ◌+◌, ◌*◌, ◌≤◌, ◌<◌}
+use Rattle.std.specs.Prelude.{◌≡◌, cond, ◌⊎◌, get_or}
+use Rattle.std.proofs.Common.{◌∙◌}
+use mathlib.Core.List.{List, [], ◌∷◌}
 use Rattle.std.proofs.Math.Dec.{eqb}
 use Rattle.sheet.specs.Tags.{flight_head_tag, flight_order_tag}
 use Rattle.sheet.specs.declared.FlightSection.{FlightSection}

@@ -1,5 +1,7 @@
 -- Each section stays sound as a field that passes its checks is added.
-use Prim.Native.Nat.{◌≤◌}
+use Prim.Native.Nat.{◌+◌, ◌-◌, ◌*◌, ◌≤◌, ◌<◌}
+use Rattle.std.specs.Prelude.{◌≡◌, [], ◌∷◌, ◌++◌}
+use Rattle.std.proofs.Common.{◌∙◌, true≢false}
 use Rattle.sheet.specs.Limits.{most_time}
 use Rattle.sheet.specs.FieldTable.{Between}
 use Rattle.sheet.specs.declared.Block.{Block}

@@ -1,6 +1,7 @@
 -- What holds of every sheet: it is refused exactly for a cause of the table, with its number and place, and else accepted; and what is accepted is sound.
 -- The idea: the reading goes from field to field as the rows say; each step ends in the first row that fails or in the next field.
-use Rattle.std.specs.Prelude.{ℕ, ◌≡◌, List}
+use Rattle.std.specs.Prelude.{ℕ, ◌+◌, ◌-◌, ◌≤◌, ◌<◌, ◌≡◌, List}
+use Rattle.std.proofs.Common.{◌∙◌}
 use Rattle.sheet.specs.Table.{Reached, Cause, Complete}
 use Rattle.sheet.specs.Read.{refused, accepted}
 use Rattle.sheet.specs.declared.Reading.{Reading}

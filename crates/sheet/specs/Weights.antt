@@ -1,7 +1,8 @@
 -- The weights of a sheet's strips (02, Req 09): "any other value is 6"; each weight is the one that its strip's field gives; and where no strip carries one,
 -- each is 1.
 -- The idea: the values before a weight decide before it does; a strip is stored behind those before it, which keep their weights.
-use Rattle.std.specs.Prelude.{ℕ, ◌+◌, ◌*◌, ◌<◌, ◌≡◌, List, ◌⊎◌}
+use Rattle.std.specs.Prelude.{ℕ, ◌+◌, ◌-◌, ◌*◌, ◌≤◌, ◌<◌, ◌≡◌, List, [], ◌∷◌, ◌++◌, ◌⊎◌}
+use Rattle.std.proofs.Common.{◌∙◌}
 use Rattle.std.proofs.Math.ListN.{get_or}
 use Rattle.field.specs.Bytes.{number_at}
 use Rattle.sheet.specs.Limits.{most_weight}

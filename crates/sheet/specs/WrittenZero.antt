@@ -2,7 +2,8 @@
 -- the same sections, and the places of later fields are two higher.
 -- The idea: both heads are refused or pass by the section before them alone, and begin a flight with a turn of 0 (MovedPlaces.antt has what follows behind
 -- them).
-use Rattle.std.specs.Prelude.{ℕ, List, []}
+use Rattle.std.specs.Prelude.{ℕ, ◌+◌, ◌≡◌, List, [], ◌∷◌}
+use Rattle.std.proofs.Common.{◌∙◌}
 use Rattle.field.specs.Bytes.{bytes_of}
 use Rattle.sheet.specs.Tags.{flight_head_tag}
 use Rattle.sheet.specs.MovedPlaces.{with_field}
