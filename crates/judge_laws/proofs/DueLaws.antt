@@ -1,5 +1,5 @@
 -- The judge decides 12. Walking from part to part as it does, every field passed is due where it stands, and where a part is not right, no field that is due
--- stands (Standing). And the fields that are due are determined by the plan, so that no other place is the first wrong one (first-wrong-once).
+-- stands (Standing). And the fields that are due are determined by the plan, so that no other place is the first wrong one (`first_wrong_once`).
 use Prim.Native.Nat.{ℕ, zero, suc, ◌+◌, ◌*◌, ◌≤◌, ◌<◌}
 use Rattle.std.specs.Prelude.{◌≡◌, List, length, eqb}
 use Rattle.std.proofs.Math.Path.{refl, ap, ap₂, subst}

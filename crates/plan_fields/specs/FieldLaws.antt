@@ -1,5 +1,5 @@
 -- A field is stored by stores one behind the other: they are one store of the joined bytes.
--- One law for every form: with each further number that is stored, the field stands as far as that number (stored_next), and with the last whole (stored_all).
+-- One law for every form: with each further number that is stored, the field stands as far as that number (`stored_next`), and with the last whole (`stored_all`).
 use Rattle.std.specs.Prelude.{ℕ, suc, ◌+◌, ◌≤◌, ◌<◌, ◌≡◌, set}
 use Rattle.std.proofs.Math.Path.{refl, ap}
 use Rattle.std.proofs.Common.{sym, ◌∙◌, arith, length-set, take-suc}

@@ -1,5 +1,5 @@
--- The rules as tests that can be computed, by index as the rules are: each test says whether the timetable obeys them under the ceiling c (mosaic-decided,
--- sorting-decided, flight-decided).
+-- The rules as tests that can be computed, by index as the rules are: each test says whether the timetable obeys them under the ceiling c (`mosaic_decided`,
+-- `sorting_decided`, `flight_decided`).
 use Prim.Native.Nat.{ℕ, zero, suc, ◌+◌, ◌-◌, ◌*◌, ◌≤◌, ◌<◌}
 use mathlib.Core.Path.{◌≡◌, refl, sym, ap, subst, ◌∙◌}
 use mathlib.Core.Bool.{Bool, true, false, not, ◌&&◌, ◌||◌, true≢false}
