@@ -102,3 +102,10 @@ module _ (n : ℕ) where
   sorting_long p =
       section_long job_bytes (size_of job_form) length_job n (size_of sorting_head_form) p.count (form_bytes sorting_head_form (p.figure ∷ []))
       (length_form sorting_head_form (p.figure ∷ []) refl) p.jobs
+
+  pub flight_long : (p : FlightPlan)
+      → length (if_present n (flight_bytes p.figure p.order (passes_of_plan n p))) ≤ size_of flight_head_form + size_of passes_form * n
+  unfolding flight_bytes passes_of_plan
+  flight_long p =
+      section_long passes_bytes (size_of passes_form) length_passes n (size_of flight_head_form) n (form_bytes flight_head_form (p.figure ∷ p.order ∷ []))
+      (length_form flight_head_form (p.figure ∷ p.order ∷ []) refl) p.blocks
