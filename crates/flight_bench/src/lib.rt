@@ -29,19 +29,15 @@ pub extern "C" fn flight_best(
     requires { FlightSound (section_of blocks turn first.now shortest.now longest.now second.now ordered order) }
     ensures { Answered (section_of blocks turn first.now shortest.now longest.now second.now ordered order) result }
 {
-    let a = *first;
-    let l = *shortest;
-    let m = *longest;
-    let b = *second;
     let f = FlightSection {
-        blocks: blocks,
-        turn: turn,
-        first: a,
-        shortest: l,
-        longest: m,
-        second: b,
-        ordered: ordered,
-        order: order,
+        blocks,
+        turn,
+        first: *first,
+        shortest: *shortest,
+        longest: *longest,
+        second: *second,
+        ordered,
+        order,
         place: 0,
     };
     let plan = flight::plan_flight(f);
