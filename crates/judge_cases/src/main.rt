@@ -66,6 +66,5 @@ fn main(rt: HostRuntime) {
     if input.failed {
         return;
     }
-    let length = input.length;
-    report_all(&rt, &buffer[..length]);
+    report_all(&rt, &buffer[..input.length]);
 }

@@ -42,7 +42,5 @@ fn main(rt: HostRuntime) {
     if plan_read.failed {
         return;
     }
-    let sheet_length = sheet_read.length;
-    let plan_length = plan_read.length;
-    report(&rt, &sheet[..sheet_length], &plan[..plan_length]);
+    report(&rt, &sheet[..sheet_read.length], &plan[..plan_read.length]);
 }

@@ -39,9 +39,8 @@ fn main(rt: HostRuntime) {
     if input.failed {
         return;
     }
-    let length = input.length;
     let mut out = [0u8; PLAN_LENGTH];
     let mut table = [0u64; TABLE_LENGTH];
-    let written = reply(&buffer[..length], &mut out, &mut table);
+    let written = reply(&buffer[..input.length], &mut out, &mut table);
     files::write_output(&mut err, &mut rt.stdout(), b"plan_sheet", &out[..written]);
 }

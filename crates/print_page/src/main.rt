@@ -40,9 +40,7 @@ fn main(rt: HostRuntime) {
     if plan_read.failed {
         return;
     }
-    let sheet_length = sheet_read.length;
-    let plan_length = plan_read.length;
     let mut out = [0u8; PAGE_LENGTH];
-    let written = reply(&sheet[..sheet_length], &plan[..plan_length], &mut out);
+    let written = reply(&sheet[..sheet_read.length], &plan[..plan_read.length], &mut out);
     files::write_output(&mut err, &mut rt.stdout(), b"print_page", &out[..written]);
 }

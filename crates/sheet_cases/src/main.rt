@@ -21,11 +21,10 @@ fn write_place(rt: &HostRuntime, number: u64, place: u64) -> bool {
 
 fn write_counts(rt: &HostRuntime, sheet: Sheet) -> bool {
     let mut out = [0u8; 160];
-    let counts = sheet.sorting.counts;
     let mut at = put_decimal(&mut out, 0, b" ", sheet.mosaic.strips as u64);
-    at = put_decimal(&mut out, at, b" ", counts[0] as u64);
-    at = put_decimal(&mut out, at, b" ", counts[1] as u64);
-    at = put_decimal(&mut out, at, b" ", counts[2] as u64);
+    at = put_decimal(&mut out, at, b" ", sheet.sorting.counts[0] as u64);
+    at = put_decimal(&mut out, at, b" ", sheet.sorting.counts[1] as u64);
+    at = put_decimal(&mut out, at, b" ", sheet.sorting.counts[2] as u64);
     at = put_decimal(&mut out, at, b" ", sheet.flight.blocks as u64);
     at = put_decimal(&mut out, at, b" ", sheet.flight.turn);
     at = put_decimal(&mut out, at, b" ", sheet.flight.order);
@@ -42,10 +41,8 @@ fn report(rt: &HostRuntime, bytes: &[u8]) -> bool {
     if !write_place(rt, sheet.number, sheet.place as u64) {
         return false;
     }
-    if sheet.number == 0 {
-        if !write_counts(rt, sheet) {
-            return false;
-        }
+    if sheet.number == 0 && !write_counts(rt, sheet) {
+        return false;
     }
     files::write_output(&mut rt.stderr(), &mut rt.stdout(), b"sheet_cases", b"\n") == 1
 }
@@ -85,6 +82,5 @@ fn main(rt: HostRuntime) {
     if input.failed {
         return;
     }
-    let length = input.length;
-    report_all(&rt, &buffer[..length]);
+    report_all(&rt, &buffer[..input.length]);
 }
