@@ -191,9 +191,9 @@ weight_told m before b sum a t = record {
 }
 
 pub work_start_told : (m : MosaicSection) (b : Batch) (r setup ready_at : ℕ) → BenchWorkStartPre m b → SetupTold m setup → SumTold (ready m b.last) ready_at
-    → r ≡ max ready_at (b.start + setup) → BenchWorkStartTold m b r
+    → r ≡ max (b.start + setup) ready_at → BenchWorkStartTold m b r
 unfolding bench_work_start
-work_start_told m b r setup ready_at a u t e = record { is = rw (← u.is, ← t.is) (omega arith); fits = omega (arith, a.fits, u.fits, t.fits) }
+work_start_told m b r setup ready_at a u t e = record { is = rw (← u.is, ← t.is) e; fits = omega (arith, a.fits, u.fits, t.fits) }
 
 pub finish_is : (m : MosaicSection) (before b : Batch) (begin sum : ℕ) → BenchWorkStartTold m b begin
     → SumTold (sum_after m.bench before.last (b.last - before.last)) sum → begin + sum ≡ finish_due m before b

@@ -1,5 +1,5 @@
 // Ready times, bench times and weights of a mosaic.
-ghost use Rattle.std.specs.Prelude.{◌≡◌, ◌<◌, ◌+◌};
+ghost use Rattle.std.specs.Prelude.{◌≡◌, ◌<◌, ◌+◌, max};
 ghost use Rattle.base.specs.Sums.{sum_after};
 ghost use Rattle.rules.specs.Mosaic.{station_sum, ready, finish_due};
 ghost use Rattle.running.specs.FunctionLaws.{StationSumPre, ReadyTimePre, SumAfterPre, BatchWeightPre, WeightTold, BenchWorkStartPre, BenchWorkStartTold, FinishDuePre, SetupTold, SumTold};
@@ -27,10 +27,7 @@ pub fn ready_time(m: MosaicSection, j: usize) -> u64
 {
     let mut greatest: u64 = 0;
     for k in 0..m.stations {
-        let sum = station_sum(m, k, j);
-        if greatest < sum {
-            greatest = sum;
-        }
+        greatest = greatest.max(station_sum(m, k, j));
     }
     greatest
 }
@@ -60,14 +57,20 @@ pub fn setup_time(m: MosaicSection) -> u64
     m.mount
 }
 
+// The later of two times.
+fn later(a: u64, b: u64) -> u64
+    ensures { result ≡ max a b }
+{
+    if a < b { b } else { a }
+}
+
 // When the bench work of a batch starts: its mount is done and its last strip is ready.
 fn bench_work_start(m: MosaicSection, b: Batch) -> u64
     requires { BenchWorkStartPre m b }
     ensures { BenchWorkStartTold m b result }
 {
     let mounted = b.start + setup_time(m);
-    let ready = ready_time(m, b.last as usize);
-    ready.max(mounted)
+    later(mounted, ready_time(m, b.last as usize))
 }
 
 // When a batch is due to finish, by the batch before it.
