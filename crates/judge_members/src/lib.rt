@@ -4,8 +4,9 @@
 ghost use Rattle.std.specs.Prelude.{◌≡◌, ◌+◌, ◌*◌, ◌<◌};
 ghost use Rattle.sheet.specs.Given.{number_given};
 ghost use Rattle.sheet.specs.Sound.{SheetSound};
+ghost use Rattle.plan_format.specs.Format.{size_of};
 ghost use Rattle.plan_read.specs.PlanRead.{figure_from};
-ghost use Rattle.judge_members.specs.Members.{section_of, present, head_form, member_place, begun, member_follows, after_batch, after_strip, after_member};
+ghost use Rattle.judge_members.specs.Members.{section_of, present, head_form, member_form, member_place, begun, member_follows, after_batch, after_strip, after_member};
 ghost use Rattle.judge_members.specs.Members.{head_follows, figure_of, head_number};
 ghost use Rattle.judge_members.specs.Laws.{MemberPlacePre, MemberFollowsPre, AfterMemberPre, AfterBatchPre, AfterStripPre, HeadNumberPre, FigureOfPre};
 
@@ -68,17 +69,37 @@ pub fn is_present(s: Sheet, section: u64) -> bool
     }
 }
 
+// The bytes that the head of a section takes.
+#[tactic(auto, unfolding(crate::specs::Members::head_form))]
+fn head_size(section: u64) -> usize
+    ensures { result ≡ size_of (head_form section) }
+{
+    match Section::from(section) {
+        Section::Mosaic => MOSAIC_HEAD_SIZE,
+        Section::Sorting => SORTING_HEAD_SIZE,
+        Section::Flight => FLIGHT_HEAD_SIZE,
+    }
+}
+
+// The bytes that each of its members takes.
+#[tactic(auto, unfolding(crate::specs::Members::member_form))]
+fn member_size(section: u64) -> usize
+    ensures { result ≡ size_of (member_form section) }
+{
+    match Section::from(section) {
+        Section::Mosaic => BATCH_SIZE,
+        Section::Sorting => JOB_SIZE,
+        Section::Flight => PASSES_SIZE,
+    }
+}
+
 // The place of member k, from 0, of a section whose head stands at an offset.
-#[tactic(auto, unfolding(crate::specs::Members::member_place, crate::specs::Members::head_form, crate::specs::Members::member_form))]
+#[tactic(auto, unfolding(crate::specs::Members::member_place))]
 pub fn member_place(section: u64, head: usize, k: usize) -> usize
     requires { MemberPlacePre section head k }
     ensures { result ≡ member_place section head k }
 {
-    match Section::from(section) {
-        Section::Mosaic => head + MOSAIC_HEAD_SIZE + k * BATCH_SIZE,
-        Section::Sorting => head + SORTING_HEAD_SIZE + k * JOB_SIZE,
-        Section::Flight => head + FLIGHT_HEAD_SIZE + k * PASSES_SIZE,
-    }
+    head + head_size(section) + k * member_size(section)
 }
 
 // Before the first member.

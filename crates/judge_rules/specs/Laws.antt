@@ -1,7 +1,6 @@
 -- Laws of the tests: what they read is what the rules name, their sums fit, and how the loop over the desks decides.
-use Rattle.std.specs.Prelude.{ℕ, zero, suc, ◌+◌, ◌-◌, ◌^◌, ◌≤◌, ◌<◌, ◌≡◌, refl, Bool, true, false, not, ◌&&◌, List, length, get_or, set, eqb}
+use Rattle.std.specs.Prelude.{ℕ, zero, suc, ◌+◌, ◌-◌, ◌^◌, ◌≤◌, ◌<◌, ◌≡◌, refl, Bool, true, false, not, ◌&&◌, List, get_or, set, eqb}
 use Rattle.std.proofs.Common.{sym, ap, ◌∙◌, add-one, arith}
-use Rattle.std.proofs.Math.ListN.{get_or-eq_default}
 use borrow.Author.Tests.{lt-ltb, le-ltb, eq-eqb, ne_eqb, not-true, not-false, ltb-true, leb-true, eqb-true}
 use Rattle.base.specs.Branch.{both}
 use Rattle.sheet.specs.Sections.{strips_of_desk}
@@ -52,12 +51,6 @@ module _ (m : MosaicSection) (before b : Batch) (x : Bool) (ex : x ≡ batch_in_
     batch_right r due u e = rw (← ex, not-false x h, ← u) (e ∙ same_before before.finish _ b.start b.finish due (omega arith))
 
 -- jobs
-
-pub desk_there : (values : List ℕ) (desk d : ℕ) → d ≡ desk - 1 → get_or values d 0 ≡ get_or values (desk - 1) 0
-desk_there values desk d e = ap (λ i. get_or values i 0) e
-
-pub desk_none : (values : List ℕ) (desk d n : ℕ) → length values ≡ n → d ≡ desk - 1 → n ≤ d → 0 ≡ get_or values (desk - 1) 0
-desk_none values desk d n l e h = sym (get_or-eq_default values 0 {n = desk - 1} (omega arith))
 
 strips_same : (s : SortingSection) (desk : ℕ) → strips_of_desk s.counts desk ≡ strips_of s desk
 unfolding strips_of_desk strips_of

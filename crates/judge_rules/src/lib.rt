@@ -60,8 +60,7 @@ fn job_in_time(scanner: u64, free: u64, scan: u64, scanned: u64, start: u64, fin
 pub fn of_desk(values: [u64; 3], desk: u64) -> u64
     ensures { result ≡ get_or values (desk - 1) 0 }
 {
-    let d = desk_index(desk);
-    if d < 3 { values[d] } else { 0 }
+    values.get(desk_index(desk)).copied().unwrap_or(0)
 }
 
 // Whether a job may follow where the desks have come so far.
