@@ -159,8 +159,8 @@ module _ {rows : List Constraint} {t₀ t : List ℕ} {held : Bool} {k : ℕ} (r
         relaxed_bound (system_of (length t₀) rows) k t₀ value_cap most_number (λ k' l'. ready.fit.up_low k' (omega arith)) ready.low j,
       ))
 
-  pub wanted_fits : value t (item rows k).from + (item rows k).up < 2 ^ 64
-  wanted_fits = omega (arith, low (item rows k).from, ready.fit.up_low k l)
+  pub wanted_fits : (j : ℕ) → value t j + (item rows k).up < 2 ^ 64
+  wanted_fits j = omega (arith, low j, ready.fit.up_low k l)
 
   pub had_fits : value t (item rows k).to + (item rows k).down < 2 ^ 64
   had_fits = omega (arith, low (item rows k).to, ready.fit.down_low k l)

@@ -2,7 +2,7 @@
 use mathlib.Core.Path.{◌≡◌, refl, sym, ap, subst, ◌∙◌}
 use mathlib.Core.Bool.{Bool, true, false, not}
 use mathlib.Core.List.{List}
-use Prim.Native.Nat.{ℕ, ◌+◌, ◌-◌, ◌*◌, ◌^◌, ◌≤◌, ◌<◌}
+use Prim.Native.Nat.{ℕ, ◌+◌, ◌-◌, ◌*◌, ◌^◌, ◌<◌}
 use native.Mathlib.Omega.{arith}
 use lib.ListN.{length, get_or, take, replicate}
 use lib.Seq.{length-take-le}
@@ -14,7 +14,7 @@ use Rattle.sheet.specs.Sound.{FlightSound}
 use Rattle.sheet.specs.declared.FlightSection.{FlightSection}
 use Rattle.rules.specs.Flight.{no_passes}
 use Rattle.rules.specs.declared.Passes.{Passes}
-use Rattle.flight_order.specs.Constraints.{ordered_flight, flight_in, section_of, least_starts, possible_in, order_figure}
+use Rattle.flight_order.specs.Constraints.{ordered_flight, flight_in, free_section, section_of, least_starts, possible_in, order_figure}
 use Rattle.flight_order.specs.declared.Blocks.{Blocks}
 use Rattle.difference.specs.declared.Constraint.{Constraint}
 use Rattle.std.specs.Prelude.{Option}
@@ -25,10 +25,9 @@ use Rattle.flight_order.proofs.Planned.{empty_possible, figure_none}
 use Rattle.flight_order.specs.Clauses.{LeastStartsPre, Least}
 use Rattle.flight_search.specs.Search.{no_incumbent, order_of, searched}
 use Rattle.flight_search.specs.Orders.{orders_of}
-use Rattle.flight_search.specs.Clauses.{BlockTimes}
 use Rattle.flight.specs.Choice.{delays_fit, one_by_one, chosen_order, is_possible, least_figure, chosen_passes, passes_of_plan, PlannedIn, Planned}
 use Rattle.flight.specs.Chosen.{chosen_given, chosen_free, chosen_none, chosen_proper}
-use Rattle.flight.specs.Clauses.{SomeBlocks, Lent, PlanChosenPre, PlanInOrderPre, PlanBlocksPre, PassesAtPre, PassesAt}
+use Rattle.flight.specs.Clauses.{Lent, PlanChosenPre, PlanInOrderPre, PlanBlocksPre, PassesAtPre, PassesAt}
 use Rattle.flight.proofs.Copying.{none_at}
 use Rattle.flight_search.specs.declared.Incumbent.{Incumbent}
 use Rattle.flight.specs.declared.FlightPlan.{FlightPlan}
@@ -82,29 +81,14 @@ module _ (f : FlightSection) where
   given_order e = sym (chosen_given f e)
 
   module _ (fits : Bool) (d : fits ≡ delays_fit f f.blocks) (e : f.ordered ≡ false) where
-    pub searched_order : {b : Blocks} (best : Option Incumbent) → not fits ≡ false
-        → Lent f b → best ≡ searched (orders_of (section_of b)) (2 * b.count) 0 no_incumbent → order_of best ≡ chosen_order f
+    pub searched_order : (best : Option Incumbent) → not fits ≡ false
+        → best ≡ searched (orders_of (free_section f.blocks f.turn f.first f.second f.shortest f.longest)) (2 * f.blocks) 0 no_incumbent
+        → order_of best ≡ chosen_order f
     unfolding orders_of possible_in order_figure least_starts
-    searched_order {b} best h lent q =
-        ap order_of (q ∙ ap (λ (s : FlightSection). searched (orders_of s) (2 * s.blocks) 0 no_incumbent) lent.section) ∙ sym (chosen_free f e (sym d ∙ not-false fits h))
+    searched_order best h q = ap order_of q ∙ sym (chosen_free f e (sym d ∙ not-false fits h))
 
     pub order_unsearched : (w : ℕ) → not fits ≡ true → w ≡ one_by_one f.blocks → w ≡ chosen_order f
     order_unsearched w h q = q ∙ sym (chosen_none f e (sym d ∙ not-true fits h))
-
-  pub block_times : {b : Blocks} → SomeBlocks f → Lent f b → BlockTimes (section_of b)
-  block_times {b} pre lent = subst BlockTimes (sym lent.section) record {
-    some = pre.some;
-    few = pre.sound.most_blocks_holds;
-    turn_low = pre.sound.most_turn_holds;
-    first_long = omega (arith, pre.sound.first_length, pre.sound.most_blocks_holds);
-    second_long = omega (arith, pre.sound.second_length, pre.sound.most_blocks_holds);
-    shortest_long = omega (arith, pre.sound.shortest_length, pre.sound.most_blocks_holds);
-    longest_long = omega (arith, pre.sound.longest_length, pre.sound.most_blocks_holds);
-    first_low = λ i. omega (arith, pre.sound.most_first i);
-    second_low = λ i. omega (arith, pre.sound.most_second i);
-    shortest_low = λ i. omega (arith, pre.sound.window i, pre.sound.most_delay i);
-    longest_low = λ i. omega (arith, pre.sound.most_delay i);
-  }
 
 -- The plan in the chosen order is the plan.
 module _ (f : FlightSection) (w : ℕ) (chosen : w ≡ chosen_order f) where

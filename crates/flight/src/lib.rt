@@ -101,17 +101,25 @@ fn one_by_one(n: usize) -> u64
 
 // The given order, or the one that the search takes. Where a longest delay is shorter than the turn no order is possible, and none is
 // searched for.
-fn choose_order(f: &FlightSection) -> u64
-    requires { SomeBlocks f.now }
-    ensures { result ≡ chosen_order f.now }
+fn choose_order(section: &FlightSection) -> u64
+    requires { SomeBlocks section.now }
+    ensures { result ≡ chosen_order section.now }
 {
-    if f.ordered {
-        return f.order;
+    if section.ordered {
+        return section.order;
     }
-    if !delays_fit(f) {
-        return one_by_one(f.blocks);
+    if !delays_fit(section) {
+        return one_by_one(section.blocks);
     }
-    match flight_search::best_order(&blocks_of(f)) {
+    let blocks = Blocks {
+        count: section.blocks,
+        turn: section.turn,
+        first: &section.first,
+        second: &section.second,
+        shortest: &section.shortest,
+        longest: &section.longest,
+    };
+    match flight_search::best_order(&blocks) {
         Some(best) => best.order,
         None => 0,
     }

@@ -4,8 +4,8 @@ use Rattle.flight_search.specs.Search.{order_of}
 use Rattle.flight.proofs.Planning.{given_order, order_unsearched, searched_order}
 use Rattle.flight.proofs.choose_order.Goals as goal
 
-pub returns-then-f : goal.returns-then-f
-returns-then-f c = search given_order
+pub returns-then-section : goal.returns-then-section
+returns-then-section c = search given_order
 
 pub returns-then-not-delays_fit : goal.returns-then-not-delays_fit
 returns-then-not-delays_fit c = search order_unsearched
