@@ -1,5 +1,5 @@
 -- The chosen list comes before every other best list, so the chosen jobs are what is to be taken, and nothing else is.
-use Rattle.std.specs.Prelude.{◌≡◌, List, [], ◌∷◌, ◌⊎◌, ℕ, ◌*◌, ◌≤◌, ◌<◌, length}
+use Rattle.std.specs.Prelude.{◌≡◌, List, ◌⊎◌, ℕ, ◌<◌, length}
 use Rattle.std.proofs.Common.{sym, ◌∙◌, inl, inr, arith, ext_get_or}
 use Rattle.sheet.specs.declared.SortingSection.{SortingSection}
 use Rattle.sheet.specs.Sound.{SortingSound}

@@ -1,5 +1,5 @@
 -- What the planner's choice is, against the rules of the sorting (crate rules), for every sound section.
-use Rattle.std.specs.Prelude.{◌≡◌, refl, List, [], ◌∷◌, ◌⊎◌, ℕ, ◌*◌, ◌≤◌, ◌<◌, length, get_or}
+use Rattle.std.specs.Prelude.{◌≡◌, refl, List, [], ◌∷◌, ℕ, ◌*◌, ◌≤◌, ◌<◌, length, get_or}
 use Rattle.std.proofs.Common.{sym, ap, ◌∙◌, arith}
 use Rattle.sheet.specs.Limits.{most_desks, most_strips_of_desk}
 use Rattle.sheet.specs.declared.SortingSection.{SortingSection}

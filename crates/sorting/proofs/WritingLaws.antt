@@ -12,7 +12,8 @@ use Rattle.rules.specs.Sorting.{no_job}
 use Rattle.rules.specs.declared.Job.{Job}
 use Rattle.interleaving.specs.declared.State.{State}
 use Rattle.interleaving.specs.declared.Incumbent.{Incumbent}
-use Rattle.interleaving.specs.Search.{scanned, step_of, start_state, first_best}
+use Rattle.interleaving.specs.Instance.{scan_of}
+use Rattle.interleaving.specs.Search.{step_of, start_state, first_best}
 use Rattle.interleaving.proofs.SearchLaws.{step_left}
 use Rattle.interleaving.specs.Caps.{StepPre}
 use Rattle.interleaving.proofs.CapLaws.{step_pre_capped}
@@ -32,10 +33,10 @@ digit_start p = sym (div-one p)
 pub digit_more : (p i r : ℕ) → r ≡ p / 4 ^ i → r / 4 ≡ p / 4 ^ (i + 1)
 digit_more p i r e = rw (e, add-one i, pow-suc 4 i) (div-div-eq-div-mul p (4 ^ i) 4)
 
-pub job_is_next : (J : List ℕ) (s : State) (d : ℕ) {m : ℕ} → m ≡ max (get_or s.free d 0) (scanned J s d)
+pub job_is_next : (J : List ℕ) (s : State) (d : ℕ) {x m : ℕ} → x ≡ scan_of J d (get_or s.taken d 0) → m ≡ max (get_or s.free d 0) (s.time + x)
     → record { desk = d + 1; number = get_or s.taken d 0 + 1; scan = s.time; start = m } ≡ job_of J s d
 unfolding job_of
-job_is_next J s d e = rw e
+job_is_next J s d p e = rw (e, p)
 
 pub begun_start : {J : List ℕ} {b : Incumbent} {s : State} → PlanOfPre J b → s ≡ start_state J
     → Begun J b (record { figure = b.figure; count = 0; jobs = replicate 18 (record { desk = 0; number = 0; scan = 0; start = 0 }) }) s

@@ -1,7 +1,6 @@
 -- The list that the search chose leads through states in which each desk it names has a strip left, and ends at the least figure.
-use Rattle.std.specs.Prelude.{◌≡◌, List, ◌⊎◌}
-use Rattle.std.proofs.Common.{◌∙◌}
-use Prim.Native.Nat.{ℕ, ◌+◌, ◌-◌, ◌*◌, ◌^◌, ◌/◌, ◌%◌, ◌≤◌, ◌<◌}
+use Rattle.std.specs.Prelude.{◌≡◌, List}
+use Prim.Native.Nat.{ℕ, ◌+◌, ◌-◌, ◌<◌}
 use Rattle.interleaving.specs.declared.State.{State}
 use Rattle.interleaving.specs.Search.{start_state, first_best}
 use Rattle.sorting.specs.Plan.{reached, listed_desk}

@@ -1,7 +1,6 @@
 -- What holds along a way through the search: the states that a list of desks reaches, for any list that serves strips that are there.
-use Rattle.std.specs.Prelude.{◌≡◌, List}
-use Rattle.std.proofs.Common.{◌∙◌}
-use Prim.Native.Nat.{ℕ, ◌+◌, ◌-◌, ◌*◌, ◌^◌, ◌/◌, ◌≤◌, ◌<◌}
+use Rattle.std.specs.Prelude.{List}
+use Prim.Native.Nat.{ℕ, ◌<◌}
 use Rattle.interleaving.specs.declared.State.{State}
 use Rattle.interleaving.specs.Search.{StripLeft}
 use Rattle.sorting.specs.Plan.{reached}

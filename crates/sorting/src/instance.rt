@@ -9,6 +9,7 @@ pub fn instance_of(s: SortingSection) -> [u64; 57]
     requires { SortingSound s }
     ensures { result ≡ instance_of s }
 {
+    // From the last part to the first: the definition is one list before the next, so it is built from its end, and each store puts one part in front.
     let mut jobs = [0u64; 57];
     jobs[39..57].copy_from_slice(&s.weight);
     jobs[21..39].copy_from_slice(&s.desk);

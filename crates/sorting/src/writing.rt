@@ -24,7 +24,7 @@ fn next_job(jobs: &[u64], s: State, d: usize) -> Job
     ensures { result ≡ job_of jobs.now s d }
 {
     let i = s.taken[d];
-    let scanned = s.time + jobs[3 + (d * 6 + i)];
+    let scanned = s.time + interleaving::scan_time(jobs, d, i);
     Job {
         desk: d as u64 + 1,
         number: i as u64 + 1,

@@ -4,7 +4,7 @@ ghost use Rattle.interleaving.specs.Instance.{Instance};
 ghost use Rattle.interleaving.specs.Consistent.{Consistent};
 ghost use Rattle.sorting_bounds.specs.DeskBound.{desk_rest, desk_bound, rest_cap, bound_cap};
 
-use interleaving::{State, desk_time, scan_time, weight};
+use interleaving::{State, desk_time, scan_time};
 
 // The sum of weight times finishing time of what is left of desk d, as if the scanner served it alone.
 #[tactic(auto, using(crate::proofs::DeskBound::rest_none, crate::proofs::DeskBound::rest_more))]
@@ -18,7 +18,7 @@ fn desk_rest(jobs: &[u64], s: State, d: usize) -> u64
     for i in s.taken[d]..jobs[d] as usize {
         time += scan_time(jobs, d, i);
         free = free.max(time) + desk_time(jobs, d, i);
-        sum += weight(jobs, d, i) * free;
+        sum += jobs[3 + (d * 6 + i) + 36] * free;
     }
     sum
 }

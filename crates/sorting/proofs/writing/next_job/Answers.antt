@@ -3,4 +3,4 @@ use Rattle.sorting.proofs.WritingLaws.{job_is_next}
 use Rattle.sorting.proofs.writing.next_job.Goals as goal
 
 pub returns : goal.returns
-returns c = search job_is_next
+returns c = job_is_next _ _ _ c.scan_time.ensures c.max.ensures

@@ -6,14 +6,14 @@ use Rattle.sorting_bounds.proofs.desk_bound.desk_rest.Goals as goal
 pub overflow_add-free : goal.overflow_add-free
 overflow_add-free c = let h = rest_more c.requires.0 c.loop-i.invariant (omega arith) c.scan_time-time.ensures c.max.ensures c.desk_time.ensures refl in omega arith
 
-pub overflow_mul-sum : goal.overflow_mul-sum
-overflow_mul-sum c = let h = rest_more c.requires.0 c.loop-i.invariant (omega arith) c.scan_time-time.ensures c.max.ensures c.desk_time.ensures c.weight.ensures in omega arith
+pub overflow_mul-sum-in-loop-i : goal.overflow_mul-sum-in-loop-i
+overflow_mul-sum-in-loop-i c = let h = rest_more c.requires.0 c.loop-i.invariant (omega arith) c.scan_time-time.ensures c.max.ensures c.desk_time.ensures refl in omega arith
 
-pub overflow_add-sum : goal.overflow_add-sum
-overflow_add-sum c = let h = rest_more c.requires.0 c.loop-i.invariant (omega arith) c.scan_time-time.ensures c.max.ensures c.desk_time.ensures c.weight.ensures in omega arith
+pub overflow_add-sum-in-loop-i-3 : goal.overflow_add-sum-in-loop-i-3
+overflow_add-sum-in-loop-i-3 c = let h = rest_more c.requires.0 c.loop-i.invariant (omega arith) c.scan_time-time.ensures c.max.ensures c.desk_time.ensures refl in omega arith
 
 pub loop-i-preserved : goal.loop-i-preserved
-loop-i-preserved c = rest_more c.requires.0 c.loop-i.invariant (omega arith) c.scan_time-time.ensures c.max.ensures c.desk_time.ensures c.weight.ensures
+loop-i-preserved c = rest_more c.requires.0 c.loop-i.invariant (omega arith) c.scan_time-time.ensures c.max.ensures c.desk_time.ensures refl
 
 pub returns : goal.returns
 returns c = rest_all c.loop-i.invariant (omega arith)
