@@ -1,6 +1,6 @@
 -- Laws of the ranges: how one value after another decides the number, in a loop over the station times too, and that values read from the sheet are the ones
 -- that the field table names.
-use Rattle.std.specs.Prelude.{Result, ℕ, zero, suc, ◌+◌, ◌-◌, ◌*◌, ◌≤◌, ◌<◌, ◌^◌, ◌≡◌, cond, List, [], ◌∷◌, ◌++◌, eqb}
+use Rattle.std.specs.Prelude.{Result, Ok, Err, ℕ, zero, suc, ◌+◌, ◌-◌, ◌*◌, ◌≤◌, ◌<◌, ◌^◌, ◌≡◌, cond, List, [], ◌∷◌, ◌++◌, eqb}
 use Rattle.std.specs.Result.{IsErrAnd}
 use Rattle.std.proofs.Math.Path.{refl, sym, ap}
 use Rattle.std.proofs.Common.{subst, ◌∙◌}
@@ -26,7 +26,7 @@ use Rattle.sheet_ranges.specs.RangePre.{StripPre, WeightPre, RangePre}
 use Rattle.sheet.specs.Rows.{first_failure}
 use Rattle.sheet.proofs.RowLaws.{given_last}
 use Rattle.sheet.specs.Given.{number_of, number_given}
-use Rattle.sheet.proofs.GivenNumbers.{given_refused, given_nothing}
+use Rattle.sheet.proofs.GivenNumbers.{given_number, given_refused, given_nothing}
 use Rattle.sheet.specs.declared.refusals.Refusal.{Refusal}
 use Rattle.sheet.specs.Checks.{count_number, time_number, value_number, value_numbers, range_number}
 
@@ -148,7 +148,7 @@ range_behind : (values more : List Value) → range_number (values ++ more) ≡ 
 unfolding range_number
 range_behind values more = ap first_failure (numbers_behind values more) ∙ failure_behind (value_numbers values) (value_numbers more)
 
--- the weight of a strip
+-- the weight of a strip, and the strip by what its values before the weight give
 module _ (s : List ℕ) (c len others : ℕ) where
   pub weight_absent : len ≡ others → 0 ≡ range_number (weight_values s c len others)
   unfolding weight_values
@@ -158,6 +158,13 @@ module _ (s : List ℕ) (c len others : ℕ) where
       → r ≡ range_number (weight_values s c len others)
   unfolding weight_values value_number
   weight_there n w r read e = rw (ne_eqb len others n) (value_last _ r (e ∙ ap (λ x. count_number 1 x most_weight) read.is))
+
+module _ (before : Result (Unit {0}) Refusal) (weight : ℕ) where
+  pub before_decides : (refusal : Refusal) → before ≡ Err refusal → number_of refusal ≡ first_failure (number_given before ∷ weight ∷ [])
+  before_decides refusal e = given_number (weight ∷ []) _ refusal (sym (ap number_given e))
+
+  pub weight_decides : (u : Unit {0}) → before ≡ Ok u → (n : ℕ) → n ≡ weight → n ≡ first_failure (number_given before ∷ weight ∷ [])
+  weight_decides u e n h = given_nothing (weight ∷ []) _ n (sym (ap number_given e)) (given_last n _ h)
 
 -- an empty flight head has no value, and the pass order no range
 module _ (len turn : ℕ) where
@@ -203,28 +210,30 @@ module _ (s : List ℕ) (c tag len stations desks r : ℕ) (pre : RangePre c tag
   pub mosaic_weight_pre : tag ≡ mosaic_strip_tag → WeightPre c (2 * stations + 2)
   mosaic_weight_pre e = let p = strip_pre e in record { begins = pre.begins; soon = omega (arith, p.few_stations) }
 
-  mosaic_strip_parts : tag ≡ mosaic_strip_tag
-      → r ≡ first_failure (range_number (content_values s c (mosaic_strip stations)) ∷ range_number (weight_values s c len (2 * stations + 2)) ∷ [])
+  pub mosaic_strip_read : tag ≡ mosaic_strip_tag → (before : ℕ) → before ≡ range_number (content_values s c (mosaic_strip stations))
+      → r ≡ first_failure (before ∷ range_number (weight_values s c len (2 * stations + 2)) ∷ [])
       → r ≡ range_number (field_values s c tag len (field_table stations desks))
-  mosaic_strip_parts e h =
+  mosaic_strip_read e before b h =
       of_tag mosaic_strip_tag _ e (mosaic_strip_values s c len stations desks)
-      (h ∙ sym (range_behind (content_values s c (mosaic_strip stations)) (weight_values s c len (2 * stations + 2))))
+      (h ∙ ap (λ n. first_failure (n ∷ range_number (weight_values s c len (2 * stations + 2)) ∷ [])) b
+      ∙ sym (range_behind (content_values s c (mosaic_strip stations)) (weight_values s c len (2 * stations + 2))))
 
   pub sorting_head_read : tag ≡ sorting_head_tag → (m : ℕ) → NumberRead s c 1 m → r ≡ range_number (values_of sorting_head (m ∷ []))
       → r ≡ range_number (field_values s c tag len (field_table stations desks))
   sorting_head_read e m n h = of_tag sorting_head_tag _ e (sorting_head_values_lem s c len stations desks) (rw (← n.is) h)
 
-  module _ (e : tag ≡ sorting_strip_tag) (desk scan desk_time : ℕ) (n₁ : NumberRead s c 1 desk) (n₂ : NumberRead s (c + 1) 2 scan) (n₃ : NumberRead s (c + 3) 2 desk_time) where
-    sorting_strip_parts : r ≡ first_failure (range_number (values_of (sorting_strip desks) (desk ∷ scan ∷ desk_time ∷ [])) ∷ range_number (weight_values s c len 5) ∷ [])
-        → r ≡ range_number (field_values s c tag len (field_table stations desks))
-    sorting_strip_parts h =
-        of_tag sorting_strip_tag _ e (sorting_strip_values s c len stations desks)
-        (h ∙ ap (λ n. first_failure (n ∷ range_number (weight_values s c len 5) ∷ [])) read
-        ∙ sym (range_behind (values_of (sorting_strip desks) (number_at s c 1 ∷ number_at s (c + 1) 2 ∷ number_at s (c + 3) 2 ∷ [])) (weight_values s c len 5)))
-      where
-        read : range_number (values_of (sorting_strip desks) (desk ∷ scan ∷ desk_time ∷ []))
-            ≡ range_number (values_of (sorting_strip desks) (number_at s c 1 ∷ number_at s (c + 1) 2 ∷ number_at s (c + 3) 2 ∷ []))
-        read = rw (n₁.is, n₂.is, n₃.is)
+  pub sorting_strip_read : tag ≡ sorting_strip_tag → (desk scan desk_time : ℕ) → NumberRead s c 1 desk → NumberRead s (c + 1) 2 scan → NumberRead s (c + 3) 2 desk_time
+      → (before : ℕ) → before ≡ range_number (values_of (sorting_strip desks) (desk ∷ scan ∷ desk_time ∷ []))
+      → r ≡ first_failure (before ∷ range_number (weight_values s c len 5) ∷ [])
+      → r ≡ range_number (field_values s c tag len (field_table stations desks))
+  sorting_strip_read e desk scan desk_time n₁ n₂ n₃ before b h =
+      of_tag sorting_strip_tag _ e (sorting_strip_values s c len stations desks)
+      (h ∙ ap (λ n. first_failure (n ∷ range_number (weight_values s c len 5) ∷ [])) (b ∙ read)
+      ∙ sym (range_behind (values_of (sorting_strip desks) (number_at s c 1 ∷ number_at s (c + 1) 2 ∷ number_at s (c + 3) 2 ∷ [])) (weight_values s c len 5)))
+    where
+      read : range_number (values_of (sorting_strip desks) (desk ∷ scan ∷ desk_time ∷ []))
+          ≡ range_number (values_of (sorting_strip desks) (number_at s c 1 ∷ number_at s (c + 1) 2 ∷ number_at s (c + 3) 2 ∷ []))
+      read = rw (n₁.is, n₂.is, n₃.is)
 
   pub flight_head_read : tag ≡ flight_head_tag → (turn : ℕ) → NumberRead s c 2 turn
       → r ≡ range_number (cond (eqb len 0) [] (values_of turn_flight_head (turn ∷ []))) → r ≡ range_number (field_values s c tag len (field_table stations desks))
@@ -240,32 +249,6 @@ module _ (s : List ℕ) (c tag len stations desks r : ℕ) (pre : RangePre c tag
       → r ≡ range_number (field_values s c tag len (field_table stations desks))
   flight_window_block_read e a shortest longest b n₁ n₂ n₃ n₄ h =
       of_tag flight_window_block_tag _ e (flight_window_block_values s c len stations desks) (rw (← n₁.is, ← n₂.is, ← n₃.is, ← n₄.is) h)
-
--- a strip: what stands before its weight decides, or the weight does
-module _ (s : List ℕ) (c tag len stations desks : ℕ) (pre : RangePre c tag len stations desks) where
-  module _ (e : tag ≡ mosaic_strip_tag) where
-    pub mosaic_strip_refused : (r : Result (Unit {0}) Refusal) (refusal : Refusal) → IsErrAnd r (λ d. d ≡ refusal)
-        → number_of refusal ≡ range_number (content_values s c (mosaic_strip stations))
-        → number_given r ≡ range_number (field_values s c tag len (field_table stations desks))
-    mosaic_strip_refused r refusal h before =
-        mosaic_strip_parts s c tag len stations desks _ pre e (given_refused (range_number (weight_values s c len (2 * stations + 2)) ∷ []) _ r refusal h before)
-
-    pub mosaic_strip_weighed : (r : ℕ) → 0 ≡ range_number (content_values s c (mosaic_strip stations)) → r ≡ range_number (weight_values s c len (2 * stations + 2))
-        → r ≡ range_number (field_values s c tag len (field_table stations desks))
-    mosaic_strip_weighed r before w =
-        mosaic_strip_parts s c tag len stations desks r pre e (given_nothing (range_number (weight_values s c len (2 * stations + 2)) ∷ []) _ r before (given_last r _ w))
-
-  module _ (e : tag ≡ sorting_strip_tag) (desk scan desk_time : ℕ) (n₁ : NumberRead s c 1 desk) (n₂ : NumberRead s (c + 1) 2 scan) (n₃ : NumberRead s (c + 3) 2 desk_time) where
-    pub sorting_strip_refused : (r : Result (Unit {0}) Refusal) (refusal : Refusal) → IsErrAnd r (λ d. d ≡ refusal)
-        → number_of refusal ≡ range_number (values_of (sorting_strip desks) (desk ∷ scan ∷ desk_time ∷ []))
-        → number_given r ≡ range_number (field_values s c tag len (field_table stations desks))
-    sorting_strip_refused r refusal h before =
-        sorting_strip_parts s c tag len stations desks _ pre e desk scan desk_time n₁ n₂ n₃ (given_refused (range_number (weight_values s c len 5) ∷ []) _ r refusal h before)
-
-    pub sorting_strip_weighed : (r : ℕ) → 0 ≡ range_number (values_of (sorting_strip desks) (desk ∷ scan ∷ desk_time ∷ []))
-        → r ≡ range_number (weight_values s c len 5) → r ≡ range_number (field_values s c tag len (field_table stations desks))
-    sorting_strip_weighed r before w =
-        sorting_strip_parts s c tag len stations desks r pre e desk scan desk_time n₁ n₂ n₃ (given_nothing (range_number (weight_values s c len 5) ∷ []) _ r before (given_last r _ w))
 
 -- a field of any other tag has no value with a range
 module _ (s : List ℕ) (c tag len stations desks : ℕ) (pre : RangePre c tag len stations desks) where

@@ -9,6 +9,7 @@ ghost use Rattle.sheet.specs.FieldTable.{flight_window_block, content_values, fi
 ghost use Rattle.sheet.specs.Checks.{count_number, time_number, range_number};
 ghost use Rattle.sheet.specs.Contents.{weight_values};
 ghost use Rattle.sheet.specs.Given.{number_given};
+ghost use Rattle.sheet.specs.Rows.{first_failure};
 ghost use Rattle.sheet_ranges.specs.RangePre.{StripPre, WeightPre, RangePre};
 
 use field::{byte, number};
@@ -89,6 +90,23 @@ fn check_weight(s: &[u8], c: usize, length: usize, others: usize) -> Result<(), 
     check_count(1, byte(s, c + others), MOST_WEIGHT)
 }
 
+// A strip by what its values before the weight give: the weight is examined last.
+fn check_strip(
+    before: Result<(), Refusal>,
+    s: &[u8],
+    c: usize,
+    length: usize,
+    others: usize,
+) -> Result<(), Refusal>
+    requires { WeightPre c others }
+    ensures { number_given result ≡ first_failure (number_given before ∷ range_number (weight_values s.now c length others) ∷ []) }
+{
+    match before {
+        Ok(()) => check_weight(s, c, length, others),
+        Err(refusal) => Err(refusal),
+    }
+}
+
 // A flight head: an empty one has no value, one with a turn has that.
 fn check_flight_head(length: usize, turn: u64) -> Result<(), Refusal>
     ensures { number_given result ≡ range_number (cond (eqb length 0) [] (values_of turn_flight_head (turn ∷ []))) }
@@ -137,14 +155,14 @@ pub fn check_ranges(
     match tag {
         MOSAIC_HEAD => check_mosaic_head(byte(s, c), number(s, c + 1, 2)),
         MOSAIC_STRIP => {
-            check_mosaic_strip(s, c, stations)?;
-            check_weight(s, c, length, 2 * stations + 2)
+            let before = check_mosaic_strip(s, c, stations);
+            check_strip(before, s, c, length, 2 * stations + 2)
         }
         SORTING_HEAD => check_sorting_head(byte(s, c)),
         SORTING_STRIP => {
             let (scan, time) = (number(s, c + 1, 2), number(s, c + 3, 2));
-            check_sorting_strip(desks as u64, byte(s, c), scan, time)?;
-            check_weight(s, c, length, 5)
+            let before = check_sorting_strip(desks as u64, byte(s, c), scan, time);
+            check_strip(before, s, c, length, 5)
         }
         FLIGHT_HEAD => check_flight_head(length, number(s, c, 2)),
         FLIGHT_BLOCK => {

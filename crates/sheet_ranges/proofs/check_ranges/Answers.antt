@@ -1,15 +1,11 @@
 -- `check_ranges` meets its contract: one case a tag: the values tested are those that stand in the content.
 use Rattle.sheet_ranges.specs.RangeLaws.{strip_pre, strip_doubled, strip_others, mosaic_weight_pre}
-use Rattle.sheet_ranges.specs.RangeLaws.{mosaic_strip_refused, mosaic_strip_weighed, sorting_strip_refused, sorting_strip_weighed}
-use Rattle.sheet_ranges.specs.RangeLaws.{mosaic_head_read, sorting_head_read, flight_head_read, flight_block_read, flight_window_block_read, no_values_read}
+use Rattle.sheet_ranges.specs.RangeLaws.{mosaic_head_read, mosaic_strip_read, sorting_head_read, sorting_strip_read, flight_head_read, flight_block_read, flight_window_block_read, no_values_read}
 use borrow.Author.Rules.{rules}
 use Rattle.sheet_ranges.proofs.check_ranges.Goals as goal
 
-pub check_mosaic_strip-requires : goal.check_mosaic_strip-requires
-check_mosaic_strip-requires c = search (strip_pre, rules)
-
-pub returns-in_err-check_mosaic_strip-in-17 : goal.returns-in_err-check_mosaic_strip-in-17
-returns-in_err-check_mosaic_strip-in-17 c = search (mosaic_strip_refused, c.in_err-check_mosaic_strip-in-17.ensures)
+pub check_mosaic_strip-before-requires : goal.check_mosaic_strip-before-requires
+check_mosaic_strip-before-requires c = search (strip_pre, rules)
 
 pub overflow_mul-stations : goal.overflow_mul-stations
 overflow_mul-stations c = search strip_doubled
@@ -17,23 +13,20 @@ overflow_mul-stations c = search strip_doubled
 pub overflow_add-stations : goal.overflow_add-stations
 overflow_add-stations c = search strip_others
 
-pub check_weight-requires : goal.check_weight-requires
-check_weight-requires c = search mosaic_weight_pre
-
-pub returns-in_ok-check_mosaic_strip-in-17 : goal.returns-in_ok-check_mosaic_strip-in-17
-returns-in_ok-check_mosaic_strip-in-17 c = search (mosaic_strip_weighed, c.in_ok-check_mosaic_strip-in-17.ensures)
-
-pub returns-in_err-check_sorting_strip-in-33 : goal.returns-in_err-check_sorting_strip-in-33
-returns-in_err-check_sorting_strip-in-33 c = search (sorting_strip_refused, c.in_err-check_sorting_strip-in-33.ensures)
-
-pub returns-in_ok-check_sorting_strip-in-33 : goal.returns-in_ok-check_sorting_strip-in-33
-returns-in_ok-check_sorting_strip-in-33 c = search (sorting_strip_weighed, c.in_ok-check_sorting_strip-in-33.ensures)
+pub check_strip-requires : goal.check_strip-requires
+check_strip-requires c = search mosaic_weight_pre
 
 pub returns-in-16 : goal.returns-in-16
 returns-in-16 c = search mosaic_head_read
 
+pub returns-in-17 : goal.returns-in-17
+returns-in-17 c = search mosaic_strip_read
+
 pub returns-in-32 : goal.returns-in-32
 returns-in-32 c = search sorting_head_read
+
+pub returns-in-33 : goal.returns-in-33
+returns-in-33 c = search sorting_strip_read
 
 pub returns-in-48 : goal.returns-in-48
 returns-in-48 c = search flight_head_read

@@ -1,7 +1,7 @@
 -- `read_fields` meets its contract: each goal is a law of the loop.
 use denote.Ref.{Bor}
 use Rattle.std.specs.Prelude.{ℕ, List}
-use Rattle.std.proofs.Common.{ap}
+use Rattle.std.proofs.Common.{ap, arith}
 use Rattle.sheet_reader.specs.Loop.{reading_first, cut_refused, field_pre, field_refused, reading_pre, reading_next, reading_less, end_refused, end_accepted}
 use Rattle.sheet_reader.proofs.read_fields.Goals as goal
 
@@ -10,7 +10,8 @@ loop-reader-init c = reading_first _ _ _ _ (ap (λ (s : Bor (List ℕ)). s.now) 
 
 pub returns-in_default : goal.returns-in_default
 returns-in_default c =
-    cut_refused _ _ _ _ c.loop-reader.invariant _ c.next_field.ensures c.loop-reader-test.true c.in_default.not-Whole _ c.new.ensures
+    let place = c.loop-reader.invariant.same_place in
+    cut_refused _ _ _ _ c.loop-reader.invariant _ c.next_field.ensures (omega (arith, c.loop-reader-test.true)) c.in_default.not-Whole _ c.new.ensures
 
 pub check_field-requires : goal.check_field-requires
 check_field-requires c = field_pre _ _ _ _ c.loop-reader.invariant _ c.next_field.ensures _ _ c.in-Whole.is
