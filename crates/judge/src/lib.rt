@@ -10,7 +10,8 @@ ghost use Rattle.judge.specs.Loops.{SectionPre, SectionsPre};
 
 use judge_layout::{Part, flight_part, layout_verdict, mosaic_part, sorting_part};
 use judge_members::{
-    after_member, begin, check_head, head_figure, is_present, member_follows, member_place,
+    FLIGHT, MOSAIC, SORTING, after_member, begin, check_head, head_figure, is_present,
+    member_follows, member_place,
 };
 use sheet::Sheet;
 use sheet::refusals::{Refusal, Refused};
@@ -62,14 +63,14 @@ fn no_part() -> Part
     }
 }
 
-// The section of a plan by its number: 1, mosaic; 2, sorting; 3, flight.
+// The section of a plan by its number.
 #[tactic(auto, unfolding(crate::specs::Judged::pick_part))]
 fn pick_part(section: u64, mosaic: Part, sorting: Part, flight: Part) -> Part
     ensures { result ≡ pick_part section mosaic sorting flight }
 {
     match section {
-        1 => mosaic,
-        2 => sorting,
+        MOSAIC => mosaic,
+        SORTING => sorting,
         _ => flight,
     }
 }
@@ -86,7 +87,7 @@ fn judge_sections(
     ensures { verdict_of result ≡ sections_from 3 s plan.now 1 }
 {
     'sections: {
-        for section in 1..=3 {
+        for section in MOSAIC..=FLIGHT {
             if !is_present(s, section) {
                 continue;
             }
@@ -143,9 +144,9 @@ fn judge_plan(
     Ok(Judged {
         number: 0,
         place: 0,
-        mosaic: stated_figure(s, plan, 1, mosaic),
-        sorting: stated_figure(s, plan, 2, sorting),
-        flight: stated_figure(s, plan, 3, flight),
+        mosaic: stated_figure(s, plan, MOSAIC, mosaic),
+        sorting: stated_figure(s, plan, SORTING, sorting),
+        flight: stated_figure(s, plan, FLIGHT, flight),
     })
 }
 

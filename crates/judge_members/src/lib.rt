@@ -36,7 +36,14 @@ pub struct Progress {
     pub figure: u64,
 }
 
-// A section, by its number. Any number but 1 and 2 counts as the flight's.
+// The numbers of a plan's sections.
+pub const MOSAIC: u64 = 1;
+
+pub const SORTING: u64 = 2;
+
+pub const FLIGHT: u64 = 3;
+
+// A section, by its number. Any number but the mosaic's and the sorting's counts as the flight's.
 #[derive(Clone, Copy)]
 enum Section {
     Mosaic,
@@ -49,8 +56,8 @@ impl From<u64> for Section {
 
     fn from(number: u64) -> Section {
         match number {
-            1 => Section::Mosaic,
-            2 => Section::Sorting,
+            MOSAIC => Section::Mosaic,
+            SORTING => Section::Sorting,
             _ => Section::Flight,
         }
     }
