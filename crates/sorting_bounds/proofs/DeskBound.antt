@@ -1,7 +1,7 @@
 -- The first lower bound: the cost so far, and the rest of each desk as if the scanner served that desk alone. A step never lowers it.
 use Rattle.std.specs.Prelude.{◌≡◌, refl, List}
-use Rattle.std.proofs.Common.{ap, ◌∙◌, le_refl, le_trans, mul-le-mul_left, mul-le-mul_right, arith}
-use Prim.Native.Nat.{ℕ, zero, suc, ◌+◌, ◌-◌, ◌*◌, ◌≤◌, ◌<◌, max}
+use Rattle.std.proofs.Common.{ap, subst, ◌∙◌, le_refl, le_trans, mul-le-mul_left, mul-le-mul_right, arith}
+use Prim.Native.Nat.{ℕ, zero, suc, ◌+◌, ◌-◌, ◌*◌, ◌^◌, ◌≤◌, ◌<◌, max}
 use Rattle.std.proofs.Math.ListN.{get_or}
 use Rattle.std.proofs.Math.Seq.{get_or-set_same, get_or-set_other}
 use Rattle.interleaving.specs.declared.State.{State}
@@ -125,6 +125,33 @@ rest_more {J} {z} {d} {i} {t} {f} {sum} {x} {v} {y} {w} j h l p q r u = rw (u, r
     weighted_small : weight_of J d i * (max f (t + scan_of J d i) + desk_of J d i) ≤ rest_span
     weighted_small =
         le_trans (mul-le-mul_right (max f (t + scan_of J d i) + desk_of J d i) (j.light (d * 6 + i))) (omega (arith, h.six, greater_small, desk_small))
+
+-- whatever number of the section weighs a strip, no sum wraps
+module _ {J : List ℕ} {z d i t f sum n x v y : ℕ} (j : Instance J) (h : RestSoFar J z d i t f sum) (l : i < get_or J d 0) (behind : 3 ≤ n) (p : x ≡ scan_of J d i)
+    (q : v ≡ max f (t + x)) (r : y ≡ desk_of J d i) where
+  product_small : get_or J n 0 * (v + y) ≤ time_cap * (free_cap + 8 * strip_span)
+  product_small = le_trans (mul-le-mul_right (v + y) small) (omega (arith, h.six, greater_small, desk_small, r))
+    where
+      there : 3 + (n - 3) ≡ n
+      there = omega arith
+
+      small : get_or J n 0 ≤ time_cap
+      small = subst (λ (k : ℕ). get_or J k 0 ≤ time_cap) there (j.small (n - 3))
+
+      desk_small : desk_of J d i ≤ time_cap
+      desk_small = desk_capped j d i
+
+      scan_small : scan_of J d i ≤ time_cap
+      scan_small = j.small (d * 6 + i)
+
+      greater_small : v ≤ free_cap + i * strip_span + time_cap
+      greater_small = rw q (max_least f (t + x) _ (omega (arith, h.free)) (omega (arith, h.time, p, scan_small)))
+
+  pub product_fits : get_or J n 0 * (v + y) < 2 ^ 64
+  product_fits = omega (arith, product_small)
+
+  pub sum_fits : sum + get_or J n 0 * (v + y) < 2 ^ 64
+  sum_fits = omega (arith, product_small, h.sums, h.six)
 
 pub rest_all : {J : List ℕ} {z d i t f sum : ℕ} → RestSoFar J z d i t f sum → get_or J d 0 ≤ i → (sum ≡ z) × (sum ≤ rest_cap)
 rest_all {J} {z} {d} {i} {t} {f} h l = (omega (arith, h.is, alone_none J d (get_or J d 0) i t f l), omega (arith, h.sums, h.six, h.within))

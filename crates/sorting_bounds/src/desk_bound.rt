@@ -18,6 +18,7 @@ fn desk_rest(jobs: &[u64], s: State, d: usize) -> u64
     for i in s.taken[d]..jobs[d] as usize {
         time += scan_time(jobs, d, i);
         free = free.max(time) + desk_time(jobs, d, i);
+        // The weight by its place in the list and not by `weight`: a wrong place here is wrong in this bound alone, and is refused here.
         sum += jobs[3 + (d * 6 + i) + 36] * free;
     }
     sum
