@@ -4,13 +4,13 @@ ghost use Rattle.batching.specs.Input.{Input};
 // The strips that are batched, as the tables read them (in the literature: an instance, whose jobs they are).
 #[derive(Clone, Copy)]
 pub struct Strips<'a> {
-    // when strip q is ready (its release date), at q - 1
+    // When strip q is ready (its release date), at q - 1.
     pub ready: &'a [u64],
-    // the bench times (processing times) of the first q strips, added up, at q
+    // The bench times (processing times) of the first q strips, added up, at q.
     pub bench_sums: &'a [u64],
-    // their weights, added up alike
+    // Their weights, added up alike.
     pub weight_sums: &'a [u64],
-    // how long a mount takes (the setup time of a batch)
+    // How long a mount takes (the setup time of a batch).
     pub mount: u64,
     pub count: usize,
     ghost input: { Input ready.now bench_sums.now weight_sums.now mount count },

@@ -41,6 +41,10 @@ fn main(rt: HostRuntime) {
         return;
     }
     let mut out = [0u8; PAGE_LENGTH];
-    let written = reply(&sheet[..sheet_read.length], &plan[..plan_read.length], &mut out);
+    let written = reply(
+        &sheet[..sheet_read.length],
+        &plan[..plan_read.length],
+        &mut out,
+    );
     files::write_output(&mut err, &mut rt.stdout(), b"print_page", &out[..written]);
 }

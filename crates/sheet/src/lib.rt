@@ -1,4 +1,4 @@
-// The sheet: its limits, its tags, its refusal numbers, and what reading one gives.
+// The sheet: its limits, its tags, its refusals, and what reading one gives.
 #![tactic(auto)]
 
 pub mod desks;
