@@ -42,7 +42,7 @@ module _ {x : Strips} {late₀ row₀ : List ℕ} {i : ℕ} (P : FillLateAfterPr
     module _ {row₁ : List ℕ} {figure : ℕ} (R : RowFilled x row row₁ begin i q) (e : figure ≡ closed_figure x row₁ begin i q) where
       new_is : (p : ℕ) → p ≡ q → get_or (set late (width * i + q) figure) (width * i + p) 0 ≡ closed_at (instance_in x) (get_or x.ready.now (p - 1) 0) i p
       new_is p z =
-          rw z (get_or-set_same late (width * i + q) figure 0 (omega (arith, P.later.long, M.late_len, x.input.most_strips_holds, P.inside)) ∙ e
+          rw z (get_or-set_same late (width * i + q) figure 0 (omega (arith, P.late_long, M.late_len, x.input.most_strips_holds, P.inside)) ∙ e
           ∙ closed_figure_is x row₁ begin i q (row_is (q - 1) R))
 
       pub after_step : LateSoFar x late₀ row₀ (set late (width * i + q) figure) row₁ i (q + 1)
@@ -79,7 +79,7 @@ module _ {x : Strips} {late₀ late row late₁ : List ℕ} {i : ℕ} (M : AllSo
 
   pub all_step : {row₁ : List ℕ} → length late₁ ≡ length late → length row₁ ≡ length row → AllSoFar x late₀ late₁ row₁ (i - 1)
   all_step e f = record {
-    later = record { long = omega (arith, e, M.later.long); at = filled_at };
+    later = record { at = filled_at };
     kept = λ k g. A.kept k (g (i - 1)) ∙ M.kept k g;
     to = omega (arith, M.to);
     late_len = e ∙ M.late_len;

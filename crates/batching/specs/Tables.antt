@@ -62,12 +62,12 @@ pub record RowIs (x : Strips) (row : List ℕ) (begin i lo : ℕ) : Type 0 where
 
 -- the entries of `late` for batches of the strips after lo or a later strip
 pub record LateFrom (x : Strips) (late : List ℕ) (lo : ℕ) : Type 0 where
-  pub long : late_length ≤ length late
   pub at : (i q : ℕ) → lo ≤ i → i < q → q ≤ x.count → get_or late (width * i + q) 0 ≡ closed_at (instance_in x) (get_or x.ready.now (q - 1) 0) i q
 
 -- what `fill_row` asks
 pub record FillRowPre (x : Strips) (late row : List ℕ) (begin i lo : ℕ) : Type 0 where
   pub later : LateFrom x late lo
+  pub late_long : late_length ≤ length late
   pub next : RowIs x row (begin + x.mount) i (lo + 1)
   pub row_long : x.count < length row
   pub most_begin : begin ≤ block_cap
@@ -84,6 +84,7 @@ pub record RowFilled (x : Strips) (row₀ row₁ : List ℕ) (begin i lo : ℕ) 
 -- what `fill_block` asks
 pub record FillBlockPre (x : Strips) (late row : List ℕ) (begin i lo : ℕ) : Type 0 where
   pub later : LateFrom x late lo
+  pub late_long : late_length ≤ length late
   pub row_long : x.count < length row
   pub from : i ≤ lo
   pub inside : lo ≤ x.count
@@ -92,6 +93,7 @@ pub record FillBlockPre (x : Strips) (late row : List ℕ) (begin i lo : ℕ) : 
 -- what `fill_late_after` asks, and does: the entries of the batches of the strips after i are written, the others are as they were
 pub record FillLateAfterPre (x : Strips) (late row : List ℕ) (i : ℕ) : Type 0 where
   pub later : LateFrom x late (i + 1)
+  pub late_long : late_length ≤ length late
   pub row_long : x.count < length row
   pub inside : i < x.count
 
@@ -108,6 +110,7 @@ pub record LateFilled (x : Strips) (late₀ late₁ : List ℕ) : Type 0 where
 -- what `first_batch` asks
 pub record FirstBatchPre (x : Strips) (late : List ℕ) (free i : ℕ) : Type 0 where
   pub later : LateFrom x late i
+  pub late_long : late_length ≤ length late
   pub most_free_holds : free + x.mount ≤ begin_cap
   pub inside : i < x.count
 

@@ -127,7 +127,7 @@ fit_inside f = record { some = f.some; from_in = f.from_in; to_in = f.to_in }
 
 -- The same as the code does it: m, the length of the values that were set to zeros, is n, that of those that were lent.
 module _ {n : ℕ} {rows : List Constraint} {t : List ℕ} {r : ℕ} (fit : SolvePre n rows) (inv : InRounds (system_of n rows) t r) where
-  rounds_same_length : length t ≡ n
+  pub rounds_same_length : length t ≡ n
   rounds_same_length = ap length inv.values ∙ rounds_length (system_of n rows) r
 
   pub round_ready : RoundPre t rows

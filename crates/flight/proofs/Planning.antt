@@ -2,12 +2,13 @@
 use mathlib.Core.Path.{◌≡◌, refl, sym, ap, subst, ◌∙◌}
 use mathlib.Core.Bool.{Bool, true, false, not}
 use mathlib.Core.List.{List}
-use Prim.Native.Nat.{ℕ, ◌+◌, ◌-◌, ◌*◌, ◌^◌, ◌<◌}
+use Prim.Native.Nat.{ℕ, ◌+◌, ◌-◌, ◌*◌, ◌^◌, ◌≤◌, ◌<◌}
 use native.Mathlib.Omega.{arith}
 use lib.ListN.{length, get_or, take, replicate}
 use lib.Seq.{length-take-le}
+use Rattle.std.proofs.Common.{length-take}
 use borrow.Author.Tests.{ne_eqb, not-true, not-false}
-use Rattle.base.specs.Listed.{listed}
+use Rattle.base.specs.Listed.{listed, listed_length, listed_taken}
 use Rattle.order.specs.Order.{Proper}
 use Rattle.difference.specs.System.{value}
 use Rattle.sheet.specs.Sound.{FlightSound}
@@ -33,7 +34,7 @@ use Rattle.flight_search.specs.declared.Incumbent.{Incumbent}
 use Rattle.flight.specs.declared.FlightPlan.{FlightPlan}
 
 module _ (f : FlightSection) (w : ℕ) {rows₀ : List Constraint} {starts₀ : List ℕ} (pre : PlanInOrderPre f w rows₀ starts₀) where
-  least_starts_pre : LeastStartsPre (ordered_flight f.blocks w f.turn f.first f.second f.shortest f.longest) rows₀ starts₀
+  pub least_starts_pre : LeastStartsPre (ordered_flight f.blocks w f.turn f.first f.second f.shortest f.longest) rows₀ starts₀
   least_starts_pre = record {
     room = record { good = sound_good f w pre.plan.blocks.sound pre.plan.blocks.some pre.proper; rows_length = pre.plan.rows_length };
     starts_length = pre.plan.starts_length;
@@ -53,6 +54,10 @@ module _ (f : FlightSection) (w : ℕ) {rows₀ : List Constraint} {starts₀ : 
     pub passes_at_pre : length starts ≡ length starts₀ → PassesAtPre starts f.blocks
     passes_at_pre e = record { few = pre.plan.blocks.sound.most_blocks_holds; within = omega (arith, pre.plan.starts_length, e) }
 
+    blocks_long : (blocks : List Passes) → PassesAt starts f.blocks f.blocks blocks → f.blocks ≤ length blocks
+    blocks_long blocks a =
+        omega (arith, length-take f.blocks blocks, ap length a.passes, listed_length {A = Passes} f.blocks (λ k. record { first = value starts k; second = value starts (f.blocks + k) }))
+
     pub plan_made : (blocks : List Passes) → PassesAt starts f.blocks f.blocks blocks
         → PlannedIn f w
         (record { possible = found; figure = get_or starts (2 * f.blocks - 1) 0 + get_or f.second (f.blocks - 1) 0; order = w; blocks = blocks })
@@ -62,7 +67,8 @@ module _ (f : FlightSection) (w : ℕ) {rows₀ : List Constraint} {starts₀ : 
       figure = rw (ne_eqb f.blocks 0 (λ e. omega (arith, pre.plan.blocks.some)), least.starts);
       order = refl;
       passes =
-          a.passes ∙ ap (λ (t : List ℕ). listed f.blocks (λ i. record { first = value t i; second = value t (f.blocks + i) })) least.starts;
+          listed_taken f.blocks blocks no_passes (blocks_long blocks a)
+          ∙ a.passes ∙ ap (λ (t : List ℕ). listed f.blocks (λ i. record { first = value t i; second = value t (f.blocks + i) })) least.starts;
       no_more = a.no_more;
     }
 
@@ -100,10 +106,10 @@ module _ (f : FlightSection) (w : ℕ) (chosen : w ≡ chosen_order f) where
   plan_chosen r p = subst (λ (z : ℕ). PlannedIn f z r) chosen p
 
 module _ (f : FlightSection) (rows : List Constraint) (starts : List ℕ) (pre : PlanBlocksPre f rows starts) where
-  rows_part : 4 * f.blocks - 1 ≡ length (take (4 * f.blocks - 1) rows)
+  pub rows_part : 4 * f.blocks - 1 ≡ length (take (4 * f.blocks - 1) rows)
   rows_part = sym (length-take-le (4 * f.blocks - 1) rows (omega (arith, pre.rows_long, pre.blocks.sound.most_blocks_holds)))
 
-  starts_part : 2 * f.blocks ≡ length (take (2 * f.blocks) starts)
+  pub starts_part : 2 * f.blocks ≡ length (take (2 * f.blocks) starts)
   starts_part = sym (length-take-le (2 * f.blocks) starts (omega (arith, pre.starts_long, pre.blocks.sound.most_blocks_holds)))
 
   pub plan_chosen_pre : PlanChosenPre f (take (4 * f.blocks - 1) rows) (take (2 * f.blocks) starts)

@@ -1,6 +1,7 @@
 -- The plan: its order, which is the given one or the one that the search takes, and the least starts in that order. Where no order is given and none is
 -- possible, which the longest delays tell, there is no search.
-use Rattle.std.specs.Prelude.{◌≡◌, Bool, true, false, ◌&&◌, List, ℕ, zero, suc, ◌+◌, ◌*◌, ◌^◌, ◌≤◌, leb, get_or, take}
+use Rattle.std.specs.Prelude.{◌≡◌, Bool, true, false, ◌&&◌, List, ℕ, zero, suc, ◌+◌, ◌*◌, ◌^◌, ◌≤◌, leb, get_or}
+use Rattle.base.specs.Listed.{listed}
 use Rattle.sheet.specs.declared.FlightSection.{FlightSection}
 use Rattle.rules.specs.Flight.{no_passes}
 use Rattle.rules.specs.declared.Passes.{Passes}
@@ -42,7 +43,7 @@ chosen_passes f = least_passes f (chosen_order f)
 
 -- The passes of the n blocks of a plan: the first entries of its array.
 unfoldable pub passes_of_plan : ℕ → FlightPlan → List Passes
-passes_of_plan n r = take n r.blocks
+passes_of_plan n r = listed n (λ k. get_or r.blocks k no_passes)
 
 -- A plan r of the flight f says this: whether it is possible, its figure, its order, and its passes, with zeros after them.
 pub record PlanSays (f : FlightSection) (p : Bool) (v w : ℕ) (ps : List Passes) (r : FlightPlan) : Type 0 where

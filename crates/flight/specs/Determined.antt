@@ -1,8 +1,9 @@
 -- The contract of `plan_flight` determines the plan: the passes of the blocks stand in the first entries of its array, and zeros after them.
 use Rattle.std.specs.Prelude.{◌≡◌, List, ℕ, ◌<◌, length, get_or}
 use Rattle.std.proofs.Common.{ap, ◌∙◌, sym, arith}
-use Rattle.std.proofs.lemmas.List.{ext_get_or, get_or-take}
+use Rattle.std.proofs.lemmas.List.{ext_get_or}
 use Rattle.std.proofs.Math.Decide.{dec_lt}
+use Rattle.base.specs.Listed.{listed_at}
 use Rattle.sheet.specs.declared.FlightSection.{FlightSection}
 use Rattle.rules.specs.Flight.{no_passes}
 use Rattle.rules.specs.declared.Passes.{Passes}
@@ -13,9 +14,9 @@ module _ {f : FlightSection} {p r : FlightPlan} (P : Planned f p) (R : Planned f
   same_passes : (i : ℕ) → i < f.blocks → get_or p.blocks i no_passes ≡ get_or r.blocks i no_passes
   unfolding passes_of_plan
   same_passes i l =
-      sym (get_or-take f.blocks p.blocks i no_passes l)
+      sym (listed_at f.blocks (λ k. get_or p.blocks k no_passes) i no_passes l)
       ∙ ap (λ (ps : List Passes). get_or ps i no_passes) (P.passes ∙ sym R.passes)
-      ∙ get_or-take f.blocks r.blocks i no_passes l
+      ∙ listed_at f.blocks (λ k. get_or r.blocks k no_passes) i no_passes l
 
   same_blocks : length p.blocks ≡ length r.blocks → p.blocks ≡ r.blocks
   same_blocks len = ext_get_or no_passes p.blocks r.blocks len (λ i h. elim (dec_lt i f.blocks) [

@@ -1,5 +1,5 @@
 -- The batches are written one after another: those written, and those that the recursion takes after them, are those that it takes from the start.
-use mathlib.Core.Path.{◌≡◌, refl, ◌∙◌, sym}
+use mathlib.Core.Path.{◌≡◌, refl, ◌∙◌, sym, ap}
 use mathlib.Core.List.{List, [], ◌∷◌, ◌++◌, append_assoc, append-nil}
 use Prim.Native.Nat.{ℕ, zero, suc, ◌+◌, ◌*◌, ◌-◌, ◌≤◌, ◌<◌, ◌^◌, max}
 use native.Mathlib.Nat.{mul-le-mul}
@@ -7,6 +7,7 @@ use native.Mathlib.Omega.{arith}
 use lib.ListN.{get_or, set, length-set, replicate, length-replicate}
 use lib.Seq.{get_or-set_other}
 use Rattle.std.proofs.lemmas.List.{take_more_set}
+use Rattle.base.specs.Listed.{listed, listed_taken}
 use Rattle.rules.specs.Mosaic.{no_batch}
 use Rattle.rules.specs.declared.Batch.{Batch}
 use Rattle.batching.specs.Least.{bench_start, finish_of}
@@ -44,14 +45,18 @@ plan_added {plan} {weight} {batch} P = record {
   sized = length-set plan.batches plan.count batch ∙ P.sized;
   figure = refl;
   one_more = refl;
-  batches = take_more_set plan.batches plan.count batch (omega (arith, P.few, P.sized));
+  batches =
+      listed_taken (plan.count + 1) (set plan.batches plan.count batch) no_batch
+      (omega (arith, P.few, P.sized, length-set plan.batches plan.count batch))
+      ∙ take_more_set plan.batches plan.count batch (omega (arith, P.few, P.sized))
+      ∙ ap (λ (bs : List Batch). bs ++ (batch ∷ [])) (sym (listed_taken plan.count plan.batches no_batch (omega (arith, P.few, P.sized))));
   no_more = λ N k h. get_or-set_other plan.batches plan.count k batch no_batch (omega arith) ∙ N k (omega arith);
 }
 
 module _ {x : Strips} where
   pub plan_start : PlanSoFar x
       (record { figure = 0; count = 0; batches = replicate 40 (record { last = 0; start = 0; finish = 0 }) }) 0 0
-  unfolding batches_of no_batch
+  unfolding batches_of listed no_batch
   plan_start = record {
     sized = length-replicate {A = Batch} 40 no_batch;
     no_more = λ k h. none_at 40 k;

@@ -2,9 +2,10 @@
 use Rattle.std.specs.Prelude.{◌≡◌, ℕ, ◌<◌, get_or}
 use Rattle.std.proofs.Math.Path.{ap, sym}
 use Rattle.std.proofs.Common.{◌∙◌, arith}
-use Rattle.std.proofs.lemmas.List.{ext_get_or, get_or-take}
+use Rattle.std.proofs.lemmas.List.{ext_get_or}
 use Rattle.std.proofs.Math.Decide.{dec_lt}
 use mathlib.Core.List.{List}
+use Rattle.base.specs.Listed.{listed_at}
 use Rattle.sheet.specs.declared.MosaicSection.{MosaicSection}
 use Rattle.rules.specs.Mosaic.{no_batch}
 use Rattle.rules.specs.declared.Batch.{Batch}
@@ -19,9 +20,9 @@ module _ {m : MosaicSection} {p r : MosaicPlan} (P : Planned m p) (R : Planned m
   same_batch : (k : ℕ) → k < p.count → get_or p.batches k no_batch ≡ get_or r.batches k no_batch
   unfolding batches_of
   same_batch k h =
-      sym (get_or-take p.count p.batches k no_batch h)
+      sym (listed_at p.count (λ j. get_or p.batches j no_batch) k no_batch h)
       ∙ ap (λ (bs : List Batch). get_or bs k no_batch) (P.batches ∙ sym R.batches)
-      ∙ get_or-take r.count r.batches k no_batch (omega (arith, same_count))
+      ∙ listed_at r.count (λ j. get_or r.batches j no_batch) k no_batch (omega (arith, same_count))
 
   same_batches : p.batches ≡ r.batches
   same_batches = ext_get_or no_batch p.batches r.batches (S ∙ sym T) (λ k h. elim (dec_lt k p.count) [

@@ -5,11 +5,11 @@ use Prim.Native.Nat.{ℕ, ◌+◌, ◌-◌, ◌≤◌}
 use native.Mathlib.Decide.{dec_lt}
 use native.Mathlib.Omega.{arith}
 use lib.ListN.{length, get_or, get_or-eq_default}
-use Rattle.std.proofs.lemmas.List.{length-take-le}
+use Rattle.base.specs.Listed.{listed_length}
 use Rattle.sheet.specs.Limits.{most_strips, most_time, most_weight}
 use Rattle.sheet.specs.Sound.{MosaicSound}
 use Rattle.sheet.specs.declared.MosaicSection.{MosaicSection}
-use Rattle.rules.specs.Mosaic.{ready, bench_sum}
+use Rattle.rules.specs.Mosaic.{ready, bench_sum, no_batch}
 use Rattle.mosaic.specs.Least.{instance_of}
 use Rattle.mosaic.specs.Chosen.{chosen_batches}
 use Rattle.mosaic.specs.Plan.{batches_of, Planned}
@@ -83,7 +83,7 @@ module _ {m : MosaicSection} (S : MosaicSound m) (x : Strips) (R : ReadyTimes m 
   unfolding batches_of
   planned {p} T =
       let e = T.batches ∙ sym (chosen_is m ∙ chosen_same alike 0 0) in
-      let c : p.count ≡ length (chosen_batches m) = sym (length-take-le p.count p.batches T.within) ∙ ap length e in record {
+      let c : p.count ≡ length (chosen_batches m) = sym (listed_length p.count (λ k. get_or p.batches k no_batch)) ∙ ap length e in record {
         figure = T.figure ∙ sym (least_is m ∙ least_same alike 0 0);
         batches = e;
         count = c;

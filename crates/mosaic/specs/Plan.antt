@@ -1,5 +1,6 @@
 -- The plan that the program returns, and what it promises.
-use Rattle.std.specs.Prelude.{ℕ, ◌≤◌, ◌≡◌, List, [], ◌∷◌, length, get_or, take}
+use Rattle.std.specs.Prelude.{ℕ, ◌≤◌, ◌≡◌, List, [], ◌∷◌, length, get_or}
+use Rattle.base.specs.Listed.{listed}
 use Rattle.sheet.specs.Limits.{most_strips}
 use Rattle.sheet.specs.declared.MosaicSection.{MosaicSection}
 use Rattle.rules.specs.Mosaic.{no_batch}
@@ -15,7 +16,7 @@ lasts (b ∷ bs) = b.last ∷ lasts bs
 
 -- the batches of a plan: the first entries of its array
 unfoldable pub batches_of : MosaicPlan → List Batch
-batches_of p = take p.count p.batches
+batches_of p = listed p.count (λ k. get_or p.batches k no_batch)
 
 -- zeros after the batches
 abbrev pub NoMore : MosaicPlan → Type 0

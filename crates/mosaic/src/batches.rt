@@ -1,5 +1,6 @@
 // The batches taken, read out of the tables from the first strip on.
-ghost use Rattle.batching.specs.Tables.{LateFrom};
+ghost use Rattle.std.specs.Prelude.{◌≤◌, length};
+ghost use Rattle.batching.specs.Tables.{late_length, LateFrom};
 ghost use Rattle.mosaic.specs.Tables.{AddBatchPre, Added, BatchesTaken};
 
 use crate::MosaicPlan;
@@ -20,7 +21,7 @@ impl MosaicPlan {
 
 // The batches taken, each mounted as soon as the batch before has finished, and the sum of weighted completions.
 pub fn choose_batches(strips: &Strips<'_>, late: &[u64]) -> MosaicPlan
-    requires { LateFrom strips.now late.now 0 }
+    requires { (LateFrom strips.now late.now 0) × (late_length ≤ length late.now) }
     ensures { BatchesTaken strips.now result }
 {
     let none = Batch {

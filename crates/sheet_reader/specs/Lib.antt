@@ -1,3 +1,2 @@
--- The answer of a reading (Answer), and what its loop rests on (Loop); the definitions of what is read are those of crate sheet.
+-- The answer of a reading; the definitions of what is read are those of crate sheet.
 pub mod Answer
-pub mod Loop

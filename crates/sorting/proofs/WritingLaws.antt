@@ -7,7 +7,7 @@ use Rattle.std.proofs.Math.Nat.{div-div-eq-div-mul}
 use native.Mathlib.Omega.{arith}
 use Rattle.std.proofs.Math.ListN.{length-set}
 use Rattle.std.proofs.lemmas.List.{take_more_set}
-use Rattle.base.specs.Listed.{listed}
+use Rattle.base.specs.Listed.{listed, listed_taken}
 use Rattle.rules.specs.Sorting.{no_job}
 use Rattle.rules.specs.declared.Job.{Job}
 use Rattle.interleaving.specs.declared.State.{State}
@@ -192,7 +192,9 @@ unfolding jobs_of_plan jobs_of_list
 begun_end {J} {b} {p} {s} h l = record {
   exact = h.exact ∙ ap (written_to J) count;
   figure = h.figure;
-  jobs = h.listed ∙ ap (λ (n : ℕ). listed n (chosen_job J)) count ∙ ap (λ (x : Incumbent). jobs_of_list J x.path) (sym h.best);
+  jobs =
+      listed_taken p.count p.jobs no_job (omega (arith, h.sized, h.within, (consistent_start J h.jobs).fits.left))
+      ∙ h.listed ∙ ap (λ (n : ℕ). listed n (chosen_job J)) count ∙ ap (λ (x : Incumbent). jobs_of_list J x.path) (sym h.best);
   count = count;
 }
   where

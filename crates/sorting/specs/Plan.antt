@@ -1,7 +1,8 @@
 -- The least figure and the chosen jobs of a sorting section, by the search over interleavings without any cut (crate interleaving).
-use Rattle.std.specs.Prelude.{List, ◌++◌, ℕ, zero, suc, ◌+◌, ◌-◌, ◌/◌, ◌%◌, ◌^◌, max, get_or, take}
+use Rattle.std.specs.Prelude.{List, ◌++◌, ℕ, zero, suc, ◌+◌, ◌-◌, ◌/◌, ◌%◌, ◌^◌, max, get_or}
 use Rattle.base.specs.Listed.{listed}
 use Rattle.sheet.specs.declared.SortingSection.{SortingSection}
+use Rattle.rules.specs.Sorting.{no_job}
 use Rattle.rules.specs.declared.Job.{Job}
 use Rattle.interleaving.specs.declared.State.{State}
 use Rattle.interleaving.specs.Search.{scanned, step_of, start_state, first_best}
@@ -39,4 +40,4 @@ chosen_jobs s = jobs_of_list (instance_of s) (first_best (instance_of s)).path
 
 -- the jobs of a plan: the first entries of its array
 unfoldable pub jobs_of_plan : SortingPlan → List Job
-jobs_of_plan p = take p.count p.jobs
+jobs_of_plan p = listed p.count (λ k. get_or p.jobs k no_job)

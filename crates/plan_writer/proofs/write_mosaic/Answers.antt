@@ -1,5 +1,5 @@
 -- `plan_writer::write_mosaic` meets its contract: an absent section stores nothing, a present one its head and its batches.
-use Rattle.plan_writer.specs.SectionLaws.{mosaic_absent, mosaic_written}
+use Rattle.plan_writer.specs.SectionLaws.{mosaic_absent, mosaic_stored}
 use Rattle.std.proofs.Common.{arith, ◌≤◌, length}
 use Rattle.plan_writer.proofs.write_mosaic.Goals as goal
 
@@ -9,4 +9,4 @@ returns-then-strips-lt1 c = search mosaic_absent
 pub returns : goal.returns
 returns c =
     let within : c.args.p.count ≤ length c.args.p.batches = omega arith in
-    search mosaic_written
+    search mosaic_stored
