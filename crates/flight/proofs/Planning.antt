@@ -69,6 +69,7 @@ module _ (f : FlightSection) (w : ℕ) {rows₀ : List Constraint} {starts₀ : 
       passes =
           listed_taken f.blocks blocks no_passes (blocks_long blocks a)
           ∙ a.passes ∙ ap (λ (t : List ℕ). listed f.blocks (λ i. record { first = value t i; second = value t (f.blocks + i) })) least.starts;
+      within = blocks_long blocks a;
       no_more = a.no_more;
     }
 
@@ -124,6 +125,7 @@ plan_none f sound e = record {
   figure = sym (figure_none f (chosen_order f) sound proper (λ l. omega arith));
   order = zero_order;
   passes = rw e refl;
+  within = omega (arith, e);
   no_more = λ i l. none_at 32 i;
 }
   where

@@ -1,6 +1,6 @@
 -- The plan: its order, which is the given one or the one that the search takes, and the least starts in that order. Where no order is given and none is
 -- possible, which the longest delays tell, there is no search.
-use Rattle.std.specs.Prelude.{◌≡◌, Bool, true, false, ◌&&◌, List, ℕ, zero, suc, ◌+◌, ◌*◌, ◌^◌, ◌≤◌, leb, get_or}
+use Rattle.std.specs.Prelude.{◌≡◌, Bool, true, false, ◌&&◌, List, ℕ, zero, suc, ◌+◌, ◌*◌, ◌^◌, ◌≤◌, leb, length, get_or}
 use Rattle.base.specs.Listed.{listed}
 use Rattle.sheet.specs.declared.FlightSection.{FlightSection}
 use Rattle.rules.specs.Flight.{no_passes}
@@ -51,6 +51,7 @@ pub record PlanSays (f : FlightSection) (p : Bool) (v w : ℕ) (ps : List Passes
   pub figure : r.figure ≡ v
   pub order : r.order ≡ w
   pub passes : passes_of_plan f.blocks r ≡ ps
+  pub within : f.blocks ≤ length r.blocks
   pub no_more : (i : ℕ) → f.blocks ≤ i → get_or r.blocks i no_passes ≡ no_passes
 
 -- The plan in one order. Where the order is not possible, figure and passes are no timetable's.

@@ -55,15 +55,15 @@ least_starts_pre pre = record {
   starts_length = pre.room.starts_length;
 }
 
-module _ {f : FlightSection} {w : ℕ} {rows₀ : List Constraint} {starts₀ : List ℕ} (pre : TryOrderPre f w rows₀ starts₀)
+module _ {f : FlightSection} {w : ℕ} (times : BlockTimes f) (proper : Proper f.blocks w)
     {rows : List Constraint} {starts : List ℕ} {possible : Bool} (least : Least (flight_in f w) rows starts possible) where
   pub figure_fits : get_or starts (2 * f.blocks - 1) 0 + get_or f.second (f.blocks - 1) 0 < 2 ^ 64
   figure_fits =
       rw least.starts
       (omega (
         arith,
-        least_low (flight_in f w) (times_good pre.room.times pre.proper) (2 * f.blocks - 1),
-        pre.room.times.second_low (f.blocks - 1),
+        least_low (flight_in f w) (times_good times proper) (2 * f.blocks - 1),
+        times.second_low (f.blocks - 1),
       ))
 
   same_possible : (orders_of f).possible w ≡ possible
@@ -72,7 +72,7 @@ module _ {f : FlightSection} {w : ℕ} {rows₀ : List Constraint} {starts₀ : 
 
   same_figure : (orders_of f).figure w ≡ get_or starts (2 * f.blocks - 1) 0 + get_or f.second (f.blocks - 1) 0
   unfolding orders_of order_figure least_starts
-  same_figure = rw (ne_eqb f.blocks 0 (λ e. omega (arith, pre.room.times.some)), least.starts)
+  same_figure = rw (ne_eqb f.blocks 0 (λ e. omega (arith, times.some)), least.starts)
 
   pub try_impossible : (b : Option Incumbent) → not possible ≡ true → b ≡ tried (orders_of f) w b
   unfolding improves

@@ -88,5 +88,6 @@ module _ {m : MosaicSection} (S : MosaicSound m) (x : Strips) (R : ReadyTimes m 
         batches = e;
         count = c;
         few = omega (arith, c, mosaic_count m S, S.most_strips_holds);
+        within = T.within;
         no_more = T.no_more;
       }

@@ -28,4 +28,5 @@ pub record Planned (m : MosaicSection) (p : MosaicPlan) : Type 0 where
   pub batches : batches_of p ≡ chosen_batches m
   pub count : p.count ≡ length (chosen_batches m)
   pub few : p.count ≤ most_strips
+  pub within : p.count ≤ length p.batches
   pub no_more : NoMore p
