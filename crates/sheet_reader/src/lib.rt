@@ -20,7 +20,7 @@ fn read_fields(s: &[u8]) -> Result<Reading, Refused>
     let end = s.len();
     let mut reader = Reader::set_on(s);
     let mut reading = start();
-    while reading.at < end {
+    while reader.at < end {
         let Field::Whole(tag, length) = reader.next_field() else {
             return Err(Refused::new(Refusal::FieldCut, reading.at));
         };
