@@ -20,7 +20,7 @@ fn read_fields(s: &[u8]) -> Result<Reading, Refused>
     let end = s.len();
     let mut reader = Reader::set_on(s);
     let mut reading = start();
-    while reader.at < end {
+    while reading.at < end {
         let Field::Whole(tag, length) = reader.next_field() else {
             return Err(Refused::new(Refusal::FieldCut, reading.at));
         };

@@ -4,8 +4,8 @@ use Rattle.std.proofs.Common.{◌-◌, length}
 use Rattle.sheet_reader.proofs.Loop.{ReadingHolds}
 use Rattle.sheet_reader.proofs.read_fields.Given as goal
 
-abbrev pub invariant-loop-reader : goal.invariant-loop-reader
-invariant-loop-reader l = ReadingHolds l.s l.reader.sheet.now l.reader.at l.reading
+abbrev pub invariant-loop-reading : goal.invariant-loop-reading
+invariant-loop-reading l = ReadingHolds l.s l.reader.sheet.now l.reader.at l.reading
 
-abbrev pub decreases-loop-reader : goal.decreases-loop-reader
-decreases-loop-reader l = length l.s - l.reader.at
+abbrev pub decreases-loop-reading : goal.decreases-loop-reading
+decreases-loop-reading l = length l.s - l.reader.at
